@@ -1,0 +1,170 @@
+#!/usr/bin/env python3
+"""Counts the instructions that the built program spends on a request, by valgrind's callgrind.
+
+Each input sets 1,000 keys, and then has pairs of a REPLACE and a SELECT of one key. What the
+setting alone costs is taken off, and the rest is divided by the number of the pairs' requests. A
+server whose work on a request doesn't grow with the number of requests has a ratio near 1.
+"""
+
+import argparse
+import os
+import re
+import subprocess
+import sys
+import tempfile
+from pathlib import Path
+
+ROOT = Path(__file__).resolve().parent.parent
+PROGRAM = ROOT / "crates" / "mx_program" / "out" / "mx_program"
+SEED = "000102030405060708090a0b0c0d0e0f101112131415161718191a1b1c1d1e1f"
+SPACE = 512
+KEYS = 1000
+# Without a common factor with KEYS, so that steps of it come to every key.
+STEP = 389
+SIZES = (1_000, 10_000, 100_000)
+MOST_BYTES = 16_777_216
+SHAPES = {
+    "keys": "one unit, 1,000 keys",
+    "key": "one unit, one key",
+    "units": "a unit per pair",
+}
+
+
+def number(value):
+    """A number in its shortest MessagePack."""
+    if value < 0x80:
+        return bytes([value])
+    for mark, size in ((0xCC, 1), (0xCD, 2), (0xCE, 4)):
+        if value < 1 << 8 * size:
+            return bytes([mark]) + value.to_bytes(size, "big")
+    raise ValueError(value)
+
+
+def packet(kind, sync, body):
+    """A packet with its size before it."""
+    header = b"\x82\x00" + bytes([kind]) + b"\x01\xce" + sync.to_bytes(4, "big")
+    content = header + body
+    return b"\xce" + len(content).to_bytes(4, "big") + content
+
+
+def replace(sync, key, value):
+    """A REPLACE of [key, value]."""
+    tuple_ = b"\x92" + number(key) + number(value)
+    return packet(3, sync, b"\x82\x10" + number(SPACE) + b"\x21" + tuple_)
+
+
+def select(sync, key):
+    """A SELECT of the tuple with this key."""
+    limit_and_iterator = b"\x12\x0a\x14\x00"
+    body = b"\x84\x10" + number(SPACE) + limit_and_iterator + b"\x20\x91" + number(key)
+    return packet(1, sync, body)
+
+
+def unit(packets):
+    """A unit of input with these bytes."""
+    return b"\x00" + (1).to_bytes(4, "big") + len(packets).to_bytes(4, "big") + packets
+
+
+def units(pieces):
+    """As few units as hold the pieces, each of which is whole packets."""
+    made, held = [], bytearray()
+    for piece in pieces:
+        if len(held) + len(piece) > MOST_BYTES:
+            made.append(unit(held))
+            held = bytearray()
+        held += piece
+    if held:
+        made.append(unit(held))
+    return b"".join(made)
+
+
+def setting():
+    """The input that sets each key."""
+    return units(replace(key, key, 0) for key in range(KEYS))
+
+
+def pairs(shape, count):
+    """The bytes of each pair of requests."""
+    for at in range(count):
+        key = 0 if shape == "key" else at * STEP % KEYS
+        sync = KEYS + 2 * at
+        yield replace(sync, key, at) + select(sync + 1, key)
+
+
+def requests(shape, count):
+    """The input with this many pairs."""
+    asked = pairs(shape, count)
+    return setting() + (b"".join(map(unit, asked)) if shape == "units" else units(asked))
+
+
+def output_bytes(output):
+    """What the units of the output hold, one after another."""
+    at, held = 0, bytearray()
+    while at < len(output):
+        size = int.from_bytes(output[at + 4 : at + 8], "big")
+        held += output[at + 8 : at + 8 + size]
+        at += 8 + size
+    return bytes(held)
+
+
+def answers(output):
+    """How many replies with tuples the output has after the greeting."""
+    held, at, found = output_bytes(output), 128, 0
+    while at < len(held):
+        found += held[at + 5 : at + 12] == b"\x83\x00\xce\x00\x00\x00\x00"
+        at += 5 + int.from_bytes(held[at + 1 : at + 5], "big")
+    return found
+
+
+def instructions(given):
+    """How many instructions a run on this input takes, and how many replies it has."""
+    command = ["valgrind", "--tool=callgrind", "--callgrind-out-file=/dev/null"]
+    with tempfile.TemporaryFile() as file:
+        file.write(given)
+        file.seek(0)
+        ended = subprocess.run(
+            [*command, PROGRAM, "trace", "DIR"],
+            stdin=file,
+            capture_output=True,
+            env={**os.environ, "VURANDY_SEED": SEED},
+        )
+    told = ended.stderr.decode(errors="replace")
+    collected = re.search(r"Collected : (\d+)", told)
+    if ended.returncode != 0 or collected is None:
+        sys.exit(f"the run ended with status {ended.returncode}:\n{told}")
+    return int(collected.group(1)), answers(ended.stdout)
+
+
+def measure(shape, sizes, base):
+    """Prints a line for each size, and the ratio of the largest to the smallest."""
+    print(f"{SHAPES[shape]}:")
+    costs = []
+    for count in sorted(sizes):
+        total, answered = instructions(requests(shape, count))
+        costs.append((total - base) / (2 * count))
+        print(f"  {count:>7,} pairs: {costs[-1]:>12,.1f} instructions a request", flush=True)
+        if answered != KEYS + 2 * count:
+            print(f"    only {answered:,} of {KEYS + 2 * count:,} requests have a reply of tuples")
+    if len(costs) > 1 and costs[0] > 0:
+        print(f"  largest to smallest: {costs[-1] / costs[0]:.3f}")
+
+
+def main():
+    parser = argparse.ArgumentParser(description=__doc__.splitlines()[0])
+    parser.add_argument("--shape", choices=SHAPES, action="append", help="only this shape")
+    parser.add_argument("--sizes", type=int, nargs="+", default=SIZES, help="numbers of pairs")
+    options = parser.parse_args()
+    if any(count < 1 for count in options.sizes):
+        parser.error("a size is 1 at least")
+    # The script at the top builds the program where it is older than its sources.
+    built = subprocess.run([ROOT / "vurandy", "--version"], stdout=subprocess.DEVNULL)
+    if built.returncode != 0:
+        sys.exit("the program is not built")
+    base, _ = instructions(setting())
+    print(f"setting {KEYS:,} keys: {base:,} instructions")
+    for shape in options.shape or SHAPES:
+        measure(shape, options.sizes, base)
+
+
+if __name__ == "__main__":
+    main()

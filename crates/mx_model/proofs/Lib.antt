@@ -1,0 +1,4 @@
+pub mod StateLaws
+pub mod HistoryLaws
+pub mod NumberLaws
+pub mod SlowLaws

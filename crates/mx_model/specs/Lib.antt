@@ -1,0 +1,9 @@
+pub mod Refusals
+pub mod Keys
+pub mod State
+pub mod Requests
+pub mod Answers
+pub mod Histories
+pub mod ReplyStream
+pub mod Views
+pub mod Slow

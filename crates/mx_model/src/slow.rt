@@ -1,0 +1,127 @@
+//! The plain slow program: it keeps the journal's rows, and looks through them.
+
+ghost use Rattle.std.specs.Prelude.{◌≡◌, [], ◌++◌, length, IfOk, OnOk, OnErr, IsTrue, ◌↔◌};
+ghost use Rattle.std.specs.Option.{option_map, option_to_list};
+ghost use Rattle.mx_model.specs.State.{first_state};
+ghost use Rattle.mx_model.specs.Requests.{Select, Replace};
+ghost use Rattle.mx_model.specs.Answers.{answer_to, state_after_rows};
+ghost use Rattle.mx_model.specs.Views.{request_view, row_view, rows_view};
+ghost use Rattle.mx_model.specs.Slow.{HasKey, tuple_after};
+
+use crate::keys::key_of;
+use crate::refusal::Refusal;
+use crate::reply::Reply;
+use crate::request::Request;
+use crate::txn_name::TxnName;
+use mx_msgpack::{Bytes, Tuples};
+use std::alloc::{AllocError, Global};
+use std::marker::Model;
+
+/// The number of the one space there is.
+pub const TEST_SPACE: u32 = 512;
+
+/// A row as it stands in the journal.
+#[derive(Debug, Drop)]
+struct Stored {
+    space: u32,
+    tuple: Bytes,
+}
+
+impl Stored {
+    /// Whether the row is of the one space and its tuple has this key.
+    fn has_key(&self, key: u64) -> bool
+        ensures { IsTrue result ↔ HasKey key (row_view self.now) }
+    {
+        self.space == TEST_SPACE && key_of(self.tuple.as_slice()) == key
+    }
+}
+
+/// A database that is its journal, and answers by what the rows say together.
+#[derive(Debug, Drop)]
+pub struct Slow {
+    rows: Vec<Stored>,
+}
+
+impl Model for Slow {
+    ghost use Rattle.std.specs.Prelude.{List};
+    ghost use Rattle.mx_model.specs.Answers.{Row};
+    ghost use Rattle.mx_model.specs.Views.{rows_view};
+
+    ghost Value = { List Row };
+
+    ghost view = { λ s. rows_view s.rows.items };
+}
+
+impl Slow {
+    /// A new database.
+    pub fn new(alloc: Global) -> Slow
+        ensures { result ≡ [] }
+    {
+        Slow {
+            rows: Vec::new(alloc),
+        }
+    }
+
+    /// Answers a request, whoever asks.
+    ///
+    /// # Errors
+    /// Memory ran out. The rows are then as they were.
+    pub fn ask(&mut self, _name: TxnName, request: &Request<'_>) -> Result<Reply, AllocError>
+        ensures reply { IfOk result (λ reply. reply ≡ (answer_to (state_after_rows first_state self.old) (request_view request.now)).reply) }
+        ensures rows { OnOk result (self.new ≡ self.old ++ option_to_list (answer_to (state_after_rows first_state self.old) (request_view request.now)).row) }
+        ensures err { OnErr result (self.new ≡ self.old) }
+    {
+        match *request {
+            Request::Select { space, limit, key } => self.select(space, limit, key),
+            Request::Replace { space, tuple } => self.replace(space, tuple),
+        }
+    }
+
+    /// The tuple of a key, where the limit allows one.
+    fn select(&self, space: u32, limit: u32, key: &[u8]) -> Result<Reply, AllocError>
+        ensures { IfOk result (λ reply. reply ≡ (answer_to (state_after_rows first_state self.now) (Select space limit key.now)).reply) }
+    {
+        if space != TEST_SPACE {
+            return Ok(Reply::Refused(Refusal::SpaceMissing(space)));
+        }
+        let alloc = *self.rows.allocator();
+        let mut tuples = Tuples::new(alloc);
+        if limit > 0 {
+            if let Some(tuple) = newest(&self.rows, key_of(key)) {
+                tuples.push(Bytes::from_slice(alloc, tuple)?)?;
+            }
+        }
+        Ok(Reply::Tuples(tuples))
+    }
+
+    /// Adds a row that puts the tuple in the place of the one that has its key.
+    fn replace(&mut self, space: u32, tuple: &[u8]) -> Result<Reply, AllocError>
+        ensures reply { IfOk result (λ reply. reply ≡ (answer_to (state_after_rows first_state self.old) (Replace space tuple.now)).reply) }
+        ensures rows { OnOk result (self.new ≡ self.old ++ option_to_list (answer_to (state_after_rows first_state self.old) (Replace space tuple.now)).row) }
+        ensures err { OnErr result (self.new ≡ self.old) }
+    {
+        if space != TEST_SPACE {
+            return Ok(Reply::Refused(Refusal::SpaceMissing(space)));
+        }
+        let alloc = *self.rows.allocator();
+        let mut tuples = Tuples::new(alloc);
+        tuples.push(Bytes::from_slice(alloc, tuple)?)?;
+        let tuple = Bytes::from_slice(alloc, tuple)?;
+        self.rows.push(Stored { space, tuple })?;
+        Ok(Reply::Tuples(tuples))
+    }
+}
+
+/// The newest tuple of a key.
+fn newest(rows: &[Stored], key: u64) -> Option<&[u8]>
+    ensures { option_map (λ tuple. tuple.now) result ≡ tuple_after (rows_view rows.now) key }
+{
+    let mut rest = rows;
+    while let Some((last, earlier)) = rest.split_last() {
+        if last.has_key(key) {
+            return Some(last.tuple.as_slice());
+        }
+        rest = earlier;
+    }
+    None
+}

@@ -1,0 +1,186 @@
+-- The walk with a counter for each open container gives what reading from the left gives.
+use Rattle.std.proofs.Common.{◌≡◌, ℕ, zero, suc, ◌+◌, ◌-◌, ◌<◌, ◌≤◌, ◌≢◌, Bool, true, false, cond, ltb, List, [], ◌∷◌, length, get_or, set, drop, Option, Some, None, Result, Ok, Err, refl, sym, ap, ◌∙◌, arith, get_or-set_same, get_or-set_other, length-set}
+use Rattle.mx_msgpack.specs.declared.bad.Bad.{Bad}
+use Rattle.mx_msgpack.specs.declared.bad.Bad.TheVariants.{Short, Deep}
+use Rattle.mx_msgpack.specs.declared.head.Head.{Head}
+use Rattle.mx_msgpack.specs.declared.head.Head.TheVariants.{Int, Str, Array, Map}
+use Rattle.mx_msgpack.specs.Reading.{◌>>=◌, head_at, after_all, after_inside, after_content, after_value}
+use Rattle.mx_msgpack.specs.Steps.{step_behind, step_over}
+use Rattle.mx_msgpack.proofs.Results.{bind_Ok, bind_bind}
+use Rattle.mx_msgpack.proofs.Values.{inside_of, value_is}
+
+-- ---- a value is a step, and what stands inside
+
+-- the bytes after what stands inside, if anything does
+abbrev pub after_step : Option (List ℕ → Result (List ℕ) Bad) → ℕ → Option ℕ → List ℕ → Result (List ℕ) Bad
+after_step one at None rest = Ok rest
+after_step one at (Some count) rest = after_inside one at count rest
+
+abbrev text_step : Bool → List ℕ → Result (Option ℕ × List ℕ) Bad
+text_step b rest = cond b (Err Short) (Ok (None, rest))
+
+text_steps : (one : Option (List ℕ → Result (List ℕ) Bad)) (at : ℕ) (rest : List ℕ) (b : Bool)
+    → cond b (Err Short) (Ok rest) ≡ (text_step b rest >>= λ x. after_step one at x.0 x.1)
+text_steps one at rest true = refl
+text_steps one at rest false = refl
+
+content_steps : (one : Option (List ℕ → Result (List ℕ) Bad)) (at : ℕ) (head : Head) (rest : List ℕ)
+    → after_content one at head rest ≡ (step_behind head rest >>= λ x. after_step one at x.0 x.1)
+content_steps one at (Int number) rest = refl
+content_steps one at (Str size) rest = text_steps one at (drop size rest) (ltb (length rest) size)
+content_steps one at (Array count) rest = refl
+content_steps one at (Map count) rest = refl
+
+head_steps : (one : Option (List ℕ → Result (List ℕ) Bad)) (at : ℕ) (r : Result (Head × List ℕ) Bad)
+    → (r >>= λ head. after_content one at head.0 head.1) ≡ ((r >>= λ head. step_behind head.0 head.1) >>= λ x. after_step one at x.0 x.1)
+head_steps one at (Ok x) = content_steps one at x.0 x.1
+head_steps one at (Err bad) = refl
+
+value_steps : (total room : ℕ) (bytes : List ℕ)
+    → after_value total room bytes ≡ (step_over (total - length bytes) bytes >>= λ x. after_step (inside_of total room) (total - length bytes) x.0 x.1)
+value_steps total room bytes = value_is total room bytes ∙ head_steps (inside_of total room) (total - length bytes) (head_at (total - length bytes) bytes)
+
+-- ---- the stack
+
+-- the counters of this many open containers, the innermost first
+unfoldable pub counters : List ℕ → ℕ → List ℕ
+counters left zero = []
+counters left (suc depth) = get_or left depth 0 ∷ counters left depth
+
+-- the bytes after so many values in each open container, where the innermost has this much room inside
+unfoldable pub after_stack : ℕ → ℕ → List ℕ → List ℕ → Result (List ℕ) Bad
+after_stack total room [] bytes = Ok bytes
+after_stack total room (count ∷ others) bytes = after_all (after_value total room) count bytes >>= after_stack total (suc room) others
+
+counters-set : (left : List ℕ) (depth i v : ℕ) → depth ≤ i → counters (set left i v) depth ≡ counters left depth
+unfolding counters
+counters-set left zero i v le = refl
+counters-set left (suc depth) i v le =
+    let ne : depth ≢ i = omega arith in
+    rw (get_or-set_other, counters-set left depth i v (omega arith)) refl
+
+counters-at : (left : List ℕ) (depth v : ℕ) → depth < length left → counters (set left depth v) (suc depth) ≡ v ∷ counters left depth
+unfolding counters
+counters-at left depth v lt = rw (get_or-set_same, counters-set left depth depth v (omega arith)) refl
+
+pub stack_begins : (total room : ℕ) (left bytes : List ℕ) → get_or left 0 0 ≡ 1 → after_stack total room (counters left 1) bytes ≡ after_value total room bytes
+unfolding counters after_stack
+stack_begins total room left bytes e = rw e (bind_Ok (after_value total room bytes >>= λ x. Ok x) ∙ bind_Ok (after_value total room bytes))
+
+pub stack_ends : (total room : ℕ) (left bytes : List ℕ) → after_stack total room (counters left 0) bytes ≡ Ok bytes
+unfolding counters after_stack
+stack_ends total room left bytes = refl
+
+-- a container that is done
+pub stack_pops : (total room : ℕ) (left : List ℕ) (depth : ℕ) (bytes : List ℕ) → get_or left depth 0 ≡ 0
+    → after_stack total room (counters left (suc depth)) bytes ≡ after_stack total (suc room) (counters left depth) bytes
+unfolding counters after_stack
+stack_pops total room left depth bytes e = rw e refl
+
+-- one value of the innermost container
+one_value : (total room : ℕ) (left : List ℕ) (depth count : ℕ) (bytes : List ℕ) → get_or left depth 0 ≡ suc count
+    → after_stack total room (counters left (suc depth)) bytes ≡ (after_value total room bytes >>= after_stack total room (count ∷ counters left depth))
+unfolding counters after_stack
+one_value total room left depth count bytes e = rw e (bind_bind (after_value total room bytes) (after_all (after_value total room) count) (after_stack total (suc room) (counters left depth)))
+
+one_step : (total room : ℕ) (left : List ℕ) (depth count : ℕ) (bytes : List ℕ) (step : Result (Option ℕ × List ℕ) Bad) → get_or left depth 0 ≡ suc count
+    → step_over (total - length bytes) bytes ≡ step
+    → after_stack total room (counters left (suc depth)) bytes
+    ≡ ((step >>= λ x. after_step (inside_of total room) (total - length bytes) x.0 x.1) >>= after_stack total room (count ∷ counters left depth))
+one_step total room left depth count bytes step e s =
+    one_value total room left depth count bytes e
+    ∙ ap (λ (r : Result (List ℕ) Bad). r >>= after_stack total room (count ∷ counters left depth))
+    (value_steps total room bytes ∙ ap (λ (r : Result (Option ℕ × List ℕ) Bad). r >>= λ x. after_step (inside_of total room) (total - length bytes) x.0 x.1) s)
+
+pub stack_fails : (total room : ℕ) (left : List ℕ) (depth count : ℕ) (bytes : List ℕ) (bad : Bad) → get_or left depth 0 ≡ suc count
+    → step_over (total - length bytes) bytes ≡ Err bad
+    → after_stack total room (counters left (suc depth)) bytes ≡ Err bad
+stack_fails total room left depth count bytes bad e s = one_step total room left depth count bytes (Err bad) e s
+
+pub stack_steps : (total room : ℕ) (left : List ℕ) (depth count : ℕ) (bytes rest : List ℕ) → depth < length left → get_or left depth 0 ≡ suc count
+    → step_over (total - length bytes) bytes ≡ Ok (None, rest)
+    → after_stack total room (counters left (suc depth)) bytes ≡ after_stack total room (counters (set left depth count) (suc depth)) rest
+stack_steps total room left depth count bytes rest lt e s =
+    one_step total room left depth count bytes (Ok (None, rest)) e s
+    ∙ ap (λ (stack : List ℕ). after_stack total room stack rest) (sym (counters-at left depth count lt))
+
+pub stack_deep : (total : ℕ) (left : List ℕ) (depth count inside : ℕ) (bytes rest : List ℕ) → get_or left depth 0 ≡ suc count
+    → step_over (total - length bytes) bytes ≡ Ok (Some inside, rest)
+    → after_stack total 0 (counters left (suc depth)) bytes ≡ Err (Deep (total - length bytes))
+stack_deep total left depth count inside bytes rest e s = one_step total 0 left depth count bytes (Ok (Some inside, rest)) e s
+
+pub stack_pushes : (total room : ℕ) (left : List ℕ) (depth count inside : ℕ) (bytes rest : List ℕ) → suc depth < length left → get_or left depth 0 ≡ suc count
+    → step_over (total - length bytes) bytes ≡ Ok (Some inside, rest)
+    → after_stack total (suc room) (counters left (suc depth)) bytes
+    ≡ after_stack total room (counters (set (set left depth count) (suc depth) inside) (suc (suc depth))) rest
+unfolding after_stack
+stack_pushes total room left depth count inside bytes rest lt e s =
+    one_step total (suc room) left depth count bytes (Ok (Some inside, rest)) e s
+    ∙ ap (λ (stack : List ℕ). after_stack total room (inside ∷ stack) rest) (sym (counters-at left depth count (omega arith)))
+    ∙ ap (λ (stack : List ℕ). after_stack total room stack rest) (sym (counters-at (set left depth count) (suc depth) inside (omega (arith, length-set {A = ℕ}))))
+
+-- ---- the same, as the code counts
+
+module _ (total depth : ℕ) (left bytes : List ℕ) (below : 0 < depth) where
+  one_less : suc (depth - 1) ≡ depth
+  one_less = omega arith
+
+  opened : (room : ℕ) → after_stack total room (counters left depth) bytes ≡ after_stack total room (counters left (suc (depth - 1))) bytes
+  opened room = ap (λ (k : ℕ). after_stack total room (counters left k) bytes) (sym one_less)
+
+  pub walk_pops : depth ≤ 65 → get_or left (depth - 1) 0 ≡ 0
+      → after_stack total (65 - depth) (counters left depth) bytes ≡ after_stack total (65 - (depth - 1)) (counters left (depth - 1)) bytes
+  walk_pops most e =
+      let room : suc (65 - depth) ≡ 65 - (depth - 1) = omega arith in
+      opened (65 - depth) ∙ stack_pops total (65 - depth) left (depth - 1) bytes e
+      ∙ ap (λ (k : ℕ). after_stack total k (counters left (depth - 1)) bytes) room
+
+  module _ (some : get_or left (depth - 1) 0 ≡ 0 → ⊥) where
+    count_is : get_or left (depth - 1) 0 ≡ suc (get_or left (depth - 1) 0 - 1)
+    count_is = omega arith
+
+    pub walk_fails : (room : ℕ) (bad : Bad) → step_over (total - length bytes) bytes ≡ Err bad
+        → after_stack total room (counters left depth) bytes ≡ Err bad
+    walk_fails room bad s = opened room ∙ stack_fails total room left (depth - 1) (get_or left (depth - 1) 0 - 1) bytes bad count_is s
+
+    pub walk_steps : (room : ℕ) (rest : List ℕ) → depth ≤ length left → step_over (total - length bytes) bytes ≡ Ok (None, rest)
+        → after_stack total room (counters left depth) bytes
+        ≡ after_stack total room (counters (set left (depth - 1) (get_or left (depth - 1) 0 - 1)) depth) rest
+    walk_steps room rest most s =
+        opened room
+        ∙ stack_steps total room left (depth - 1) (get_or left (depth - 1) 0 - 1) bytes rest (omega arith) count_is s
+        ∙ ap (λ (k : ℕ). after_stack total room (counters (set left (depth - 1) (get_or left (depth - 1) 0 - 1)) k) rest) one_less
+
+    pub walk_deep : (inside : ℕ) (rest : List ℕ) → 65 ≤ depth → step_over (total - length bytes) bytes ≡ Ok (Some inside, rest)
+        → after_stack total (65 - depth) (counters left depth) bytes ≡ Err (Deep (total - length bytes))
+    walk_deep inside rest most s =
+        let room : 65 - depth ≡ 0 = omega arith in
+        rw room (opened 0 ∙ stack_deep total left (depth - 1) (get_or left (depth - 1) 0 - 1) inside bytes rest count_is s)
+
+    pub walk_pushes : (inside : ℕ) (rest : List ℕ) → depth < 65 → length left ≡ 65 → step_over (total - length bytes) bytes ≡ Ok (Some inside, rest)
+        → after_stack total (65 - depth) (counters left depth) bytes
+        ≡ after_stack total (65 - (depth + 1)) (counters (set (set left (depth - 1) (get_or left (depth - 1) 0 - 1)) depth inside) (depth + 1)) rest
+    walk_pushes inside rest most whole s =
+        let room : 65 - depth ≡ suc (65 - (depth + 1)) = omega arith in
+        let more : suc depth ≡ depth + 1 = omega arith in
+        opened (65 - depth)
+        ∙ ap (λ (k : ℕ). after_stack total k (counters left (suc (depth - 1))) bytes) room
+        ∙ stack_pushes total (65 - (depth + 1)) left (depth - 1) (get_or left (depth - 1) 0 - 1) inside bytes rest (omega arith) count_is s
+        ∙ ap (λ (k : ℕ). after_stack total (65 - (depth + 1)) (counters (set (set left (depth - 1) (get_or left (depth - 1) 0 - 1)) k inside) (suc k)) rest) one_less
+        ∙ ap (λ (k : ℕ). after_stack total (65 - (depth + 1)) (counters (set (set left (depth - 1) (get_or left (depth - 1) 0 - 1)) depth inside) k) rest) more
+
+-- ---- the first step
+
+pub first_step : (bytes : List ℕ) (step : Result (Option ℕ × List ℕ) Bad) → step_over 0 bytes ≡ step
+    → after_value (length bytes) 64 bytes ≡ (step >>= λ x. after_step (inside_of (length bytes) 64) 0 x.0 x.1)
+first_step bytes step e =
+    let at : length bytes - length bytes ≡ 0 = omega arith in
+    value_steps (length bytes) 64 bytes
+    ∙ ap (λ (k : ℕ). step_over k bytes >>= λ x. after_step (inside_of (length bytes) 64) k x.0 x.1) at
+    ∙ ap (λ (r : Result (Option ℕ × List ℕ) Bad). r >>= λ x. after_step (inside_of (length bytes) 64) 0 x.0 x.1) e
+
+pub first_fails : (bytes : List ℕ) (bad : Bad) → step_over 0 bytes ≡ Err bad → after_value (length bytes) 64 bytes ≡ Err bad
+first_fails bytes bad e = first_step bytes (Err bad) e
+
+pub first_ends : (bytes rest : List ℕ) → step_over 0 bytes ≡ Ok (None, rest) → after_value (length bytes) 64 bytes ≡ Ok rest
+first_ends bytes rest e = first_step bytes (Ok (None, rest)) e

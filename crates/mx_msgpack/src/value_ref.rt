@@ -1,0 +1,60 @@
+//! A value where it stands in its bytes.
+
+ghost use Rattle.std.specs.Prelude.{◌≡◌, ◌≤◌, take, length, IfOk};
+ghost use Rattle.mx_msgpack.specs.Grammar.{Value, Spells, most_nested};
+ghost use Rattle.mx_msgpack.specs.Reading.{Gives, reading_of, shown};
+ghost use Rattle.mx_msgpack.specs.View.{view, Shows};
+
+use crate::bad::Bad;
+use crate::head::{Head, head_at};
+use crate::skipping::skip;
+
+/// A value in place. A container is its count and the bytes of all that it holds.
+#[derive(Clone, Copy, Debug)]
+pub enum ValueRef<'a> {
+    /// A number from 0 up to `u64::MAX`.
+    Int(i128),
+    /// The bytes of a text, which need not be UTF-8.
+    Str(&'a [u8]),
+    /// `count` values.
+    Array { count: u32, items: &'a [u8] },
+    /// `count` pairs, each a key and then a value.
+    Map { count: u32, items: &'a [u8] },
+}
+
+/// Reads the value that stands first, and how many bytes it takes, its head included.
+/// Bytes may follow it.
+///
+/// # Errors
+/// The first fault from the left, where no value stands first.
+pub fn read_ref(bytes: &[u8]) -> Result<(ValueRef<'_>, usize), Bad>
+    ensures spelled { IfOk result (λ x. (x.1 ≤ length bytes.now) × (value : Value)
+        × Spells most_nested value (take x.1 bytes.now) × Shows (view x.0) value) }
+    ensures exact { Gives (λ x. (view x.0, x.1)) result (reading_of bytes.now) }
+{
+    let (head, rest) = head_at(0, bytes)?;
+    if let Head::Int(_) = head {
+        return Ok((value_of(head, rest), bytes.len() - rest.len()));
+    }
+    let size = skip(bytes)?;
+    let (content, _) = rest.split_at(size - (bytes.len() - rest.len()));
+    Ok((value_of(head, content), size))
+}
+
+/// The value of a head and of the bytes behind it.
+fn value_of(head: Head, content: &[u8]) -> ValueRef<'_>
+    ensures { view result ≡ shown head content.now }
+{
+    match head {
+        Head::Int(number) => ValueRef::Int(i128::from(number)),
+        Head::Str(_) => ValueRef::Str(content),
+        Head::Array(count) => ValueRef::Array {
+            count: u32::from(count),
+            items: content,
+        },
+        Head::Map(count) => ValueRef::Map {
+            count: u32::from(count),
+            items: content,
+        },
+    }
+}

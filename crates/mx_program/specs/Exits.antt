@@ -1,0 +1,12 @@
+-- The exit status of each status of a run.
+use Rattle.std.specs.Prelude.{ℕ}
+use Rattle.mx_top.specs.declared.status.Status.{Status}
+use Rattle.mx_top.specs.declared.status.Status.TheVariants.{Ok, BadInput, BadWords, ReadFault, WriteFault, NoMemory}
+
+abbrev pub number_of : Status → ℕ
+number_of Ok = 0
+number_of (BadInput _) = 1
+number_of BadWords = 2
+number_of ReadFault = 3
+number_of WriteFault = 4
+number_of NoMemory = 6

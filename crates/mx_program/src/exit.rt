@@ -1,0 +1,20 @@
+//! The exit status of each status of a run.
+
+ghost use Rattle.std.specs.Prelude.{◌≡◌};
+ghost use Rattle.mx_program.specs.Exits.{number_of};
+
+use mx_top::Status;
+
+/// The number that the process ends with.
+pub fn number(status: Status) -> u8
+    ensures { result ≡ number_of status }
+{
+    match status {
+        Status::Ok => 0,
+        Status::BadInput { .. } => 1,
+        Status::BadWords => 2,
+        Status::ReadFault => 3,
+        Status::WriteFault => 4,
+        Status::NoMemory => 6,
+    }
+}

@@ -1,0 +1,13 @@
+mod Options
+mod ReaderLaws
+mod PacketLaws
+mod JobLaws
+mod EngineLaws
+mod StepLaws
+mod UnitLaws
+mod OutputLaws
+mod ReplyLaws
+mod Waiting
+mod HeadLaws
+mod ProgressLaws
+mod Told

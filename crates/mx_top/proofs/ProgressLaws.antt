@@ -1,0 +1,259 @@
+-- How one unit more, or a cause that ends the run, changes how far the run has come.
+use Rattle.std.proofs.Common.{◌≡◌, ℕ, suc, ◌+◌, ◌-◌, ◌<◌, ◌≤◌, Bool, true, false, cond, List, [], ◌∷◌, ◌++◌, length, take, drop, Option, Some, None, refl, sym, ap, ◌∙◌, subst, arith, length-append}
+use Rattle.std.specs.Prelude.{is_some, IsSomeAnd}
+use Rattle.std.proofs.lemmas.List.{append-nil, append_assoc, drop-drop, length-drop, nil_from_length}
+use mathlib.Core.List.{IsPrefix}
+use Rattle.mx_model.specs.State.{first_state}
+use Rattle.mx_model.specs.Histories.{History, asks_in, history_from, HasMemory}
+use Rattle.mx_model.proofs.HistoryLaws.{history_of_asks}
+use Rattle.mx_top.specs.declared.server.Server.{Server}
+use Rattle.mx_top.specs.declared.status.Status.TheVariants as status
+use Rattle.mx_top.specs.Readers.{Reader, Advances, ◌>>=◌, bytes_at, all_from}
+use Rattle.mx_top.specs.Asks.{Job}
+use Rattle.mx_top.specs.Units.{InputUnit, Bytes, jobs_in, unit_head_at, content_at, unit_at, units_of, asks_of}
+use Rattle.mx_top.specs.TraceOutput.{trace_output}
+use Rattle.mx_top.specs.Serving.{Serves, Took}
+use Rattle.mx_top.specs.Runs.{place_before, fault_place, expected_output, IsTrace, BeginsTrace, PlaceSeen, OutputSeen}
+use Rattle.mx_top.specs.declared.stop.Stop.{Stop}
+use Rattle.mx_top.specs.declared.stop.Stop.TheVariants.{BadInput, ReadFault, WriteFault, NoMemory}
+use Rattle.mx_top.specs.Progress.{StopsAt, status_of_stop, after_units, ReadTo, Wrote, Ends, GoesOn}
+use Rattle.mx_top.proofs.Options.{bind_some, same_some}
+use Rattle.mx_top.proofs.ReaderLaws.{all_from_none, all_from_some}
+use Rattle.mx_top.proofs.PacketLaws.{bytes_at-shorter}
+use Rattle.mx_top.proofs.HeadLaws.{head_rest}
+
+content_at-shorter : (place : ℕ) (bytes : List ℕ) (found : List ℕ × List ℕ) → content_at place bytes ≡ Some found → length found.1 < length bytes
+unfolding content_at
+content_at-shorter place bytes found e =
+    let a = bind_some (unit_head_at place bytes) (λ size. bytes_at size.0 size.1) found e in
+    let p = head_rest place bytes a.0 a.1 in
+    let l = ap length p.0 ∙ length-drop 9 bytes in
+    let s = bytes_at-shorter a.0.0 a.0.1 found a.2 in
+    omega arith
+
+abbrev unit_of : List ℕ → List ℕ → List Job → Option (InputUnit × List ℕ)
+unit_of content rest jobs = Some (Bytes 1 content, rest)
+
+abbrev with_jobs : List ℕ × List ℕ → Option (InputUnit × List ℕ)
+with_jobs content = jobs_in content.0 >>= unit_of content.0 content.1
+
+unit_at-Advances : (total : ℕ) → Advances (unit_at total)
+unfolding unit_at
+unit_at-Advances total bytes found e =
+    let a = bind_some (content_at (total - length bytes) bytes) with_jobs found e in
+    let b = bind_some (jobs_in a.0.0) (unit_of a.0.0 a.0.1) found a.2 in
+    let same = same_some (Bytes 1 a.0.0, a.0.1) found b.2 in
+    let l = ap (λ (x : InputUnit × List ℕ). length x.1) same in
+    let s = content_at-shorter (total - length bytes) bytes a.0 a.1 in
+    omega arith
+
+-- a unit stands first where its bytes do and each packet has a job
+unit_some : (input rest content after : List ℕ) (place : ℕ) → place + length rest ≡ length input → content_at place rest ≡ Some (content, after) → is_some (jobs_in content) ≡ true
+    → unit_at (length input) rest ≡ Some (Bytes 1 content, after)
+unfolding unit_at
+unit_some input rest content after place at found each =
+    let here : length input - length rest ≡ place = omega arith in
+    ap (λ p. content_at p rest >>= with_jobs) here ∙ ap (λ o. o >>= with_jobs) found ∙ by_jobs (jobs_in content) each
+  where
+    by_jobs : (o : Option (List Job)) → is_some o ≡ true → (o >>= unit_of content after) ≡ Some (Bytes 1 content, after)
+    by_jobs None e = absurd cc
+    by_jobs (Some jobs) e = refl
+
+-- none stands first where its bytes don't
+unit_none : (input rest : List ℕ) (place : ℕ) → place + length rest ≡ length input → content_at place rest ≡ None → unit_at (length input) rest ≡ None
+unfolding unit_at
+unit_none input rest place at none =
+    let here : length input - length rest ≡ place = omega arith in
+    ap (λ p. content_at p rest >>= with_jobs) here ∙ ap (λ o. o >>= with_jobs) none
+
+-- nor where a packet has no job
+unit_jobless : (input rest content after : List ℕ) (place : ℕ) → place + length rest ≡ length input → content_at place rest ≡ Some (content, after) → is_some (jobs_in content) ≡ false
+    → unit_at (length input) rest ≡ None
+unfolding unit_at
+unit_jobless input rest content after place at found each =
+    let here : length input - length rest ≡ place = omega arith in
+    ap (λ p. content_at p rest >>= with_jobs) here ∙ ap (λ o. o >>= with_jobs) found ∙ by_jobs (jobs_in content) each
+  where
+    by_jobs : (o : Option (List Job)) → is_some o ≡ false → (o >>= unit_of content after) ≡ None
+    by_jobs None e = refl
+    by_jobs (Some jobs) e = absurd cc
+
+-- no unit stands first in what is left
+all_read : (input rest : List ℕ) (place : ℕ) (units : List InputUnit) → ReadTo input rest place units → unit_at (length input) rest ≡ None → units_of input ≡ (units, rest)
+all_read input rest place units read none =
+    read.all ∙ ap (after_units units) (all_from_none (unit_at (length input)) (unit_at-Advances (length input)) rest none)
+    ∙ ap (λ u. (u, rest)) (append-nil units)
+
+-- one unit stands first in what is left
+read_on : (input rest after : List ℕ) (place next : ℕ) (units : List InputUnit) (unit : InputUnit) → ReadTo input rest place units → unit_at (length input) rest ≡ Some (unit, after)
+    → next + length after ≡ place + length rest → ReadTo input after next (units ++ unit ∷ [])
+read_on input rest after place next units unit read found moved = record {
+  all = let others = all_from (unit_at (length input)) after in
+      read.all ∙ ap (after_units units) (all_from_some (unit_at (length input)) (unit_at-Advances (length input)) rest (unit, after) found)
+      ∙ ap (λ u. (u, others.1)) (sym (append_assoc units (unit ∷ []) others.0));
+  at = moved ∙ read.at;
+}
+
+-- the units so far begin those of the input
+begun_so_far : (input rest : List ℕ) (place : ℕ) (units : List InputUnit) → ReadTo input rest place units → IsPrefix units (units_of input).0
+begun_so_far input rest place units read = ((all_from (unit_at (length input)) rest).0, sym (ap (λ x. x.0) read.all))
+
+prefix_all : {X : Type 0} (xs : List X) → IsPrefix xs xs
+prefix_all xs = ([], append-nil xs)
+
+-- the whole output is there
+whole_trace : (seed input before rest : List ℕ) (server : Server) (units : List InputUnit) (old : Option (List ℕ)) → units_of input ≡ (units, rest) → Wrote seed server units before old
+    → IsSomeAnd old (IsTrace seed input before)
+whole_trace seed input before rest server units old all wrote =
+    let those : (units_of input).0 ≡ units = ap (λ x. x.0) all in
+    subst (λ o. IsSomeAnd o (IsTrace seed input before)) (sym wrote.written) (record {
+      history = wrote.history;
+      legal = wrote.serves.stands.legal;
+      asks = wrote.serves.asks ∙ sym (ap asks_of those);
+      output = ap (λ u. before ++ trace_output seed u wrote.history) (sym those);
+      determined = λ memory.
+          let told = history_of_asks first_state wrote.history wrote.serves.stands.legal memory ∙ ap (history_from first_state []) (wrote.serves.asks ∙ sym (ap asks_of those)) in
+          ap (λ h. before ++ trace_output seed units h) told
+          ∙ ap (λ u. before ++ trace_output seed u (history_from first_state [] (asks_of (units_of input).0))) (sym those);
+    })
+
+-- a front of the output is there: all that was written for these units, and a part of that for one more
+begun_trace : (seed input before written : List ℕ) (units : List InputUnit) (history : History) (server : Server) → Serves seed server units history → IsPrefix units (units_of input).0
+    → IsPrefix written (trace_output seed units history) → BeginsTrace seed input before (before ++ written)
+begun_trace seed input before written units history server serves begun part = record {
+  units = units;
+  begun = begun;
+  history = history;
+  legal = serves.stands.legal;
+  asks = subst (IsPrefix (asks_in history)) serves.asks (prefix_all (asks_in history));
+  written = written;
+  part = part;
+  output = refl;
+}
+
+so_far_trace : (seed input before : List ℕ) (server : Server) (units : List InputUnit) (old : Option (List ℕ)) → IsPrefix units (units_of input).0 → Wrote seed server units before old
+    → IsSomeAnd old (BeginsTrace seed input before)
+so_far_trace seed input before server units old begun wrote =
+    subst (λ o. IsSomeAnd o (BeginsTrace seed input before)) (sym wrote.written)
+    (begun_trace seed input before (trace_output seed units wrote.history) units wrote.history server wrote.serves begun (prefix_all (trace_output seed units wrote.history)))
+
+fault_at : (input rest : List ℕ) (place : ℕ) → 0 < length rest → place + length rest ≡ length input → place_before input rest ≡ Some place
+fault_at input [] place some at = absurd (omega arith)
+fault_at input (byte ∷ rest) place some at = let here : length input - length (byte ∷ rest) ≡ place = omega arith in ap (λ n. Some n) here
+
+unit_at-nil : (total : ℕ) → unit_at total [] ≡ None
+unfolding unit_at content_at unit_head_at
+unit_at-nil total = refl
+
+-- nothing is left
+pub ends_well : (input rest more : List ℕ) (place : ℕ) (server : Server) (units : List InputUnit) (old : Option (List ℕ)) (waiting : List ℕ)
+    → ReadTo input rest place units → rest ≡ waiting ++ more → waiting ++ more ≡ [] → Ends status.Ok input (Some more) server units old old
+ends_well input rest more place server units old waiting read same none =
+    let gone : rest ≡ [] = same ∙ none in
+    let all = all_read input rest place units read (ap (unit_at (length input)) gone ∙ unit_at-nil (length input)) ∙ ap (λ r. (units, r)) gone in
+    let long = ap length none in
+    let parts = length-append waiting more in
+    let empty : more ≡ [] = nil_from_length more (omega arith) in
+    record {
+      place = (ap (λ x. place_before input x.1) all, ap (λ m. Some m) empty);
+      output = λ seed before wrote. whole_trace seed input before [] server units old all wrote;
+    }
+
+-- what is left begins with no unit
+pub ends_malformed : (input rest : List ℕ) (left : Option (List ℕ)) (place : ℕ) (server : Server) (units : List InputUnit) (old : Option (List ℕ))
+    → ReadTo input rest place units → 0 < length rest → unit_at (length input) rest ≡ None → Ends (status.BadInput place) input left server units old old
+ends_malformed input rest left place server units old read some none =
+    let all = all_read input rest place units read none in
+    record {
+      place = ap (λ x. place_before input x.1) all ∙ fault_at input rest place some read.at;
+      output = λ seed before wrote. whole_trace seed input before rest server units old all wrote;
+    }
+
+pub ends_readfault : (input rest : List ℕ) (left : Option (List ℕ)) (place : ℕ) (server : Server) (units : List InputUnit) (old : Option (List ℕ))
+    → ReadTo input rest place units → Ends status.ReadFault input left server units old old
+ends_readfault input rest left place server units old read = record {
+  place = tt;
+  output = λ seed before wrote. so_far_trace seed input before server units old (begun_so_far input rest place units read) wrote;
+}
+
+pub ends_memoryless : (input rest : List ℕ) (left : Option (List ℕ)) (place : ℕ) (server : Server) (units : List InputUnit) (old : Option (List ℕ))
+    → ReadTo input rest place units → Ends status.NoMemory input left server units old old
+ends_memoryless input rest left place server units old read = record {
+  place = tt;
+  output = λ seed before wrote. so_far_trace seed input before server units old (begun_so_far input rest place units read) wrote;
+}
+
+-- reading the next unit stopped the run
+pub ends_stopped : (input rest waiting more : List ℕ) (place : ℕ) (server : Server) (units : List InputUnit) (old : Option (List ℕ)) (stop : Stop)
+    → ReadTo input rest place units → rest ≡ waiting ++ more → StopsAt place (waiting ++ more) stop → Ends (status_of_stop stop) input (Some more) server units old old
+ends_stopped input rest waiting more place server units old (BadInput at) read same (here, none, some) =
+    let long = ap length same in
+    let some' : 0 < length rest = omega arith in
+    let none' : unit_at (length input) rest ≡ None = unit_none input rest place read.at (ap (content_at place) same ∙ none) in
+    subst (λ p. Ends (status.BadInput p) input (Some more) server units old old) (sym here)
+    (ends_malformed input rest (Some more) place server units old read some' none')
+ends_stopped input rest waiting more place server units old ReadFault read same stops = ends_readfault input rest (Some more) place server units old read
+ends_stopped input rest waiting more place server units old WriteFault read same stops = absurd stops
+ends_stopped input rest waiting more place server units old NoMemory read same stops = ends_memoryless input rest (Some more) place server units old read
+
+-- a packet of the next unit has no job
+pub ends_jobless : (input rest waiting more content after : List ℕ) (place : ℕ) (server : Server) (units : List InputUnit) (old : Option (List ℕ))
+    → ReadTo input rest place units → rest ≡ waiting ++ more → content_at place (waiting ++ more) ≡ Some (content, after) → false ≡ is_some (jobs_in content)
+    → Ends (status.BadInput place) input (Some more) server units old old
+ends_jobless input rest waiting more content after place server units old read same found each =
+    let here = ap (content_at place) same ∙ found in
+    let shorter = content_at-shorter place rest (content, after) here in
+    let some : 0 < length rest = omega arith in
+    ends_malformed input rest (Some more) place server units old read some (unit_jobless input rest content after place read.at here (sym each))
+
+-- the next unit was answered, and its output was written in part
+pub ends_unwritten : (input rest waiting more content after out : List ℕ) (place : ℕ) (server served : Server) (units : List InputUnit) (old new : Option (List ℕ))
+    → ReadTo input rest place units → rest ≡ waiting ++ more → content_at place (waiting ++ more) ≡ Some (content, after) → true ≡ is_some (jobs_in content)
+    → ((seed : List ℕ) (history : History) → Serves seed server units history → Took seed served units history content out)
+    → ((before : List ℕ) → old ≡ Some before → (written : List ℕ) × (new ≡ Some (before ++ written)) × IsPrefix written out)
+    → Ends status.WriteFault input (Some more) server units old new
+ends_unwritten input rest waiting more content after out place server served units old new read same found each took part =
+    let unit = unit_some input rest content after place read.at (ap (content_at place) same ∙ found) (sym each) in
+    let shorter = content_at-shorter place rest (content, after) (ap (content_at place) same ∙ found) in
+    let on = read_on input rest after place (place + (length rest - length after)) units (Bytes 1 content) read unit (omega arith) in
+    record {
+      place = tt;
+      output = λ seed before wrote.
+          let step = took seed wrote.history wrote.serves in
+          let sent = trace_output seed units wrote.history in
+          let wrote_part = part (before ++ sent) wrote.written in
+          let front : IsPrefix (sent ++ wrote_part.0) (trace_output seed (units ++ Bytes 1 content ∷ []) step.history) =
+          (wrote_part.2.0, append_assoc sent wrote_part.0 wrote_part.2.0 ∙ ap (λ l. sent ++ l) wrote_part.2.1 ∙ sym step.grows) in
+          subst (λ o. IsSomeAnd o (BeginsTrace seed input before)) (sym (wrote_part.1 ∙ ap (λ l. Some l) (append_assoc before sent wrote_part.0)))
+          (begun_trace seed input before (sent ++ wrote_part.0) (units ++ Bytes 1 content ∷ []) step.history served step.serves
+          (begun_so_far input after (place + (length rest - length after)) (units ++ Bytes 1 content ∷ []) on) front);
+    }
+
+-- the next unit was answered, and all of its output was written
+pub goes_on : (input rest waiting more content after out : List ℕ) (place next : ℕ) (server served : Server) (units : List InputUnit) (old new : Option (List ℕ))
+    → ReadTo input rest place units → rest ≡ waiting ++ more → content_at place (waiting ++ more) ≡ Some (content, after) → true ≡ is_some (jobs_in content)
+    → next + length after ≡ place + length rest
+    → ((seed : List ℕ) (history : History) → Serves seed server units history → Took seed served units history content out)
+    → ((before : List ℕ) → old ≡ Some before → new ≡ Some (before ++ out))
+    → GoesOn input after next server served units old new
+goes_on input rest waiting more content after out place next server served units old new read same found each moved took all = record {
+  unit = Bytes 1 content;
+  read = read_on input rest after place next units (Bytes 1 content) read (unit_some input rest content after place read.at (ap (content_at place) same ∙ found) (sym each)) moved;
+  wrote = λ seed before wrote.
+      let step = took seed wrote.history wrote.serves in
+      record {
+        history = step.history;
+        serves = step.serves;
+        written = all (before ++ trace_output seed units wrote.history) wrote.written
+            ∙ ap (λ l. Some l) (append_assoc before (trace_output seed units wrote.history) out ∙ ap (λ l. before ++ l) (sym step.grows));
+      };
+}
+
+-- the place after a unit
+pub moves : (place size : ℕ) (rest waiting more after : List ℕ) → rest ≡ waiting ++ more → after ≡ drop (9 + size) waiting → 9 + size ≤ length waiting
+    → (place + (9 + size)) + length (after ++ more) ≡ place + length rest
+moves place size rest waiting more after same gone fits =
+    let a = ap length same ∙ length-append waiting more in
+    let b = length-append after more in
+    let d = ap length gone ∙ length-drop (9 + size) waiting in
+    omega arith

@@ -1,0 +1,43 @@
+use Rattle.std.proofs.Common.{◌≡◌, ◌+◌, ◌<◌, ◌≤◌, ℕ, List, length, ◌++◌, Some, None, refl, sym, ap, ◌∙◌, arith}
+use Rattle.std.proofs.lemmas.List.{length-append, append-nil}
+use Rattle.mx_top.specs.Units.{unit_head_at, content_at}
+use Rattle.mx_top.proofs.HeadLaws.{head_rest, content_whole, content_headless, content_short, is_enough, not_enough}
+use Rattle.mx_top.proofs.units.next_unit.Goals as goal
+
+pub returns-in_default-clause-told : goal.returns-in_default-clause-told
+returns-in_default-clause-told g c = λ left told.
+    let t = c.in_ok-fill.ensures.told left told in
+    let long = is_enough c.in_ok-fill.field-0 9 (length c.fill.new.self) c.if-not-branch.false c.in_ok-fill.ensures.enough.0 in
+    let headless : unit_head_at c.args.place c.fill.new.self ≡ None = ap (unit_head_at c.args.place) (sym c.as_slice.ensures) ∙ sym c.in_default.ensures in
+    let some : 0 < length (c.fill.new.self ++ t.0) = omega (arith, length-append c.fill.new.self t.0) in
+    (t.0, t.1, t.2, (refl, content_headless c.args.place c.fill.new.self t.0 long headless, some))
+
+pub returns-then-not-branch-2-clause-told : goal.returns-then-not-branch-2-clause-told
+returns-then-not-branch-2-clause-told g c = λ left told.
+    let t = c.in_ok-fill.ensures.told left told in
+    let u = c.in_ok-fill-2.ensures.told t.0 t.1 in
+    let head : unit_head_at c.args.place c.fill.new.self ≡ Some (c.in-Some.size, c.in-Some.field-0-1.now) = ap (unit_head_at c.args.place) (sym c.as_slice.ensures) ∙ sym c.in-Some.ensures in
+    let few = not_enough c.in_ok-fill-2.field-0 (9 + c.in-Some.size) (length c.fill-2.new.self) c.if-not-branch-2.true c.in_ok-fill-2.ensures.enough.1 in
+    let none = u.3 c.if-not-branch-2.true in
+    let long = length-append c.fill-2.new.self u.0 in
+    let nothing = ap length none in
+    let short : length (c.fill-2.new.self ++ u.0) < 9 + c.in-Some.size = omega arith in
+    let seen = head_rest c.args.place c.fill.new.self (c.in-Some.size, c.in-Some.field-0-1.now) head in
+    let same_long = ap length u.2 ∙ long in
+    let was_long = length-append c.fill.new.self t.0 in
+    let some : 0 < length (c.fill-2.new.self ++ u.0) = omega arith in
+    (u.0, u.1, t.2 ∙ u.2, (refl, content_short c.args.place c.in-Some.size c.fill.new.self t.0 (c.fill-2.new.self ++ u.0) c.in-Some.field-0-1.now head u.2 short, some))
+
+pub returns-clause-told : goal.returns-clause-told
+returns-clause-told g c = λ left told.
+    let t = c.in_ok-fill.ensures.told left told in
+    let u = c.in_ok-fill-2.ensures.told t.0 t.1 in
+    let head : unit_head_at c.args.place c.fill.new.self ≡ Some (c.in-Some.size, c.in-Some.field-0-1.now) = ap (unit_head_at c.args.place) (sym c.as_slice.ensures) ∙ sym c.in-Some.ensures in
+    let enough = is_enough c.in_ok-fill-2.field-0 (9 + c.in-Some.size) (length c.fill-2.new.self) c.if-not-branch-2.false c.in_ok-fill-2.ensures.enough.0 in
+    (u.0, u.1, t.2 ∙ u.2, content_whole c.args.place c.in-Some.size c.fill.new.self t.0 c.fill-2.new.self u.0 c.in-Some.field-0-1.now head u.2 enough)
+
+pub returns-clause-whole : goal.returns-clause-whole
+returns-clause-whole g c =
+    let head : unit_head_at c.args.place c.fill.new.self ≡ Some (c.in-Some.size, c.in-Some.field-0-1.now) = ap (unit_head_at c.args.place) (sym c.as_slice.ensures) ∙ sym c.in-Some.ensures in
+    let seen = head_rest c.args.place c.fill.new.self (c.in-Some.size, c.in-Some.field-0-1.now) head in
+    (is_enough c.in_ok-fill-2.field-0 (9 + c.in-Some.size) (length c.fill-2.new.self) c.if-not-branch-2.false c.in_ok-fill-2.ensures.enough.0, seen.2)

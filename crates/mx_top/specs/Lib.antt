@@ -1,0 +1,13 @@
+pub mod Readers
+pub mod Packets
+pub mod Asks
+pub mod Units
+pub mod Views
+pub mod Engines
+pub mod Serving
+pub mod Greeting
+pub mod TraceOutput
+pub mod Stops
+pub mod Words
+pub mod Runs
+pub mod Progress

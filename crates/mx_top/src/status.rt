@@ -1,0 +1,27 @@
+//! How a run ended.
+
+use thiserror::Error;
+
+/// The status of a run. Its name and the values that it carries are printed, and its number is the
+/// program's exit status.
+#[derive(Clone, Copy, Debug, Drop, PartialEq, Eq, Error)]
+pub enum Status {
+    /// The input was read to its end and answered.
+    #[error("Ok")]
+    Ok,
+    /// The first malformed unit of the input begins at byte `at`, counted from 0.
+    #[error("BadInput {at}")]
+    BadInput { at: u64 },
+    /// The words are no command.
+    #[error("BadWords")]
+    BadWords,
+    /// The input failed.
+    #[error("ReadFault")]
+    ReadFault,
+    /// The output failed.
+    #[error("WriteFault")]
+    WriteFault,
+    /// No memory was found.
+    #[error("NoMemory")]
+    NoMemory,
+}

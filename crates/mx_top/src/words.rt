@@ -1,0 +1,27 @@
+//! The words of a command line.
+
+ghost use Rattle.std.specs.Prelude.{◌≡◌, map};
+ghost use Rattle.std.specs.String.{string_bytes};
+ghost use Rattle.mx_top.specs.Words.{is_command, is_directory_word};
+
+/// Whether the words are `trace` and a directory.
+pub(crate) fn is_command(words: &[String]) -> bool
+    ensures { result ≡ is_command (map string_bytes words.now) }
+{
+    match words {
+        [command, directory] => {
+            command.as_str() == "trace" && is_directory_word(directory.as_str())
+        }
+        _ => false,
+    }
+}
+
+/// Whether a word may name a directory: it isn't empty and doesn't begin as an option does.
+fn is_directory_word(word: &str) -> bool
+    ensures { result ≡ is_directory_word word.now }
+{
+    match word.as_bytes() {
+        [] => false,
+        [first, ..] => *first != b'-',
+    }
+}
