@@ -1,6 +1,6 @@
 -- The engine and the state that it stands for.
-use Rattle.std.proofs.Common.{◌≡◌, ◌⊎◌, inl, inr, ℕ, zero, suc, ◌+◌, ◌<◌, pos, Bool, true, false, cond, List, [], ◌∷◌, ◌++◌, take, refl, sym, ap, ◌∙◌, subst, arith}
-use Rattle.std.specs.Prelude.{◌==◌, nat_eq, Option, Some, None, if◌then◌else◌}
+use Rattle.std.proofs.Common.{◌≡◌, ◌⊎◌, inl, inr, ℕ, zero, suc, ◌<◌, pos, false, cond, List, [], ◌∷◌, ◌++◌, take, refl, sym, ap, ◌∙◌, subst, arith}
+use Rattle.std.specs.Prelude.{◌==◌, Option, Some, None, if◌then◌else◌}
 use Rattle.std.specs.Option.{option_to_list}
 use Rattle.std.specs.Ordering.{nat_cmp}
 use Rattle.std.specs.BTreeMap as tree
@@ -18,7 +18,7 @@ use Rattle.mx_model.specs.Requests.{Ask, Asks, RefusedAsk, Select, Replace}
 use Rattle.mx_model.specs.Histories.{History, Asked, IsLegal, IsReply, state_of, is_want_of_memory}
 use Rattle.mx_model.specs.ReplyStream.{reply_packet}
 use Rattle.mx_model.proofs.HistoryLaws.{state_of-refused, state_of-no_memory, state_of-no_row, state_of-row}
-use Rattle.mx_model.specs.Answers.{Answer, Replaced, answer_to, in_space, selected, replaced, state_after_row}
+use Rattle.mx_model.specs.Answers.{Replaced, answer_to, in_space, selected, replaced, state_after_row}
 use Rattle.mx_model.proofs.StateLaws.{get-first_state, get-state_after_row, get-insert_number, state_after_row-absent}
 use Rattle.mx_top.specs.declared.engine.Engine.{Engine}
 use Rattle.mx_top.specs.Asks.{Job}

@@ -1,25 +1,31 @@
 -- The head of a unit, and the bytes that it announces.
-use Rattle.std.proofs.Common.{◌≡◌, ℕ, suc, ◌+◌, ◌-◌, ◌<◌, ◌≤◌, Bool, true, false, cond, List, [], ◌∷◌, ◌++◌, length, take, drop, Option, Some, None, refl, sym, ap, ◌∙◌, subst, arith, length-append}
+use Rattle.std.proofs.Common.{◌≡◌, ℕ, ◌+◌, ◌<◌, ◌≤◌, Bool, true, false, cond, List, [], ◌∷◌, ◌++◌, length, take, drop, Option, Some, None, refl, sym, ap, ◌∙◌, arith, length-append}
 use Rattle.std.proofs.Common.{nat_lt, nat_eq}
 use Rattle.std.specs.Option.{option_map}
 use Rattle.std.specs.Prelude.{◌==◌, ◌⊎◌, IsTrue, if◌then◌else◌}
 use Rattle.std.proofs.Common.{inl, inr}
 use Rattle.std.proofs.lemmas.Bool.{ltb-false, le-ltb, lt-ltb, cases_lt}
-use Rattle.std.proofs.lemmas.List.{take-append-le, drop-append-le, length-drop, drop-drop, nil_from_length, append-nil}
+use Rattle.std.proofs.lemmas.List.{take-append-le, drop-append-le, length-drop, drop-drop}
 use Rattle.byteorder.specs.Endian.{big_number}
-use Rattle.mx_top.specs.Readers.{Reader, Advances, ◌>>=◌, after_byte, number_at, bytes_at, all_from}
-use Rattle.mx_top.specs.Asks.{Job}
-use Rattle.mx_top.specs.Units.{InputUnit, Bytes, longest_unit, last_place, unit_head_at, content_at, unit_at, units_of, jobs_in}
+use Rattle.mx_top.specs.Readers.{◌>>=◌, after_byte, number_at, bytes_at}
+use Rattle.mx_top.specs.Units.{longest_unit, last_place, unit_head_at, content_at}
 use Rattle.mx_top.proofs.Options.{bind_some, passed, allowed, same_some}
-use Rattle.mx_top.proofs.PacketLaws.{first_byte, bytes_at-shorter}
+use Rattle.mx_top.proofs.PacketLaws.{first_byte}
 
 -- what a read found, and more bytes after it
 abbrev pub and_more : {X : Type 0} → List ℕ → Option (X × List ℕ) → Option (X × List ℕ)
 and_more more found = option_map (λ x. (x.0, x.1 ++ more)) found
 
--- how long a head is
+-- a size that passes neither the last place nor the longest unit
+abbrev in_place : ℕ → ℕ × List ℕ → Option (ℕ × List ℕ)
+in_place place size = if nat_lt last_place ((place + 9) + size.0) then None else Some size
+
+abbrev in_length : ℕ → ℕ × List ℕ → Option (ℕ × List ℕ)
+in_length place size = if nat_lt longest_unit size.0 then None else in_place place size
+
+-- the same on the one connection
 abbrev checked : ℕ → ℕ → ℕ × List ℕ → Option (ℕ × List ℕ)
-checked place connection size = if connection == 1 then (if nat_lt longest_unit size.0 then None else if nat_lt last_place ((place + 9) + size.0) then None else Some size) else None
+checked place connection size = if connection == 1 then in_length place size else None
 
 head_parts : (place : ℕ) (bytes : List ℕ) (found : ℕ × List ℕ) → unit_head_at place bytes ≡ Some found
     → (rest : List ℕ) × (connection : ℕ × List ℕ) × (after_byte 0 bytes ≡ Some rest) × (number_at 4 rest ≡ Some connection)
@@ -29,8 +35,8 @@ head_parts place bytes found e =
     let a = bind_some (after_byte 0 bytes) (λ rest. number_at 4 rest >>= λ connection. number_at 4 connection.1 >>= checked place connection.0) found e in
     let b = bind_some (number_at 4 a.0) (λ connection. number_at 4 connection.1 >>= checked place connection.0) found a.2 in
     let c = bind_some (number_at 4 b.0.1) (checked place b.0.0) found b.2 in
-    let d = allowed (b.0.0 == 1) _ found c.2 in
-    let f = passed (nat_lt longest_unit c.0.0) _ found d.1 in
+    let d = allowed (b.0.0 == 1) (in_length place c.0) found c.2 in
+    let f = passed (nat_lt longest_unit c.0.0) (in_place place c.0) found d.1 in
     let g = passed (nat_lt last_place ((place + 9) + c.0.0)) (Some c.0) found f.1 in
     let same = same_some c.0 found g.1 in
     (a.0, b.0, a.1, b.1, c.1 ∙ g.1, ap (λ (x : ℕ × List ℕ). nat_lt last_place ((place + 9) + x.0)) (sym same) ∙ g.0)

@@ -1,5 +1,5 @@
 -- Steps that may find nothing, and the steps after them.
-use Rattle.std.proofs.Common.{◌≡◌, Bool, true, false, cond, Option, Some, None, refl, ◌⊎◌, inl, inr}
+use Rattle.std.proofs.Common.{◌≡◌, Bool, true, false, cond, Option, Some, None, refl}
 use Rattle.std.specs.Prelude.{MatchBool}
 use Rattle.mx_top.specs.Readers.{◌>>=◌}
 

@@ -1,12 +1,12 @@
 -- The output for one unit more.
-use Rattle.std.proofs.Common.{◌≡◌, ℕ, suc, ◌+◌, ◌<◌, ◌≤◌, Bool, true, false, cond, List, [], ◌∷◌, ◌++◌, length, map, drop, refl, sym, ap, ◌∙◌, subst, arith, length-append}
-use Rattle.std.specs.Prelude.{◌==◌, nat_eq, if◌then◌else◌, Option, Some, None}
+use Rattle.std.proofs.Common.{◌≡◌, ℕ, ◌+◌, ◌≤◌, Bool, true, false, cond, List, [], ◌∷◌, ◌++◌, length, map, refl, sym, ap, ◌∙◌, subst, arith, length-append}
+use Rattle.std.specs.Prelude.{◌==◌, nat_eq, if◌then◌else◌, Some}
 use Rattle.byteorder.specs.Endian.{big_bytes}
 use Rattle.std.specs.List.{filter_map}
 use Rattle.std.proofs.lemmas.Bool.{eqb-true}
-use Rattle.std.proofs.lemmas.List.{append-nil, append_assoc, drop_at, length-map, map-append}
+use Rattle.std.proofs.lemmas.List.{append-nil, append_assoc, length-map, map-append}
 use Rattle.mx_model.specs.declared.reply.Reply.{Reply}
-use Rattle.mx_model.specs.Histories.{History, asks_in}
+use Rattle.mx_model.specs.Histories.{History}
 use Rattle.mx_model.specs.ReplyStream.{reply_packets}
 use Rattle.mx_top.specs.declared.server.Server.{Server}
 use Rattle.mx_top.specs.Readers.{all_from}
@@ -17,7 +17,7 @@ use Rattle.mx_top.specs.TraceOutput.{replies_on, sent_on, once_opened, output_un
 use Rattle.mx_top.specs.Greeting.{greeting_of}
 use Rattle.mx_top.specs.Serving.{AnswersAll, Serves, Took, is_opened}
 use Rattle.mx_top.proofs.StepLaws.{reply_packets-append, reply_packets-enough, where_one}
-use Rattle.mx_top.proofs.UnitLaws.{gained-append, jobs_parts, bytes_on-push, bytes_to, jobs_on-prefix, jobs_on-push, whole-append, asks_from-push, output_from-push}
+use Rattle.mx_top.proofs.UnitLaws.{gained-append, jobs_parts, bytes_on-push, jobs_on-prefix, jobs_on-push, whole-append, asks_from-push, output_from-push}
 
 abbrev sync_of : Job → ℕ
 sync_of job = job.sync

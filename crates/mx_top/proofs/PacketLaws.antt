@@ -1,15 +1,14 @@
 -- Packets, jobs and units advance, and packets stand whatever follows.
-use Rattle.std.proofs.Common.{◌≡◌, ℕ, ◌+◌, ◌-◌, ◌*◌, ◌<◌, ◌≤◌, Bool, true, false, cond, List, [], ◌∷◌, ◌++◌, length, map, take, drop, Option, Some, None, refl, sym, ap, ◌∙◌, subst, arith}
+use Rattle.std.proofs.Common.{◌≡◌, ℕ, ◌<◌, ◌≤◌, true, false, List, [], ◌∷◌, ◌++◌, length, take, drop, Some, None, refl, sym, ap, ◌∙◌, arith}
 use Rattle.std.proofs.Common.{nat_lt, nat_eq, if◌then◌else◌}
 use Rattle.byteorder.specs.Endian.{big_number}
-use Rattle.std.proofs.lemmas.Bool.{ltb-false, ltb-true, le-ltb}
+use Rattle.std.proofs.lemmas.Bool.{ltb-false, le-ltb}
 use Rattle.std.proofs.lemmas.List.{take-append-le, drop-append-le, length-drop, length-append}
-use Rattle.mx_top.specs.Readers.{Reader, Advances, IsStable, ◌>>=◌, after_byte, number_at, bytes_at}
+use Rattle.mx_top.specs.Readers.{Advances, IsStable, after_byte, number_at, bytes_at}
 use Rattle.mx_top.specs.Packets.{size_at, packet_at, longest_packet}
 use Rattle.mx_top.specs.Asks.{Job, job_in}
-use Rattle.mx_top.specs.Units.{InputUnit, next_job_at}
+use Rattle.mx_top.specs.Units.{next_job_at}
 use Rattle.mx_top.proofs.Options.{bind_some, passed, allowed, same_some}
-use Rattle.mx_top.proofs.ReaderLaws.{all_from_none}
 
 -- the byte is the first
 pub first_byte : (wanted : ℕ) (bytes rest : List ℕ) → after_byte wanted bytes ≡ Some rest → (first : ℕ) × (bytes ≡ first ∷ rest) × (nat_eq first wanted ≡ true)

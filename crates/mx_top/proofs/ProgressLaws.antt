@@ -1,19 +1,19 @@
 -- How one unit more, or a cause that ends the run, changes how far the run has come.
-use Rattle.std.proofs.Common.{◌≡◌, ℕ, suc, ◌+◌, ◌-◌, ◌<◌, ◌≤◌, Bool, true, false, cond, List, [], ◌∷◌, ◌++◌, length, take, drop, Option, Some, None, refl, sym, ap, ◌∙◌, subst, arith, length-append}
+use Rattle.std.proofs.Common.{◌≡◌, ℕ, ◌+◌, ◌-◌, ◌<◌, ◌≤◌, true, false, List, [], ◌∷◌, ◌++◌, length, drop, Option, Some, None, refl, sym, ap, ◌∙◌, subst, arith, length-append}
 use Rattle.std.specs.Prelude.{is_some, IsSomeAnd}
-use Rattle.std.proofs.lemmas.List.{append-nil, append_assoc, drop-drop, length-drop, nil_from_length}
+use Rattle.std.proofs.lemmas.List.{append-nil, append_assoc, length-drop, nil_from_length}
 use mathlib.Core.List.{IsPrefix}
 use Rattle.mx_model.specs.State.{first_state}
-use Rattle.mx_model.specs.Histories.{History, asks_in, history_from, HasMemory}
+use Rattle.mx_model.specs.Histories.{History, asks_in, history_from}
 use Rattle.mx_model.proofs.HistoryLaws.{history_of_asks}
 use Rattle.mx_top.specs.declared.server.Server.{Server}
 use Rattle.mx_top.specs.declared.status.Status.TheVariants as status
-use Rattle.mx_top.specs.Readers.{Reader, Advances, ◌>>=◌, bytes_at, all_from}
+use Rattle.mx_top.specs.Readers.{Advances, ◌>>=◌, bytes_at, all_from}
 use Rattle.mx_top.specs.Asks.{Job}
 use Rattle.mx_top.specs.Units.{InputUnit, Bytes, jobs_in, unit_head_at, content_at, unit_at, units_of, asks_of}
 use Rattle.mx_top.specs.TraceOutput.{trace_output}
 use Rattle.mx_top.specs.Serving.{Serves, Took}
-use Rattle.mx_top.specs.Runs.{place_before, fault_place, expected_output, IsTrace, BeginsTrace, PlaceSeen, OutputSeen}
+use Rattle.mx_top.specs.Runs.{place_before, IsTrace, BeginsTrace}
 use Rattle.mx_top.specs.declared.stop.Stop.{Stop}
 use Rattle.mx_top.specs.declared.stop.Stop.TheVariants.{BadInput, ReadFault, WriteFault, NoMemory}
 use Rattle.mx_top.specs.Progress.{StopsAt, status_of_stop, after_units, ReadTo, Wrote, Ends, GoesOn}

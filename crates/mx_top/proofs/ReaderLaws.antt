@@ -1,5 +1,5 @@
 -- As many in a row as there are: how a first one, nothing, and more bytes change the list.
-use Rattle.std.proofs.Common.{◌≡◌, ℕ, zero, suc, ◌+◌, ◌<◌, ◌≤◌, List, [], ◌∷◌, ◌++◌, length, Option, Some, None, refl, sym, ap, ◌∙◌, arith, length-append}
+use Rattle.std.proofs.Common.{◌≡◌, ℕ, zero, suc, ◌≤◌, List, [], ◌++◌, length, Option, Some, None, refl, sym, ap, ◌∙◌, arith}
 use Rattle.mx_top.specs.Readers.{Reader, Advances, IsStable, in_front, first_and_others, some_from, all_from}
 
 module _ {X : Type 0} (read : Reader X) (advances : Advances read) where

@@ -1,13 +1,13 @@
 -- One step more of the engine, and what it adds to a history and to the output.
-use Rattle.std.proofs.Common.{◌≡◌, ℕ, suc, ◌+◌, ◌<◌, ◌≤◌, Bool, true, false, cond, List, [], ◌∷◌, ◌++◌, length, map, take, drop, get_or, refl, sym, ap, ◌∙◌, subst, arith, length-append}
+use Rattle.std.proofs.Common.{◌≡◌, ℕ, ◌+◌, ◌<◌, ◌≤◌, Bool, true, false, cond, List, [], ◌∷◌, ◌++◌, length, map, take, get_or, refl, sym, ap, ◌∙◌, subst, arith, length-append}
 use Rattle.std.specs.Prelude.{◌==◌, if◌then◌else◌}
-use Rattle.std.proofs.lemmas.List.{append-nil, append_assoc, map_push, drop_at, length-map, take_more}
+use Rattle.std.proofs.lemmas.List.{append-nil, append_assoc, map_push, length-map, take_more}
 use Rattle.mx_model.specs.declared.reply.Reply.{Reply}
 use Rattle.mx_model.specs.Histories.{History, asks_in}
 use Rattle.mx_model.specs.ReplyStream.{reply_packet, reply_packets}
 use Rattle.mx_top.specs.declared.engine.Engine.{Engine}
 use Rattle.mx_top.specs.Asks.{Job}
-use Rattle.mx_top.specs.Units.{named, gained}
+use Rattle.mx_top.specs.Units.{named}
 use Rattle.mx_top.specs.TraceOutput.{replies_on, schema_version}
 use Rattle.mx_top.specs.Engines.{StandsFor, Answers, step_of}
 use Rattle.mx_top.specs.declared.jobs.Job as coded

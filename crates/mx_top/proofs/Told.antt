@@ -1,11 +1,10 @@
 -- How far a run has come, where the input tells what it has left.
-use Rattle.std.proofs.Common.{◌≡◌, ℕ, ◌+◌, ◌≤◌, List, [], ◌++◌, length, Some, refl, sym, ap, ◌∙◌, subst, arith, ◌∷◌}
+use Rattle.std.proofs.Common.{◌≡◌, ℕ, List, [], ◌++◌, Some, refl, sym, ap, ◌∙◌, subst, arith, ◌∷◌}
 use Rattle.std.specs.Prelude.{◌⊎◌, Option, Result, Ok, Err, IsSomeAnd}
 use Rattle.std.proofs.Common.{inl, inr}
 use Rattle.std.proofs.lemmas.List.{append-nil}
-use mathlib.Core.List.{IsPrefix}
 use Rattle.mx_top.specs.declared.server.Server.{Server}
-use Rattle.mx_top.specs.Units.{InputUnit, units_of, unit_at}
+use Rattle.mx_top.specs.Units.{InputUnit, units_of}
 use Rattle.mx_top.specs.Serving.{Serves}
 use Rattle.mx_top.specs.declared.status.Status.TheVariants as status
 use Rattle.mx_top.specs.declared.stop.Stop.{Stop}

@@ -1,24 +1,18 @@
 -- What one unit more adds: bytes, jobs, asks and output.
-use Rattle.std.proofs.Common.{◌≡◌, ℕ, suc, ◌+◌, ◌<◌, ◌≤◌, Bool, true, false, cond, List, [], ◌∷◌, ◌++◌, length, map, drop, refl, sym, ap, ◌∙◌, subst, arith, length-append}
-use Rattle.std.specs.Prelude.{◌==◌, if◌then◌else◌, Option, Some, None}
+use Rattle.std.proofs.Common.{◌≡◌, ℕ, List, [], ◌∷◌, ◌++◌, length, map, refl, sym, ap, ◌∙◌}
+use Rattle.std.specs.Prelude.{◌==◌, if◌then◌else◌, Some}
 use Rattle.std.specs.List.{filter_map}
 use Rattle.std.proofs.lemmas.List.Elements.{filter_map-append}
-use Rattle.std.proofs.lemmas.List.{append-nil, append_assoc, drop_at, length-map}
-use Rattle.mx_model.specs.declared.txn_name.TxnName.{TxnName}
-use Rattle.mx_model.specs.declared.reply.Reply.{Reply}
-use Rattle.mx_model.specs.Requests.{Ask}
+use Rattle.std.proofs.lemmas.List.{append-nil, append_assoc, drop_at}
 use Rattle.mx_model.specs.Histories.{History}
-use Rattle.mx_model.specs.ReplyStream.{reply_packets}
 use Rattle.mx_top.specs.Readers.{◌>>=◌, all_from}
 use Rattle.mx_top.specs.Packets.{packet_at, packets_of}
 use Rattle.mx_top.specs.Asks.{Job, job_in}
-use Rattle.mx_top.specs.Units.{InputUnit, Bytes, with_job, jobs_for, only_whole, jobs_in, bytes_on, jobs_on, named, gained, asks_from, asks_of}
-use Rattle.mx_top.specs.TraceOutput.{replies_on, sent_on, once_opened, output_unit, output_from, schema_version}
-use Rattle.mx_top.specs.Greeting.{greeting_of}
+use Rattle.mx_top.specs.Units.{InputUnit, Bytes, jobs_for, only_whole, jobs_in, bytes_on, jobs_on, named, gained, asks_from}
+use Rattle.mx_top.specs.TraceOutput.{sent_on, output_unit, output_from}
 use Rattle.mx_top.proofs.Options.{bind_some, same_some}
-use Rattle.mx_top.proofs.ReaderLaws.{and_then, all_from-append}
+use Rattle.mx_top.proofs.ReaderLaws.{all_from-append}
 use Rattle.mx_top.proofs.PacketLaws.{packet_at-Advances, packet_at-IsStable}
-use Rattle.mx_top.proofs.StepLaws.{reply_packets-enough}
 
 pub gained-append : {X : Type 0} (xs ys : List X) → gained xs (xs ++ ys) ≡ ys
 gained-append xs ys = drop_at xs ys (length xs) refl

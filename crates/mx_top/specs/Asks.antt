@@ -1,5 +1,5 @@
 -- What a packet asks: its header and its body (IPROTO, "Request structure").
-use Rattle.std.specs.Prelude.{ℕ, ◌-◌, ◌^◌, ℤ, pos, negsuc, List, [], ◌∷◌, length, drop, Option, Some, None, Result, Ok, Err, nat_lt, ◌==◌, if◌then◌else◌}
+use Rattle.std.specs.Prelude.{ℕ, ◌^◌, pos, negsuc, List, length, drop, Option, Some, None, Result, Ok, Err, nat_lt, ◌==◌, if◌then◌else◌}
 use Rattle.mx_msgpack.specs.declared.bad.Bad.{Bad}
 use Rattle.mx_msgpack.specs.Reading.{Shown, ShownInt, ShownStr, ShownArray, ShownMap, reading_of, measured}
 use Rattle.mx_model.specs.declared.refusal.Refusal.TheVariants.{UnknownRequestType}

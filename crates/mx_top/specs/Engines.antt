@@ -8,8 +8,8 @@ use Rattle.mx_model.specs.declared.reply.Reply.{Reply}
 use Rattle.mx_model.specs.declared.reply.Reply.TheVariants.{Refused}
 use Rattle.mx_model.specs.Keys.{Integer}
 use Rattle.mx_model.specs.State.{State, Tuples, test_space, first_state}
-use Rattle.mx_model.specs.Requests.{Request, Replace}
-use Rattle.mx_model.specs.Answers.{Answer, Row, Replaced, answer_to, state_after_row}
+use Rattle.mx_model.specs.Requests.{Replace}
+use Rattle.mx_model.specs.Answers.{Replaced, answer_to, state_after_row}
 use Rattle.mx_model.specs.Histories.{History, Entry, Asked, IsLegal, state_of}
 use Rattle.mx_model.specs.ReplyStream.{reply_packet}
 use Rattle.mx_top.specs.declared.engine.Engine.{Engine}

@@ -1,5 +1,5 @@
 -- The packets of a connection (IPROTO, "Request structure"): a size and that many bytes.
-use Rattle.std.specs.Prelude.{ℕ, List, Option, Some, None, nat_lt, if◌then◌else◌}
+use Rattle.std.specs.Prelude.{ℕ, List, Some, None, nat_lt, if◌then◌else◌}
 use Rattle.mx_top.specs.Readers.{Reader, ◌>>=◌, all_from, number_at, after_byte, bytes_at}
 
 -- the longest packet, without its size

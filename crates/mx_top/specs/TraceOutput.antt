@@ -2,10 +2,8 @@
 use Rattle.std.specs.Prelude.{ℕ, List, [], ◌∷◌, ◌++◌, length, map, ◌==◌, if◌then◌else◌}
 use Rattle.byteorder.specs.Endian.{big_bytes}
 use Rattle.mx_model.specs.declared.reply.Reply.{Reply}
-use Rattle.mx_model.specs.declared.txn_name.TxnName.{TxnName}
 use Rattle.mx_model.specs.Histories.{History, Entry, Asked}
 use Rattle.mx_model.specs.ReplyStream.{reply_packets}
-use Rattle.mx_top.specs.Asks.{Job}
 use Rattle.mx_top.specs.Units.{InputUnit, Bytes, bytes_on, jobs_on, gained}
 use Rattle.mx_top.specs.Greeting.{greeting_of}
 

@@ -1,4 +1,4 @@
-use Rattle.std.proofs.Common.{◌≡◌, map, take}
+use Rattle.std.proofs.Common.{map, take}
 use Rattle.mx_model.specs.Histories.{History}
 use Rattle.mx_top.specs.Views.{job_view}
 use Rattle.mx_top.specs.Engines.{StandsFor}

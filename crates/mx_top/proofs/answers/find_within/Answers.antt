@@ -1,5 +1,5 @@
-use Rattle.std.proofs.Common.{◌≡◌, ◌<◌, ℕ, List, take, sym, ap, ◌∙◌, arith}
-use Rattle.std.specs.Option.{option_to_list, option_copied}
+use Rattle.std.proofs.Common.{◌≡◌, ◌<◌, take, sym, ap, ◌∙◌, arith}
+use Rattle.std.specs.Option.{option_to_list}
 use Rattle.mx_top.specs.Engines.{stored}
 use Rattle.mx_top.proofs.EngineLaws.{take_one, same_key}
 use Rattle.mx_top.proofs.answers.find_within.Goals as goal

@@ -1,5 +1,4 @@
-use Rattle.std.proofs.Common.{◌≡◌, ℕ, List, ◌++◌, refl, sym, ap, ◌∙◌}
-use Rattle.std.specs.Option.{option_to_list, option_copied}
+use Rattle.std.proofs.Common.{◌++◌, refl, sym, ap, ◌∙◌}
 use Rattle.std.proofs.lemmas.Result.{on_ok_weaker}
 use Rattle.mx_model.specs.declared.reply.Reply.TheVariants.{Tuples}
 use Rattle.mx_model.specs.Keys.{unsigned_in, items_in}

@@ -1,4 +1,4 @@
-use Rattle.std.proofs.Common.{◌≡◌, map, ℕ, length}
+use Rattle.std.proofs.Common.{◌≡◌, map, length}
 use Rattle.mx_top.specs.Units.{jobs_in}
 use Rattle.mx_top.specs.Views.{job_view}
 use Rattle.mx_top.proofs.JobLaws.{with_front}

@@ -1,4 +1,3 @@
-use Rattle.std.proofs.Common.{◌≡◌, sym, ap, ◌∙◌, subst}
 use Rattle.mx_top.proofs.Told.{completes}
 use Rattle.mx_top.proofs.top_call.run.Goals as goal
 

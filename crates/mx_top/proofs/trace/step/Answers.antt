@@ -1,10 +1,8 @@
-use Rattle.std.proofs.Common.{◌≡◌, ◌+◌, ◌≤◌, ℕ, List, length, ◌++◌, take, drop, Some, None, refl, sym, ap, ◌∙◌, subst, arith}
-use Rattle.std.proofs.lemmas.List.{drop-drop, length-append, length-drop}
+use Rattle.std.proofs.Common.{◌≡◌, ◌+◌, ℕ, List, length, ◌++◌, take, drop, Some, sym, ap, ◌∙◌, subst}
+use Rattle.std.proofs.lemmas.List.{drop-drop}
 use Rattle.std.proofs.lemmas.Result.{err_from_is_err_and}
 use mathlib.Core.List.{IsPrefix}
-use Rattle.mx_top.specs.Units.{content_at, jobs_in}
-use Rattle.mx_top.specs.Progress.{GoesOn}
-use Rattle.mx_top.specs.Serving.{Took}
+use Rattle.mx_top.specs.Units.{content_at}
 use Rattle.mx_top.proofs.Options.{when_true}
 use Rattle.mx_top.proofs.ProgressLaws.{ends_well, ends_stopped, ends_jobless, ends_unwritten, goes_on, moves}
 use Rattle.mx_top.proofs.trace.step.Goals as goal

@@ -1,6 +1,6 @@
-use Rattle.std.proofs.Common.{◌≡◌, ◌+◌, ◌<◌, ◌≤◌, ℕ, List, length, ◌++◌, Some, None, refl, sym, ap, ◌∙◌, arith}
-use Rattle.std.proofs.lemmas.List.{length-append, append-nil}
-use Rattle.mx_top.specs.Units.{unit_head_at, content_at}
+use Rattle.std.proofs.Common.{◌≡◌, ◌+◌, ◌<◌, length, ◌++◌, Some, None, refl, sym, ap, ◌∙◌, arith}
+use Rattle.std.proofs.lemmas.List.{length-append}
+use Rattle.mx_top.specs.Units.{unit_head_at}
 use Rattle.mx_top.proofs.HeadLaws.{head_rest, content_whole, content_headless, content_short, is_enough, not_enough}
 use Rattle.mx_top.proofs.units.next_unit.Goals as goal
 

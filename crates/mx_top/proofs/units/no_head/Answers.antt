@@ -1,4 +1,4 @@
-use Rattle.std.proofs.Common.{ℕ, ◌<◌, length, refl, arith}
+use Rattle.std.proofs.Common.{◌<◌, length, refl, arith}
 use Rattle.mx_top.proofs.HeadLaws.{content_none}
 use Rattle.mx_top.proofs.units.no_head.Goals as goal
 

@@ -1,6 +1,5 @@
-use Rattle.std.proofs.Common.{◌≡◌, ℕ, List, map, Some, sym, ap, ◌∙◌, subst}
+use Rattle.std.proofs.Common.{map, Some, sym, ap, ◌∙◌, subst}
 use Rattle.mx_top.specs.Engines.{StandsFor}
-use Rattle.mx_top.specs.Serving.{AnswersAll}
 use Rattle.mx_top.specs.Views.{job_view}
 use Rattle.mx_top.proofs.OutputLaws.{took_empty, took_answered}
 use Rattle.mx_top.proofs.server.Server.take.Goals as goal

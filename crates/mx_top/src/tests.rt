@@ -1,0 +1,354 @@
+use super::*;
+use mx_outside::{MemoryDir, MemorySink, MemorySource, Names};
+use std::alloc::{AllocError, Global};
+use std::test::Fail;
+
+const SEED: [u8; 32] = [
+    0x00, 0x01, 0x02, 0x03, 0x04, 0x05, 0x06, 0x07, 0x08, 0x09, 0x0a, 0x0b, 0x0c, 0x0d, 0x0e, 0x0f,
+    0x10, 0x11, 0x12, 0x13, 0x14, 0x15, 0x16, 0x17, 0x18, 0x19, 0x1a, 0x1b, 0x1c, 0x1d, 0x1e, 0x1f,
+];
+
+const GREETING: &[u8] = b"\
+Tarantool 2.11.0 (Binary) 00010203-0405-4607-8809-0a0b0c0d0e0f \n\
+AAECAwQFBgcICQoLDA0ODxAREhMUFRYXGBkaGxwdHh8=                   \n";
+
+/// REPLACE of [1, "a"] into space 512, with sync 1.
+const REPLACE: &[u8] =
+    b"\xce\x00\x00\x00\x0f\x82\x00\x03\x01\x01\x82\x10\xcd\x02\x00\x21\x92\x01\xa1a";
+
+/// SELECT of key [1] in space 512 by a limit of 10, with sync 2.
+const SELECT: &[u8] =
+    b"\xce\x00\x00\x00\x11\x82\x00\x01\x01\x02\x84\x10\xcd\x02\x00\x12\x0a\x14\x00\x20\x91\x01";
+
+/// What a run came to.
+#[derive(Drop)]
+struct Ran {
+    status: Status,
+    output: Vec<u8>,
+}
+
+/// A run on these words and this input, some of whose calls on source and sink are to fail.
+fn run_on(
+    alloc: Global,
+    words: &[&str],
+    input: &[u8],
+    failing_reads: &[u64],
+    failing_writes: &[u64],
+) -> Result<Ran, AllocError> {
+    let mut names = Names::new(alloc);
+    for word in words {
+        names.push(String::from_str(alloc, word)?)?;
+    }
+    let mut dirs: Vec<MemoryDir> = Vec::new(alloc);
+    let mut source = MemorySource::new(input.to_vec(alloc)?, failing_reads.to_vec(alloc)?);
+    let mut sink = MemorySink::new(alloc, failing_writes.to_vec(alloc)?);
+    let status = run(alloc, &names, &SEED, &mut dirs, &mut source, &mut sink);
+    let output = sink.bytes().to_vec(alloc)?;
+    Ok(Ran { status, output })
+}
+
+/// The parts, one after the other.
+fn joined(alloc: Global, parts: &[&[u8]]) -> Result<Vec<u8>, AllocError> {
+    let mut all = Vec::new(alloc);
+    for part in parts {
+        all.extend_from_slice(part)?;
+    }
+    Ok(all)
+}
+
+/// A unit of input or of output: what stands before its length, then its length and its bytes.
+fn unit(alloc: Global, head: &[u8], parts: &[&[u8]]) -> Result<Vec<u8>, AllocError> {
+    let bytes = joined(alloc, parts)?;
+    let length = u32::try_from(bytes.len()).unwrap_or(0).to_be_bytes();
+    joined(alloc, &[head, &length, &bytes])
+}
+
+/// A packet: its size in 32 bits, and then the parts.
+fn packet(alloc: Global, parts: &[&[u8]]) -> Result<Vec<u8>, AllocError> {
+    unit(alloc, b"\xce", parts)
+}
+
+/// A reply of this type to this sync.
+fn reply(alloc: Global, kind: u16, sync: u8, body: &[u8]) -> Result<Vec<u8>, AllocError> {
+    let [high, low] = kind.to_be_bytes();
+    let header = [
+        0x83, 0x00, 0xce, 0, 0, high, low, 0x01, 0xcf, 0, 0, 0, 0, 0, 0, 0, sync, 0x05, 0xce, 0, 0,
+        0, 0,
+    ];
+    packet(alloc, &[&header, body])
+}
+
+/// A run on these bytes, and then others.
+fn run_after(alloc: Global, good: &[u8], bad: &[u8]) -> Result<Ran, AllocError> {
+    let input = joined(alloc, &[good, bad])?;
+    run_on(alloc, &["trace", "d"], &input, &[], &[])
+}
+
+/// A reply of one tuple.
+fn found(alloc: Global, sync: u8, tuple: &[u8]) -> Result<Vec<u8>, AllocError> {
+    let body = joined(alloc, &[b"\x81\x30\xdd\x00\x00\x00\x01", tuple])?;
+    reply(alloc, 0, sync, &body)
+}
+
+const ON_ONE: &[u8] = b"\x00\x00\x00\x00\x01";
+
+const TO_ONE: &[u8] = b"\x00\x00\x00\x01";
+
+#[test]
+fn replace_then_select_is_exact(rt: HostRuntime) -> Result<(), Fail> {
+    let alloc = rt.alloc();
+    let input = unit(alloc, ON_ONE, &[REPLACE, SELECT])?;
+    let first = found(alloc, 1, b"\x92\x01\xa1a")?;
+    let second = found(alloc, 2, b"\x92\x01\xa1a")?;
+    let output = unit(alloc, TO_ONE, &[GREETING, &first, &second])?;
+    assert_eq!(rt; output.len(), 0xce + 8);
+    let trace = ["trace", "d"];
+    let cut = input.split_last().map_or([].as_slice(), |(_, front)| front);
+    let cases: [(&str, &[&str], &[u8], &[u64], &[u64], Status, &[u8]); 12] = [
+        ("the example", &trace, &input, &[], &[], Status::Ok, &output),
+        ("no input", &trace, &[], &[], &[], Status::Ok, &[]),
+        (
+            "another kind",
+            &trace,
+            b"\x05",
+            &[],
+            &[],
+            Status::BadInput { at: 0 },
+            &[],
+        ),
+        (
+            "a cut unit",
+            &trace,
+            cut,
+            &[],
+            &[],
+            Status::BadInput { at: 0 },
+            &[],
+        ),
+        (
+            "no directory",
+            &["trace"],
+            &input,
+            &[],
+            &[],
+            Status::BadWords,
+            &[],
+        ),
+        (
+            "an option",
+            &["trace", "-d"],
+            &input,
+            &[],
+            &[],
+            Status::BadWords,
+            &[],
+        ),
+        (
+            "an empty word",
+            &["trace", ""],
+            &input,
+            &[],
+            &[],
+            Status::BadWords,
+            &[],
+        ),
+        (
+            "a word more",
+            &["trace", "d", "e"],
+            &input,
+            &[],
+            &[],
+            Status::BadWords,
+            &[],
+        ),
+        (
+            "another command",
+            &["nodes", "d"],
+            &input,
+            &[],
+            &[],
+            Status::BadWords,
+            &[],
+        ),
+        (
+            "the second read fails",
+            &trace,
+            &input,
+            &[2],
+            &[],
+            Status::ReadFault,
+            &output,
+        ),
+        (
+            "the first write fails",
+            &trace,
+            &input,
+            &[],
+            &[1],
+            Status::WriteFault,
+            &[],
+        ),
+        (
+            "the flush fails",
+            &trace,
+            &input,
+            &[],
+            &[2],
+            Status::WriteFault,
+            &output,
+        ),
+    ];
+    for (name, words, input, reads, writes, status, output) in cases {
+        let ran = run_on(alloc, words, input, reads, writes)?;
+        assert_eq!(rt; ran.status, status, "{name}");
+        assert_eq!(rt; ran.output.as_slice(), output, "{name}");
+    }
+    Ok(())
+}
+
+#[test]
+fn replies_are_exact(rt: HostRuntime) -> Result<(), Fail> {
+    let alloc = rt.alloc();
+    let no_tuple: &[u8] = b"\x81\x30\xdd\x00\x00\x00\x00";
+    let spelled: &[u8] = b"\x92\xcf\x00\x00\x00\x00\x00\x00\x00\x01\xa1b";
+    let wide = packet(
+        alloc,
+        &[
+            b"\x82\x00\xcc\x03\x01\xcd\x00\x03\x82\x10\xce\x00\x00\x02\x00\x21",
+            spelled,
+        ],
+    )?;
+    let spelled_found = found(alloc, 3, spelled)?;
+    let second_found = found(alloc, 2, spelled)?;
+    let by_wide_key = packet(
+        alloc,
+        &[b"\x82\x00\x01\x01\x04\x84\x10\xcd\x02\x00\x12\x01\x14\x00\x20\x91\xcc\x01"],
+    )?;
+    let by_wide_key_found = found(alloc, 4, spelled)?;
+    let other_key = packet(
+        alloc,
+        &[b"\x82\x00\x01\x01\x05\x84\x10\xcd\x02\x00\x12\x0a\x14\x00\x20\x91\x02"],
+    )?;
+    let other_key_found = reply(alloc, 0, 5, no_tuple)?;
+    let no_limit = packet(
+        alloc,
+        &[b"\x82\x00\x01\x01\x06\x84\x10\xcd\x02\x00\x12\x00\x14\x00\x20\x91\x01"],
+    )?;
+    let no_limit_found = reply(alloc, 0, 6, no_tuple)?;
+    let other_space = packet(
+        alloc,
+        &[b"\x82\x00\x01\x01\x09\x84\x10\xcd\x02\x01\x12\x0a\x14\x00\x20\x91\x01"],
+    )?;
+    let other_space_told = reply(alloc, 0x8024, 9, b"\x81\x31\xb8Space 513 does not exist")?;
+    let put_elsewhere = packet(alloc, &[b"\x82\x00\x03\x01\x0a\x82\x10\x07\x21\x91\x01"])?;
+    let put_elsewhere_told = reply(alloc, 0x8024, 10, b"\x81\x31\xb6Space 7 does not exist")?;
+    let unknown = packet(
+        alloc,
+        &[b"\x82\x00\xcf\xff\xff\xff\xff\xff\xff\xff\xff\x01\x0b\x80"],
+    )?;
+    let unknown_told = reply(
+        alloc,
+        0x8030,
+        11,
+        b"\x81\x31\xd9\x29Unknown request type 18446744073709551615",
+    )?;
+    let ping = packet(alloc, &[b"\x82\x00\x40\x01\x0c\xa1x"])?;
+    let ping_told = reply(alloc, 0x8030, 12, b"\x81\x31\xb7Unknown request type 64")?;
+    let exchanges: [(&[u8], &[u8]); 8] = [
+        (&wide, &spelled_found),
+        (SELECT, &second_found),
+        (&by_wide_key, &by_wide_key_found),
+        (&other_key, &other_key_found),
+        (&no_limit, &no_limit_found),
+        (&other_space, &other_space_told),
+        (&put_elsewhere, &put_elsewhere_told),
+        (&unknown, &unknown_told),
+    ];
+    // Each request is a unit of its own; a unit without bytes comes first and says nothing.
+    let first = found(alloc, 1, b"\x92\x01\xa1a")?;
+    let mut input = joined(
+        alloc,
+        &[
+            &unit(alloc, ON_ONE, &[])?,
+            &unit(alloc, ON_ONE, &[REPLACE])?,
+        ],
+    )?;
+    let mut output = unit(alloc, TO_ONE, &[GREETING, &first])?;
+    for (asked, told) in exchanges {
+        input.extend_from_slice(&unit(alloc, ON_ONE, &[asked])?)?;
+        output.extend_from_slice(&unit(alloc, TO_ONE, &[told])?)?;
+    }
+    input.extend_from_slice(&unit(alloc, ON_ONE, &[&ping, &ping])?)?;
+    output.extend_from_slice(&unit(alloc, TO_ONE, &[&ping_told, &ping_told])?)?;
+    let ran = run_on(alloc, &["trace", "d"], &input, &[], &[])?;
+    assert_eq!(rt; ran.status, Status::Ok);
+    assert_eq!(rt; ran.output.as_slice(), output.as_slice());
+    Ok(())
+}
+
+#[test]
+fn malformed_units_are_told_at_their_beginning(rt: HostRuntime) -> Result<(), Fail> {
+    let alloc = rt.alloc();
+    let good = unit(alloc, ON_ONE, &[REPLACE])?;
+    let first = found(alloc, 1, b"\x92\x01\xa1a")?;
+    let output = unit(alloc, TO_ONE, &[GREETING, &first])?;
+    // A tuple of 63 levels passes, and one of 64 doesn't: the body's map is a level too.
+    let levels = [0x91; 63];
+    let deepest = packet(
+        alloc,
+        &[
+            b"\x82\x00\x03\x01\x01\x82\x10\xcd\x02\x00\x21\x92\x01",
+            &levels[..62],
+            b"\x01",
+        ],
+    )?;
+    let too_deep = packet(
+        alloc,
+        &[
+            b"\x82\x00\x03\x01\x01\x82\x10\xcd\x02\x00\x21\x92\x01",
+            &levels,
+            b"\x01",
+        ],
+    )?;
+    let deep_run = run_on(
+        alloc,
+        &["trace", "d"],
+        &unit(alloc, ON_ONE, &[&deepest])?,
+        &[],
+        &[],
+    )?;
+    assert_eq!(rt; deep_run.status, Status::Ok);
+    let bad_packets: [&[u8]; 12] = [
+        &too_deep,
+        b"\x0f\x82\x00\x03\x01\x01\x82\x10\xcd\x02\x00\x21\x92\x01\xa1a",
+        b"\xce\x00\x01\x00\x01",
+        b"\xce\x00\x00\x00\x05\x82\x00\x40\x01\x01",
+        b"\xce\x00\x00\x00\x06\x82\x00\x40\x01\x01\xc1",
+        b"\xce\x00\x00\x00\x06\x82\x00\x40\x01\xe0\x80",
+        b"\xce\x00\x00\x00\x07\x82\x00\x40\x01\x01\x80\x80",
+        b"\xce\x00\x00\x00\x0f\x82\x00\x03\x01\x01\x82\x10\xcd\x02\x00\x21\x92\xa1a\x01",
+        b"\xce\x00\x00\x00\x0c\x82\x00\x03\x01\x01\x82\x10\xcd\x02\x00\x21\x90",
+        b"\xce\x00\x00\x00\x0f\x82\x01\x03\x00\x01\x82\x10\xcd\x02\x00\x21\x92\x01\xa1a",
+        b"\xce\x00\x00\x00\x11\x82\x00\x01\x01\x02\x84\x10\xcd\x02\x00\x12\x0a\x14\x01\x20\x91\x01",
+        b"\xce\x00\x00\x00\x12\x82\x00\x01\x01\x02\x84\x10\xcd\x02\x00\x12\x0a\x14\x00\x20\x92\x01\x01",
+    ];
+    for bad in bad_packets {
+        let unit = unit(alloc, ON_ONE, &[REPLACE, bad])?;
+        let ran = run_after(alloc, &good, &unit)?;
+        assert_eq!(rt; ran.status, Status::BadInput { at: 29 }, "{bad:?}");
+        assert_eq!(rt; ran.output.as_slice(), output.as_slice(), "{bad:?}");
+    }
+    let bad_units: [&[u8]; 5] = [
+        b"\x00\x00\x00\x00\x02\x00\x00\x00\x00",
+        b"\x01\x00\x00\x00\x01\x00\x00\x00\x00",
+        b"\x00\x00\x00\x00\x01\x01\x00\x00\x01",
+        b"\x00\x00\x00\x00\x01\x00\x00\x00",
+        b"\x00\x00\x00\x00\x01\x00\x00\x00\x01",
+    ];
+    for bad in bad_units {
+        let ran = run_after(alloc, &good, bad)?;
+        assert_eq!(rt; ran.status, Status::BadInput { at: 29 }, "{bad:?}");
+        assert_eq!(rt; ran.output.as_slice(), output.as_slice(), "{bad:?}");
+    }
+    Ok(())
+}
