@@ -1,6 +1,6 @@
 //! Bytes that are owned, which a contract sees as a list of numbers.
 
-ghost use Rattle.std.specs.Prelude.{◌≡◌, [], length, IfOk, IsTrue, ◌↔◌, nat_eq};
+ghost use Rattle.std.specs.Prelude.{◌≡◌, ◌++◌, [], length, IfOk, IsTrue, MatchResult, ◌↔◌, nat_eq};
 ghost use Rattle.std.specs.Cmp.{partial_equiv_from_equiv};
 ghost use Rattle.std.specs.Cmp.Lexicographic.{pointwise};
 ghost use Rattle.std.proofs.lemmas.Cmp.{nat_list_eq_equiv};
@@ -77,6 +77,16 @@ impl Bytes {
         ensures { result.now ≡ self.now }
     {
         self.items.as_slice()
+    }
+
+    /// Adds these bytes at the end.
+    ///
+    /// # Errors
+    /// Memory ran out; nothing was added.
+    pub fn extend_from_slice(&mut self, bytes: &[u8]) -> Result<(), AllocError>
+        ensures { MatchResult result (λ _. self.new ≡ self.old ++ bytes.now) (λ _. self.new ≡ self.old) }
+    {
+        self.items.extend_from_slice(bytes)
     }
 
     /// How many bytes there are.

@@ -1,0 +1,11 @@
+pub mod Decimals
+pub mod Fitting
+pub mod IdLaws
+pub mod LsnLaws
+pub mod OneClock
+pub mod ReadLaws
+pub mod StepLaws
+pub mod Steps
+pub mod Sums
+pub mod Tails
+pub mod TextLaws

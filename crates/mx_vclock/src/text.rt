@@ -1,0 +1,34 @@
+//! The text of a vclock: `{}` or `{1: 5, 2: 7}`, the components that aren't 0, by rising replica id.
+
+ghost use Rattle.std.specs.Prelude.{◌≡◌, IfOk};
+ghost use Rattle.mx_vclock.specs.Text.{text_of};
+
+use crate::vclock::Vclock;
+use mx_msgpack::Bytes;
+use std::alloc::{AllocError, Global};
+
+/// The length of the longest text in bytes: two braces, and 32 components of at most four bytes before the lsn, 18
+/// digits and two bytes after them.
+const MOST_TEXT: usize = 2 + 32 * (4 + 18 + 2);
+
+impl Vclock {
+    /// The vclock's text.
+    ///
+    /// # Errors
+    /// Memory ran out.
+    pub fn text(&self, alloc: Global) -> Result<Bytes, AllocError>
+        ensures { IfOk result (λ text. text ≡ text_of self.now) }
+    {
+        let mut text = String::with_capacity(alloc, MOST_TEXT)?;
+        text.push('{')?;
+        let mut between = "";
+        for (id, lsn) in self.lsns().iter().enumerate() {
+            if *lsn != 0 {
+                write!(text, "{between}{id}: {lsn}")?;
+                between = ", ";
+            }
+        }
+        text.push('}')?;
+        Ok(Bytes::from_vec(text.into_bytes()))
+    }
+}

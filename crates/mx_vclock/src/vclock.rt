@@ -1,0 +1,110 @@
+//! The vclock, which a contract sees as the list of its 32 lsns.
+
+ghost use Rattle.std.specs.Prelude.{◌≡◌, ◌<◌, length, IsTrue, ◌↔◌, MatchResult, sum, replicate, slice_index, slice_set};
+ghost use Rattle.mx_vclock.specs.Vclocks.{replicas, Covers, IsNext, Compares};
+
+use crate::gap::Gap;
+use std::cmp::Ordering;
+use std::marker::Model;
+
+/// How many replica ids there are.
+pub(crate) const REPLICAS: usize = 32;
+
+/// The greatest lsn.
+pub(crate) const MOST_LSN: u64 = 1 << 58;
+
+/// For each replica id from 0 to 31 the lsn that it has reached, at most 2^58; 0 where it has none.
+#[derive(Clone, Copy, Debug, Drop)]
+pub struct Vclock {
+    pub(crate) lsns: [u64; REPLICAS],
+}
+
+impl Model for Vclock {
+    ghost use Rattle.std.specs.Prelude.{ℕ, List};
+    ghost use Rattle.mx_vclock.specs.Vclocks.{IsVclock};
+
+    ghost Value = { List ℕ };
+
+    ghost view = { λ c. c.lsns };
+
+    ghost inverse = { λ lsns. record { lsns = lsns } };
+
+    ghost invariant = { λ c. IsVclock c.lsns };
+}
+
+impl Vclock {
+    /// The empty vclock: no replica has an lsn.
+    pub fn new() -> Vclock
+        ensures { result ≡ replicate replicas 0 }
+    {
+        Vclock {
+            lsns: [0; REPLICAS],
+        }
+    }
+
+    /// The lsn of a replica id.
+    pub fn get(&self, id: u8) -> u64
+        requires { id < replicas }
+        ensures { result ≡ slice_index self.now id }
+    {
+        self.lsns[usize::from(id)]
+    }
+
+    /// The lsns in place, by replica id.
+    pub(crate) fn lsns(&self) -> &[u64; REPLICAS]
+        ensures value { result.now ≡ self.now }
+        ensures whole { length self.now ≡ replicas }
+    {
+        &self.lsns
+    }
+
+    /// Goes on to the replica id's next lsn.
+    ///
+    /// # Errors
+    /// The lsn isn't the next one, or is above 2^58. The vclock is then unchanged.
+    pub fn follow(&mut self, id: u8, lsn: u64) -> Result<(), Gap>
+        requires { id < replicas }
+        ensures { MatchResult result
+            (λ _. IsNext self.old id lsn × (self.new ≡ slice_set self.old id lsn))
+            (λ gap. ¬ IsNext self.old id lsn × (gap.has ≡ slice_index self.old id) × (gap.got ≡ lsn) × (self.new ≡ self.old)) }
+    {
+        let last = &mut self.lsns[usize::from(id)];
+        if lsn > MOST_LSN || lsn != *last + 1 {
+            return Err(Gap {
+                has: *last,
+                got: lsn,
+            });
+        }
+        *last = lsn;
+        Ok(())
+    }
+
+    /// Whether this vclock is nowhere less than the other one.
+    pub fn covers(&self, other: &Vclock) -> bool
+        ensures { IsTrue result ↔ Covers self.now other.now }
+    {
+        self.lsns
+            .iter()
+            .zip(other.lsns.iter())
+            .all(|(lsn, least)| least <= lsn)
+    }
+
+    /// How this vclock stands to the other one. There is no answer where neither covers the other.
+    pub fn compare(&self, other: &Vclock) -> Option<Ordering>
+        ensures { Compares self.now other.now result }
+    {
+        match (self.covers(other), other.covers(self)) {
+            (true, true) => Some(Ordering::Equal),
+            (true, false) => Some(Ordering::Greater),
+            (false, true) => Some(Ordering::Less),
+            (false, false) => None,
+        }
+    }
+
+    /// The sum of the lsns.
+    pub fn signature(&self) -> u64
+        ensures { result ≡ sum self.now }
+    {
+        self.lsns.iter().sum()
+    }
+}
