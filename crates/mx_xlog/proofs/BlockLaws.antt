@@ -1,0 +1,32 @@
+-- What a block's head says of the bytes behind it.
+use Rattle.std.proofs.Common.{◌≡◌, ℕ, ◌≤◌, Bool, true, false, not, nat_eq, List, ◌++◌, length, take, drop, refl, sym, ap, ◌∙◌, arith}
+use Rattle.std.proofs.lemmas.List.{length-take, take-append-drop}
+use Rattle.std.specs.Cmp.Lexicographic.{pointwise, same_text, other_text}
+use Rattle.std.specs.List.{starts_with}
+use Rattle.mx_xlog.specs.Blocks.{BeginsBlock, BeginsEnd, end_marker}
+use Rattle.mx_xlog.specs.Checksums.{checksum_of}
+use Rattle.mx_xlog.specs.Heads.{head_of}
+
+-- a head that says this length and this checksum, before data that has them
+pub block_found : (bytes head rest rows : List ℕ) (size sum : ℕ) → head ≡ take 19 bytes → rest ≡ drop 19 bytes → head ≡ head_of size sum
+    → 1 ≤ size → size ≤ 4194304 → size ≤ length rest → rows ≡ take size rest → sum ≡ checksum_of rows → BeginsBlock rows bytes
+block_found bytes head rest rows size sum front back says some bounded within taken summed =
+    let long : length rows ≡ size = ap length taken ∙ length-take size rest ∙ omega arith in
+    let whole : bytes ≡ head_of size sum ++ take size rest ++ drop size rest =
+    sym (take-append-drop 19 bytes) ∙ rw (← front, ← back, says, take-append-drop size rest) refl in (
+      drop size rest,
+      record { some = omega arith; bounded = omega arith },
+      whole ∙ rw (← taken, ← long, summed) refl,
+    )
+
+-- bytes that a comparison found equal
+not_apart : (equal : Bool) → false ≡ not equal → true ≡ equal
+not_apart true h = refl
+not_apart false h = cc
+
+pub same_bytes : (xs ys : List ℕ) → false ≡ not (pointwise nat_eq xs ys) → xs ≡ ys
+same_bytes xs ys h = same_text xs ys (not_apart (pointwise nat_eq xs ys) h)
+
+-- bytes that a comparison with the marker of a file's end found other
+pub no_end : (bytes : List ℕ) → false ≡ starts_with nat_eq bytes end_marker → ¬ BeginsEnd bytes
+no_end bytes other found = other_text end_marker (take 4 bytes) other (sym (ap (take 4) found.1))

@@ -1,0 +1,42 @@
+-- The blocks of journal and snapshot files, and the marker at a file's end.
+use Rattle.std.specs.Prelude.{◌≡◌, ℕ, ◌+◌, ◌≤◌, List, [], ◌∷◌, ◌++◌, length, drop}
+use Rattle.byteorder.specs.Endian.{big_bytes}
+use Rattle.mx_xlog.specs.Checksums.{checksum_of}
+use Rattle.mx_xlog.specs.declared.block.Block.{Block}
+use Rattle.mx_xlog.specs.declared.block.Block.TheVariants.{Rows, End, Empty, Torn}
+
+-- how many bytes a block's data may have
+pub record IsData (rows : List ℕ) : Type 0 where
+  pub some : 1 ≤ length rows
+  pub bounded : length rows ≤ 4194304
+
+-- how many bytes a block has before its data
+abbrev pub head_size : ℕ
+head_size = 19
+
+-- a mark, the data's length, its checksum, an empty pad, and the data
+abbrev pub block_of : List ℕ → List ℕ
+block_of rows =
+    (0xd5 ∷ 0xba ∷ 0x0b ∷ 0xab ∷ []) ++ (0xce ∷ big_bytes 4 (length rows)) ++ (0x00 ∷ [])
+    ++ (0xce ∷ big_bytes 4 (checksum_of rows)) ++ (0xa3 ∷ 0x00 ∷ 0x00 ∷ 0x00 ∷ []) ++ rows
+
+-- the last bytes of a file that was ended in order
+abbrev pub end_marker : List ℕ
+end_marker = 0xd5 ∷ 0x10 ∷ 0xad ∷ 0xed ∷ []
+
+-- the bytes begin with a block of this data
+abbrev pub BeginsBlock : List ℕ → List ℕ → Type 0
+BeginsBlock rows bytes = (rest : List ℕ) × IsData rows × (bytes ≡ block_of rows ++ rest)
+
+-- the bytes begin with the marker of a file's end
+abbrev pub BeginsEnd : List ℕ → Type 0
+BeginsEnd bytes = (rest : List ℕ) × (bytes ≡ end_marker ++ rest)
+
+-- what stands at this place of the bytes: a block's data by its two ends, the marker, the bytes' end, or none of these
+abbrev pub StandsAt : List ℕ → ℕ → Block → Type 0
+StandsAt bytes at (Rows from to) =
+    (rows : List ℕ) × BeginsBlock rows (drop at bytes) × (from ≡ at + head_size) × (to ≡ from + length rows)
+StandsAt bytes at End = BeginsEnd (drop at bytes)
+StandsAt bytes at Empty = at ≡ length bytes
+StandsAt bytes at (Torn place) =
+    (place ≡ at) × ¬ (at ≡ length bytes) × ¬ BeginsEnd (drop at bytes) × ((rows : List ℕ) → ¬ BeginsBlock rows (drop at bytes))

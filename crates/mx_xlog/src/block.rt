@@ -1,0 +1,122 @@
+//! Blocks: the data of some rows behind its length and its checksum.
+
+ghost use Rattle.std.specs.Prelude.{◌≡◌, ◌++◌, OnOk, MatchOption};
+ghost use Rattle.mx_xlog.specs.Blocks.{IsData, BeginsBlock, block_of, end_marker, StandsAt};
+ghost use Rattle.mx_xlog.specs.Heads.{BeginsNoBlock, head_of};
+
+use crate::crc::checksum;
+use byteorder::{BigEndian, ByteOrder};
+use mx_msgpack::Bytes;
+use std::alloc::AllocError;
+
+/// How many bytes a block has before its data.
+const HEAD_SIZE: usize = 19;
+
+/// The most bytes of a block's data.
+const MOST_DATA: usize = 4_194_304;
+
+/// The marker of a file's end.
+const END_MARKER: [u8; 4] = [0xd5, 0x10, 0xad, 0xed];
+
+/// What stands at a place of a file behind its header. A place counts bytes from 0.
+#[derive(Clone, Copy, Debug, Drop, PartialEq, Eq)]
+pub enum Block {
+    /// A block, with the place of its data's first byte and the place behind its last.
+    Rows {
+        /// The first byte of the data.
+        from: usize,
+        /// The place behind the data.
+        to: usize,
+    },
+    /// The marker of a file's end.
+    End,
+    /// The end of the bytes.
+    Empty,
+    /// None of these, at this place.
+    Torn(usize),
+}
+
+/// What stands at this place of the bytes, which may lie behind their end.
+pub fn read_block(bytes: &[u8], at: usize) -> Block
+    ensures { StandsAt bytes.now at result }
+{
+    if at == bytes.len() {
+        return Block::Empty;
+    }
+    if at > bytes.len() {
+        return Block::Torn(at);
+    }
+    let (_, rest) = bytes.split_at(at);
+    if rest.starts_with(&END_MARKER) {
+        return Block::End;
+    }
+    let Some(rows) = first_rows(rest) else {
+        return Block::Torn(at);
+    };
+    let from = at + HEAD_SIZE;
+    Block::Rows {
+        from,
+        to: from + rows.len(),
+    }
+}
+
+/// The data of the block that the bytes begin with.
+fn first_rows(bytes: &[u8]) -> Option<&[u8]>
+    ensures { MatchOption result (BeginsNoBlock bytes.now) (λ rows. BeginsBlock rows.now bytes.now) }
+{
+    if bytes.len() < HEAD_SIZE {
+        return None;
+    }
+    let (head, rest) = bytes.split_at(HEAD_SIZE);
+    let size = BigEndian::read_u32(&head[5..]);
+    let sum = BigEndian::read_u32(&head[11..]);
+    if head != head_of(size, sum).as_slice() {
+        return None;
+    }
+    let size = size as usize;
+    if size == 0 || size > MOST_DATA || size > rest.len() {
+        return None;
+    }
+    let (rows, _) = rest.split_at(size);
+    if checksum(rows) != sum {
+        return None;
+    }
+    Some(rows)
+}
+
+/// Adds a block of these rows, which are 1 to 4,194,304 bytes.
+///
+/// # Errors
+/// Memory ran out.
+pub fn write_block(rows: &[u8], out: &mut Bytes) -> Result<(), AllocError>
+    requires { IsData rows.now }
+    ensures { OnOk result (out.new ≡ out.old ++ block_of rows.now) }
+{
+    let head = head_of(rows.len() as u32, checksum(rows));
+    out.extend_from_slice(&head)?;
+    out.extend_from_slice(rows)?;
+    Ok(())
+}
+
+/// Adds the marker of a file's end.
+///
+/// # Errors
+/// Memory ran out.
+pub fn write_end(out: &mut Bytes) -> Result<(), AllocError>
+    ensures { OnOk result (out.new ≡ out.old ++ end_marker) }
+{
+    out.extend_from_slice(&END_MARKER)?;
+    Ok(())
+}
+
+/// The bytes before data of this length and checksum.
+fn head_of(size: u32, sum: u32) -> [u8; HEAD_SIZE]
+    ensures { result ≡ head_of size sum }
+{
+    let mut head = [
+        0xd5, 0xba, 0x0b, 0xab, 0xce, 0, 0, 0, 0, 0, 0xce, 0, 0, 0, 0, 0xa3, 0, 0, 0,
+    ];
+    BigEndian::write_u32(&mut head[5..], size);
+    BigEndian::write_u32(&mut head[11..], sum);
+    head
+}
