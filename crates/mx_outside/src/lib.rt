@@ -3,18 +3,14 @@
 //! Each object counts its faults. A call answers `Failed` only where that count rose.
 #![tactic(auto)]
 
-mod adapters;
 mod dir;
 mod failed;
-mod memory;
 mod names;
 mod sink;
 mod source;
 
-pub use adapters::{ReaderSource, WriterSink};
-pub use dir::Dir;
+pub use dir::{Dir, DirFault};
 pub use failed::Failed;
-pub use memory::{MemoryDir, MemorySink, MemorySource};
 pub use names::Names;
 pub use sink::Sink;
 pub use source::Source;

@@ -9,7 +9,8 @@ mod tests;
 
 ghost use Rattle.std.specs.Prelude.{◌≢◌, IfErr};
 
-use mx_outside::{MemoryDir, Names, ReaderSource, WriterSink};
+use mx_outside::Names;
+use mx_real::{FolderDir, ReaderSource, WriterSink};
 use mx_top::Status;
 use std::env;
 use std::env::Env;
@@ -71,7 +72,7 @@ fn run<R: Env + AllocGlobal + RandomSource, I: Read + Drop, O: Write + Drop>(
 {
     let seed = seed::of_installation(rt)?;
     // No command touches its directory yet, so none is opened.
-    let mut dirs: Vec<MemoryDir> = Vec::new(rt.alloc());
+    let mut dirs: Vec<FolderDir<HostRuntime>> = Vec::new(rt.alloc());
     let status = mx_top::run(
         rt.alloc(),
         words,

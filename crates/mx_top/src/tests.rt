@@ -1,5 +1,6 @@
 use super::*;
-use mx_outside::{MemoryDir, MemorySink, MemorySource, Names};
+use mx_fake::{MemoryDir, MemorySink, MemorySource};
+use mx_outside::Names;
 use std::alloc::{AllocError, Global};
 use std::test::Fail;
 

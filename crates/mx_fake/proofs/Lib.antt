@@ -1,0 +1,5 @@
+mod CrashLaws
+mod DirLaws
+mod FileLaws
+mod Fronts
+mod TableLaws

@@ -1,0 +1,33 @@
+-- What the changes of a directory in memory make of it.
+use Rattle.std.specs.Prelude.{List, [], ◌∷◌, string_bytes}
+use Rattle.std.specs.FinMap as map
+use Rattle.mx_outside.specs.Disks.{Disk, created, appended, file_synced, names_synced, renamed, removed}
+use Rattle.mx_fake.specs.Crashes.{crashed}
+use Rattle.mx_fake.specs.declared.change.Change.{Change}
+use Rattle.mx_fake.specs.declared.change.Change.TheVariants.{Create, Append, Sync, SyncNames, Rename, Remove, Crash}
+
+-- an empty directory
+abbrev pub no_files : Disk
+no_files = record { now = map.empty; older = map.empty }
+
+abbrev pub step : Change → Disk → Disk
+step (Create name) = created (string_bytes name)
+step (Append name bytes) = appended (string_bytes name) bytes.items
+step (Sync name) = file_synced (string_bytes name)
+step SyncNames = names_synced
+step (Rename from to) = renamed (string_bytes from) (string_bytes to)
+step (Remove name) = removed (string_bytes name)
+step (Crash choice) = crashed choice
+
+-- the state after these changes, the first of them first
+abbrev pub after : Disk → List Change → Disk
+after disk [] = disk
+after disk (change ∷ changes) = after (step change disk) changes
+
+-- all states, the newest one first
+abbrev pub states_from : Disk → List Disk → List Change → List Disk
+states_from disk past [] = disk ∷ past
+states_from disk past (change ∷ changes) = states_from (step change disk) (disk ∷ past) changes
+
+abbrev pub states_after : List Change → List Disk
+states_after = states_from no_files []

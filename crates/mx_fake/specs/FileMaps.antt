@@ -1,0 +1,20 @@
+-- A file and a directory's files as values.
+use Rattle.std.specs.Prelude.{ℕ, List, map, String, string_bytes, refl}
+use Rattle.std.specs.Coded.{Coded, code_by, coded×, coded_ℕ, coded_list}
+use Rattle.std.specs.FinMap as map
+use Rattle.mx_outside.specs.Disks.{File, Files}
+
+abbrev pub file_code : Coded File
+file_code =
+    code_by (List ℕ × ℕ) (coded× (coded_list coded_ℕ) coded_ℕ) (λ f. (f.bytes, f.synced)) (λ p. record { bytes = p.0; synced = p.1 }) (λ _. refl)
+
+abbrev pub files_code : Coded Files
+files_code = map.code (coded_list coded_ℕ) file_code
+
+module _ {Y : Type 0} where
+  -- the entries by the bytes of their names
+  abbrev pub by_bytes : List (String Y × File) → List (List ℕ × File)
+  by_bytes entries = map (λ e. (string_bytes e.0, e.1)) entries
+
+  abbrev pub files_of : List (String Y × File) → Files
+  files_of entries = map.from_entries (by_bytes entries)

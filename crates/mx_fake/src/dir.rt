@@ -1,0 +1,179 @@
+//! A directory in memory.
+
+ghost use Rattle.std.specs.Prelude.{◌≡◌, ◌∷◌, ◌++◌, [], Some, IfOk, OnOk, OnErr, IsTrue, List, drop};
+ghost use Rattle.mx_outside.specs.Causes.{HasCauseOf};
+ghost use Rattle.mx_outside.specs.Disks.{Disk, IsThere, Makes, ToldAlike};
+ghost use Rattle.mx_outside.specs.declared.dir.DirFault.TheVariants.{Failed};
+ghost use Rattle.mx_fake.specs.Changes.{step, no_files};
+ghost use Rattle.mx_fake.specs.Dirs.{dir_states, dir_faults};
+ghost use Rattle.mx_fake.specs.Tables.{IsTablesOf};
+
+use crate::calls::Calls;
+use crate::change::Change;
+use crate::tables::Tables;
+use mx_outside::{Dir, DirFault, Names};
+use std::alloc::{AllocError, Global};
+
+/// A directory in memory, for tests: it keeps all that was done to it, and does it again for each
+/// question, so that this takes the longer the more was done.
+///
+/// A restart is a crash. Half of the number that picks it is how many bytes of each file stay of
+/// those that weren't synced. An odd number leaves each name as it was when the names were synced,
+/// and an even one as it is now.
+#[derive(Debug, Drop)]
+pub struct MemoryDir {
+    calls: Calls,
+    changes: Vec<Change>,
+}
+
+impl MemoryDir {
+    /// An empty directory, of whose calls those that `failing` lists are to fail, counted from 1.
+    pub fn new(alloc: Global, failing: Vec<u64>) -> MemoryDir
+        ensures states { dir_states result ≡ Some (no_files ∷ []) }
+        ensures faults { dir_faults result ≡ 0 }
+        ensures failing { result.calls.failing ≡ failing }
+    {
+        MemoryDir {
+            calls: Calls::new(failing),
+            changes: Vec::new(alloc),
+        }
+    }
+
+    /// Whether there is a file of this name. This is none of the calls that may fail.
+    pub fn has(&self, alloc: Global, name: &str) -> Result<bool, AllocError>
+        ensures { IfOk result (λ there. IsTrue there → IsThere (dir_states self.now) name.now) }
+    {
+        let tables = self.tables(alloc)?;
+        let there = tables.files().get(name).is_some();
+        Ok(there)
+    }
+
+    /// Counts a call, and fails where it is to fail.
+    fn begin(&mut self) -> Result<(), DirFault>
+        ensures changes { self.new.changes.items ≡ self.old.changes.items }
+        ensures cause { HasCauseOf Failed (dir_faults self.old) (dir_faults self.new) result }
+    {
+        match self.calls.make() {
+            Ok(()) => Ok(()),
+            Err(_) => Err(DirFault::Failed),
+        }
+    }
+
+    /// Puts a change behind the others.
+    fn note(&mut self, change: Change) -> Result<(), AllocError>
+        ensures calls { self.new.calls ≡ self.old.calls }
+        ensures ok { OnOk result (self.new.changes.items ≡ self.old.changes.items ++ change ∷ []) }
+        ensures err { OnErr result (self.new.changes.items ≡ self.old.changes.items) }
+    {
+        self.changes.push(change)?;
+        Ok(())
+    }
+
+    /// Makes a change.
+    fn make(&mut self, change: Result<Change, AllocError>) -> Result<(), DirFault>
+        ensures told { ToldAlike (dir_states self.old) (dir_states self.new) }
+        ensures made { (f : Disk → Disk) → IfOk change (λ change. step change ≡ f) → Makes f (dir_states self.old) (dir_states self.new) result }
+        ensures cause { HasCauseOf Failed (dir_faults self.old) (dir_faults self.new) result }
+    {
+        self.begin()?;
+        let Ok(change) = change else {
+            return Err(DirFault::NoMemory);
+        };
+        match self.note(change) {
+            Ok(()) => Ok(()),
+            Err(_) => Err(DirFault::NoMemory),
+        }
+    }
+
+    /// The state that the calls made, for a call that asks about it.
+    fn look(&mut self, alloc: Global) -> Result<Tables, DirFault>
+        ensures changes { self.new.changes.items ≡ self.old.changes.items }
+        ensures tables { IfOk result (λ tables. (disk : Disk) (past : List Disk) → dir_states self.old ≡ Some (disk ∷ past) → IsTablesOf disk tables) }
+        ensures cause { HasCauseOf Failed (dir_faults self.old) (dir_faults self.new) result }
+    {
+        self.begin()?;
+        match self.tables(alloc) {
+            Ok(tables) => Ok(tables),
+            Err(_) => Err(DirFault::NoMemory),
+        }
+    }
+
+    /// The state that all changes made.
+    fn tables(&self, alloc: Global) -> Result<Tables, AllocError>
+        ensures { IfOk result (λ tables. (disk : Disk) (past : List Disk) → dir_states self.now ≡ Some (disk ∷ past) → IsTablesOf disk tables) }
+    {
+        let mut tables = Tables::new(alloc);
+        for change in &self.changes {
+            tables.apply(alloc, change)?;
+        }
+        Ok(tables)
+    }
+}
+
+/// The bytes from a place on.
+fn behind(bytes: &[u8], at: u64) -> &[u8]
+    ensures { result.now ≡ drop at bytes.now }
+{
+    bytes.get(at as usize..).unwrap_or(&[])
+}
+
+impl Dir for MemoryDir {
+    ghost states = { dir_states };
+
+    ghost faults = { dir_faults };
+
+    fn list(&mut self, alloc: Global) -> Result<Names, DirFault> {
+        let tables = self.look(alloc)?;
+        match tables.files().names(alloc) {
+            Ok(names) => Ok(names),
+            Err(_) => Err(DirFault::NoMemory),
+        }
+    }
+
+    fn size(&mut self, alloc: Global, name: &str) -> Result<u64, DirFault> {
+        let tables = self.look(alloc)?;
+        Ok(tables.bytes(name).len() as u64)
+    }
+
+    fn read(
+        &mut self,
+        alloc: Global,
+        name: &str,
+        at: u64,
+        into: &mut [u8],
+    ) -> Result<usize, DirFault> {
+        let tables = self.look(alloc)?;
+        let rest = behind(tables.bytes(name), at);
+        let count = rest.len().min(into.len());
+        into[..count].copy_from_slice(&rest[..count]);
+        Ok(count)
+    }
+
+    fn create(&mut self, alloc: Global, name: &str) -> Result<(), DirFault> {
+        self.make(Change::create(alloc, name))
+    }
+
+    fn append(&mut self, alloc: Global, name: &str, bytes: &[u8]) -> Result<(), DirFault> {
+        self.make(Change::append(alloc, name, bytes))
+    }
+
+    fn sync(&mut self, alloc: Global, name: &str) -> Result<(), DirFault> {
+        self.make(Change::sync(alloc, name))
+    }
+
+    fn sync_names(&mut self, _alloc: Global) -> Result<(), DirFault> {
+        self.make(Ok(Change::SyncNames))
+    }
+
+    fn rename(&mut self, alloc: Global, from: &str, to: &str) -> Result<(), DirFault> {
+        self.make(Change::rename(alloc, from, to))
+    }
+
+    fn remove(&mut self, alloc: Global, name: &str) -> Result<(), DirFault> {
+        self.make(Change::remove(alloc, name))
+    }
+
+    fn restart(&mut self, _alloc: Global, choice: u32) -> Result<(), DirFault> {
+        self.make(Ok(Change::Crash { choice }))
+    }
+}

@@ -1,0 +1,55 @@
+//! A sink in memory.
+
+ghost use Rattle.std.specs.Prelude.{◌≡◌, Some, []};
+ghost use Rattle.mx_fake.specs.Contents.{sink_contents, sink_faults};
+
+use crate::calls::Calls;
+use mx_outside::{Failed, Sink};
+use std::alloc::Global;
+
+/// A sink in memory. It takes whatever it is given.
+#[derive(Debug, Drop)]
+pub struct MemorySink {
+    bytes: Vec<u8>,
+    calls: Calls,
+}
+
+impl MemorySink {
+    /// An empty sink, of whose calls those that `failing` lists are to fail, counted from 1. A call
+    /// that finds no memory fails too.
+    pub fn new(alloc: Global, failing: Vec<u64>) -> MemorySink
+        ensures contents { sink_contents result ≡ Some [] }
+        ensures faults { sink_faults result ≡ 0 }
+        ensures failing { result.calls.failing ≡ failing }
+    {
+        MemorySink {
+            bytes: Vec::new(alloc),
+            calls: Calls::new(failing),
+        }
+    }
+
+    /// All bytes that it took.
+    pub fn bytes(&self) -> &[u8]
+        ensures { Some result.now ≡ sink_contents self.now }
+    {
+        &self.bytes
+    }
+}
+
+impl Sink for MemorySink {
+    ghost contents = { sink_contents };
+
+    ghost faults = { sink_faults };
+
+    fn write(&mut self, bytes: &[u8]) -> Result<usize, Failed> {
+        self.calls.make()?;
+        match self.bytes.extend_from_slice(bytes) {
+            Ok(()) => Ok(bytes.len()),
+            Err(_) => Err(self.calls.fail()),
+        }
+    }
+
+    fn flush(&mut self) -> Result<(), Failed> {
+        self.calls.make()
+    }
+}

@@ -1,0 +1,156 @@
+//! The state of a directory in memory.
+
+ghost use Rattle.std.specs.Prelude.{◌≡◌, OnOk, IfSome};
+ghost use Rattle.std.specs.FinMap as map;
+ghost use Rattle.mx_outside.specs.Disks.{Disk, created, appended, file_synced, names_synced, renamed, removed, unsettled};
+ghost use Rattle.mx_fake.specs.Crashes.{crashed, first_names, names_left};
+ghost use Rattle.mx_fake.specs.Changes.{step, no_files};
+ghost use Rattle.mx_fake.specs.Tables.{IsTablesOf};
+
+use crate::change::Change;
+use crate::files::Files;
+use crate::stored::Stored;
+use std::alloc::{AllocError, Global};
+use std::mem;
+
+/// What a name was before it changed.
+#[derive(Debug, Drop)]
+struct Before {
+    name: String,
+    file: Option<Stored>,
+}
+
+/// The files, and what each name was before each of its changes since the names were synced, the
+/// first change first.
+#[derive(Debug, Drop)]
+pub(crate) struct Tables {
+    files: Files,
+    before: Vec<Before>,
+}
+
+impl Tables {
+    /// No file.
+    pub(crate) fn new(alloc: Global) -> Tables
+        ensures { IsTablesOf no_files result }
+    {
+        Tables {
+            files: Files::new(alloc),
+            before: Vec::new(alloc),
+        }
+    }
+
+    /// The files as they are now.
+    pub(crate) fn files(&self) -> &Files
+        ensures { (disk : Disk) → IsTablesOf disk self.now → result.now ≡ disk.now }
+    {
+        &self.files
+    }
+
+    /// The bytes of a file, or none where it isn't there.
+    pub(crate) fn bytes(&self, name: &str) -> &[u8]
+        ensures { (disk : Disk) → IsTablesOf disk self.now → IfSome (map.get disk.now name.now) (λ file. result.now ≡ file.bytes) }
+    {
+        match self.files.get(name) {
+            Some(file) => file.bytes(),
+            None => &[],
+        }
+    }
+
+    /// Makes a change.
+    pub(crate) fn apply(&mut self, alloc: Global, change: &Change) -> Result<(), AllocError>
+        ensures { OnOk result ((disk : Disk) → IsTablesOf disk self.old → IsTablesOf (step change.now disk) self.new) }
+    {
+        match change {
+            Change::Create { name } => self.create(alloc, name),
+            Change::Append { name, bytes } => self.append(name, bytes),
+            Change::Sync { name } => {
+                self.files.sync(name);
+                Ok(())
+            }
+            Change::SyncNames => {
+                self.before.clear();
+                Ok(())
+            }
+            Change::Rename { from, to } => self.rename(alloc, from, to),
+            Change::Remove { name } => self.remove(alloc, name),
+            Change::Crash { choice } => self.crash(alloc, *choice),
+        }
+    }
+
+    /// Notes what a name is before it changes.
+    fn unsettle(&mut self, alloc: Global, name: &str) -> Result<(), AllocError>
+        ensures { OnOk result ((disk : Disk) → IsTablesOf disk self.old → IsTablesOf (unsettled name.now disk) self.new) }
+    {
+        let file = self.files.copied(alloc, name)?;
+        let name = String::from_str(alloc, name)?;
+        self.before.push(Before { name, file })?;
+        Ok(())
+    }
+
+    fn create(&mut self, alloc: Global, name: &str) -> Result<(), AllocError>
+        ensures { OnOk result ((disk : Disk) → IsTablesOf disk self.old → IsTablesOf (created name.now disk) self.new) }
+    {
+        self.unsettle(alloc, name)?;
+        self.files
+            .insert(String::from_str(alloc, name)?, Stored::new(alloc))?;
+        Ok(())
+    }
+
+    fn append(&mut self, name: &str, bytes: &[u8]) -> Result<(), AllocError>
+        ensures { OnOk result ((disk : Disk) → IsTablesOf disk self.old → IsTablesOf (appended name.now bytes.now disk) self.new) }
+    {
+        self.files.append(name, bytes)?;
+        Ok(())
+    }
+
+    fn rename(&mut self, alloc: Global, from: &str, to: &str) -> Result<(), AllocError>
+        ensures { OnOk result ((disk : Disk) → IsTablesOf disk self.old → IsTablesOf (renamed from.now to.now disk) self.new) }
+    {
+        self.unsettle(alloc, from)?;
+        self.unsettle(alloc, to)?;
+        if let Some(file) = self.files.remove(from) {
+            self.files.insert(String::from_str(alloc, to)?, file)?;
+        }
+        Ok(())
+    }
+
+    fn remove(&mut self, alloc: Global, name: &str) -> Result<(), AllocError>
+        ensures { OnOk result ((disk : Disk) → IsTablesOf disk self.old → IsTablesOf (removed name.now disk) self.new) }
+    {
+        self.unsettle(alloc, name)?;
+        self.files.remove(name);
+        Ok(())
+    }
+
+    /// Crashes: an odd choice leaves each name as it was when the names were synced, and half of the
+    /// choice is how many bytes of each file stay that aren't on the disk.
+    fn crash(&mut self, alloc: Global, choice: u32) -> Result<(), AllocError>
+        ensures { OnOk result ((disk : Disk) → IsTablesOf disk self.old → IsTablesOf (crashed choice disk) self.new) }
+    {
+        self.leave_names(choice)?;
+        self.before.clear();
+        let files = mem::replace(&mut self.files, Files::new(alloc));
+        self.files = files.kept(alloc, (choice / 2) as usize)?;
+        Ok(())
+    }
+
+    /// Makes each name what a crash leaves.
+    fn leave_names(&mut self, choice: u32) -> Result<(), AllocError>
+        ensures { OnOk result ((disk : Disk) → IsTablesOf disk self.old → self.new.files ≡ names_left choice disk) }
+    {
+        if choice % 2 == 1 {
+            return self.undo();
+        }
+        Ok(())
+    }
+
+    /// Makes each name what it was when the names were synced.
+    fn undo(&mut self) -> Result<(), AllocError>
+        ensures { OnOk result ((disk : Disk) → IsTablesOf disk self.old → self.new.files ≡ first_names disk) }
+    {
+        while let Some(Before { name, file }) = self.before.pop() {
+            self.files.settle(name, file)?;
+        }
+        Ok(())
+    }
+}

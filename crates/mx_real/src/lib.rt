@@ -1,0 +1,14 @@
+//! The outside by std: readers, writers and the files of a folder.
+#![tactic(auto)]
+
+mod folder;
+mod open_fault;
+mod open_folder;
+mod streams;
+
+pub use folder::FolderDir;
+pub use open_fault::OpenFault;
+pub use streams::{ReaderSource, WriterSink};
+
+#[cfg(test)]
+mod tests;
