@@ -5,3 +5,11 @@ pub mod Heads
 pub mod Laws
 pub mod Measured
 pub mod Shown
+pub mod NumberLaws
+pub mod Options
+pub mod ReaderLaws
+pub mod PieceLaws
+pub mod UnsignedLaws
+pub mod SpellingLaws
+pub mod FrontLaws
+pub mod ContainerLaws

@@ -2,3 +2,5 @@ pub mod Grammar
 pub mod Reading
 pub mod Steps
 pub mod View
+pub mod Readers
+pub mod Spelling

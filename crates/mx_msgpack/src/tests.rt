@@ -86,3 +86,31 @@ fn owns(rt: HostRuntime) -> Result<(), Fail> {
     }
     Ok(())
 }
+
+#[test]
+fn writes(rt: HostRuntime) -> Result<(), Fail> {
+    let table: [(u64, &[u8]); 10] = [
+        (0, &[0x00]),
+        (127, &[0x7f]),
+        (128, &[0xcc, 0x80]),
+        (255, &[0xcc, 0xff]),
+        (256, &[0xcd, 0x01, 0x00]),
+        (65535, &[0xcd, 0xff, 0xff]),
+        (65536, &[0xce, 0x00, 0x01, 0x00, 0x00]),
+        (0xffff_ffff, &[0xce, 0xff, 0xff, 0xff, 0xff]),
+        (0x1_0000_0000, &[0xcf, 0, 0, 0, 1, 0, 0, 0, 0]),
+        (
+            u64::MAX,
+            &[0xcf, 0xff, 0xff, 0xff, 0xff, 0xff, 0xff, 0xff, 0xff],
+        ),
+    ];
+    for (number, spelled) in table {
+        let mut out = Bytes::from_slice(rt.alloc(), &[0x2a])?;
+        write_unsigned(number, &mut out)?;
+        let (before, written) = out.as_slice().split_at(1);
+        assert_eq!(rt; before, [0x2a].as_slice());
+        assert_eq!(rt; written, spelled, "of {number}");
+        assert_eq!(rt; unsigned_at(written), Some((number, [].as_slice())));
+    }
+    Ok(())
+}

@@ -1,0 +1,30 @@
+-- Steps that may find nothing, and the steps after them.
+use Rattle.std.proofs.Common.{◌≡◌, Bool, true, false, cond, Option, Some, None, refl}
+use Rattle.std.specs.Prelude.{MatchBool}
+use Rattle.mx_msgpack.specs.Readers.{◌>>=◌}
+
+-- what a step found, where the steps after it found something
+pub bind_some : {A B : Type 0} (o : Option A) (f : A → Option B) (y : B) → (o >>= f) ≡ Some y → (x : A) × (o ≡ Some x) × (f x ≡ Some y)
+bind_some None f y e = absurd cc
+bind_some (Some x) f y e = (x, refl, e)
+
+-- a test that lets nothing pass where it holds
+pub passed : {A : Type 0} (b : Bool) (o : Option A) (y : A) → cond b None o ≡ Some y → (b ≡ false) × (o ≡ Some y)
+passed true o y e = absurd cc
+passed false o y e = (refl, e)
+
+-- a test that lets nothing pass where it fails
+pub allowed : {A : Type 0} (b : Bool) (o : Option A) (y : A) → cond b o None ≡ Some y → (b ≡ true) × (o ≡ Some y)
+allowed true o y e = (refl, e)
+allowed false o y e = absurd cc
+
+abbrev some : {A : Type 0} → A → Option A
+some x = Some x
+
+pub same_some : {A : Type 0} (x y : A) → some x ≡ some y → x ≡ y
+same_some x y e = cc
+
+-- the fact of a test that holds
+pub when_true : (b : Bool) (P Q : Type 0) → b ≡ true → MatchBool b P Q → P
+when_true true P Q e h = h
+when_true false P Q e h = absurd cc
