@@ -1,3 +1,7 @@
 pub mod Blocks
 pub mod Checksums
+pub mod HeaderParts
+pub mod Headers
 pub mod Heads
+pub mod Lines
+pub mod Reading

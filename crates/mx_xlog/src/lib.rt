@@ -1,11 +1,18 @@
-//! The files of journals and snapshots: blocks of rows, each with its checksum, and the marker at the end.
+//! The files of journals and snapshots: their headers, blocks of rows, each with its checksum, and the marker at the end.
 #![tactic(auto)]
 
 mod block;
 mod crc;
+mod head;
+mod header;
+mod lines;
+mod reading;
 
 pub use block::{Block, read_block, write_block, write_end};
 pub use crc::checksum;
+pub use head::Head;
+pub use header::write_header;
+pub use reading::{HeadFault, read_header};
 
 #[cfg(test)]
 mod tests;
