@@ -1,4 +1,14 @@
 pub mod StateLaws
 pub mod HistoryLaws
-pub mod NumberLaws
 pub mod SlowLaws
+pub mod StoredLaws
+pub mod NameLaws
+pub mod DirectoryLaws
+pub mod GrowthLaws
+pub mod WalkLaws
+pub mod BeginLaws
+pub mod PairLaws
+pub mod RowLaws
+pub mod TransactionLaws
+pub mod CommitLaws
+pub mod BlockLaws

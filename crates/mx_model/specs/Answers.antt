@@ -6,14 +6,13 @@ use Rattle.mx_model.specs.declared.refusal.Refusal.TheVariants.{SpaceMissing}
 use Rattle.mx_model.specs.Keys.{key_in}
 use Rattle.mx_model.specs.State as state
 use Rattle.mx_model.specs.State.{State}
+pub use Rattle.mx_model.specs.declared.row.Row.{Row}
+pub use Rattle.mx_model.specs.declared.row.Row.TheVariants.{Replaced}
 use Rattle.mx_model.specs.declared.reply.Reply.{Reply}
 use Rattle.mx_model.specs.declared.reply.Reply.TheVariants.{Tuples, Refused}
 use Rattle.mx_model.specs.Requests.{Request, Select, Replace}
 
--- what a statement leaves in the journal
-pub data Row : Type 0 where
-  Replaced : (space : ℕ) (tuple : List ℕ) → Row
-
+-- a reply, and what the statement leaves in the journal
 pub record Answer : Type 0 where
   pub reply : Reply
   pub row : Option Row

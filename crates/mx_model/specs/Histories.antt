@@ -1,108 +1,189 @@
 -- Histories: the steps that a database made since it was opened, and which histories are legal.
-use Rattle.std.specs.Prelude.{◌≡◌, ◌⊎◌, Bool, true, false, List, [], ◌∷◌, ◌++◌, Option, Some, None}
-use Rattle.mx_model.specs.declared.refusal.Refusal.TheVariants.{OutOfMemory, SpaceMissing, UnknownRequestType}
+use Rattle.std.specs.Prelude.{◌≡◌, ◌⊎◌, ⊤, ℕ, suc, Bool, true, false, not, ◌&&◌, List, [], ◌∷◌, ◌++◌, length, drop, max, slice_index, Option, Some, None, nat_lt, ◌==◌, if◌then◌else◌}
+use Rattle.std.specs.List.{Contains}
+use Rattle.mx_vclock.specs.Vclocks.{most_lsn}
+use Rattle.mx_model.specs.declared.refusal.Refusal.{Refusal}
+use Rattle.mx_model.specs.declared.refusal.Refusal.TheVariants.{OutOfMemory, ReadOnly, SpaceMissing, UnknownRequestType, LsnsUsedUp}
 use Rattle.mx_model.specs.declared.txn_name.TxnName.{TxnName}
+use Rattle.mx_model.specs.declared.ids.Ids.{Ids}
+use Rattle.mx_model.specs.declared.row.Row.{Row}
+use Rattle.mx_model.specs.declared.tx.Tx.{Tx}
 use Rattle.mx_model.specs.State.{State}
 use Rattle.mx_model.specs.declared.reply.Reply.{Reply}
 use Rattle.mx_model.specs.declared.reply.Reply.TheVariants.{Tuples, Refused}
-use Rattle.mx_model.specs.Requests.{Ask, Asks, RefusedAsk}
-use Rattle.mx_model.specs.Answers.{Row, answer_to, state_after_rows}
+use Rattle.mx_model.specs.Requests.{Request, Select, Replace, Ask, Asks, RefusedAsk}
+use Rattle.mx_model.specs.Answers.{Answer, answer_to}
+use Rattle.mx_model.specs.Transactions.{state_after, clock_after}
+use Rattle.mx_model.specs.Rows.{IsRequest}
 
--- one step: who asked what, and what the reply was
+-- what a database was when it was opened: its state, its vclock, and who it is
+pub record Base : Type 0 where
+  pub state : State
+  pub clock : List ℕ
+  pub ids : Ids
+
+-- One step: who asked what, and what the reply was; a connection that left; transactions that were taken to be written,
+-- with the number of steps before; and word that all commits among so many steps are on the disk.
 pub data Entry : Type 0 where
   Asked : TxnName → Ask → Reply → Entry
+  Left : (connection : ℕ) → Entry
+  Took : (transactions : List Tx) (upto : ℕ) → Entry
+  Confirmed : (upto : ℕ) → Entry
 
 -- the newest entry first
 abbrev pub History : Type 0
 History = List Entry
 
--- the rows of one commit
-pub record Transaction : Type 0 where
-  pub rows : List Row
-
--- the state after the transactions of a journal, the first of them first
-abbrev pub state_after : State → List Transaction → State
-state_after base [] = base
-state_after base (transaction ∷ others) = state_after (state_after_rows base transaction.rows) others
-
 -- what a history has come to
 pub record Ledger : Type 0 where
   -- the transactions that were committed, the first of them first
-  pub journal : List Transaction
+  pub journal : List Tx
+  -- how many of them were taken to be written
+  pub taken : ℕ
+  -- the number of steps before each take, the newest first
+  pub takes : List ℕ
+  -- among how many steps all commits are on the disk
+  pub durable : ℕ
 
 -- the reply says that memory was missing; such a step counts as not asked
 abbrev pub is_want_of_memory : Reply → Bool
 is_want_of_memory (Tuples tuples) = false
 is_want_of_memory (Refused OutOfMemory) = true
+is_want_of_memory (Refused (ReadOnly writable)) = false
 is_want_of_memory (Refused (SpaceMissing space)) = false
 is_want_of_memory (Refused (UnknownRequestType kind)) = false
+is_want_of_memory (Refused LsnsUsedUp) = false
+
+-- the replica id of the node that may be written
+abbrev pub writable_node : ℕ
+writable_node = 1
+
+abbrev pub is_write : Request → Bool
+is_write (Select space limit key) = false
+is_write (Replace space tuple) = true
+
+abbrev pub refused : Refusal → Answer
+refused refusal = record { reply = Refused refusal; row = None }
+
+-- an answer that leaves a row needs an lsn for it
+abbrev pub numbered : (lsn : ℕ) → Answer → Option Row → Answer
+numbered lsn answer None = answer
+numbered lsn answer (Some row) = if nat_lt most_lsn lsn then refused LsnsUsedUp else answer
+
+-- the statement's answer on a node with these identifiers, whose next lsn is this one
+abbrev pub node_answer : Ids → State → (lsn : ℕ) → Request → Answer
+node_answer ids before lsn request =
+    if is_write request && not (ids.me == writable_node) then refused (ReadOnly writable_node)
+    else numbered lsn (answer_to before request) (answer_to before request).row
+
+-- the state and the vclock that a ledger leaves, and the node's next lsn
+abbrev pub state_in : Base → Ledger → State
+state_in base ledger = state_after base.state ledger.journal
+
+abbrev pub clock_in : Base → Ledger → List ℕ
+clock_in base ledger = clock_after base.clock ledger.journal
+
+abbrev pub next_lsn : Base → Ledger → ℕ
+next_lsn base ledger = suc (slice_index (clock_in base ledger) base.ids.me)
+
+-- what a request is answered after this ledger
+abbrev pub answer_in : Base → Ledger → Request → Answer
+answer_in base ledger request = node_answer base.ids (state_in base ledger) (next_lsn base ledger) request
 
 -- a commit of one row, where the statement left one and memory was there
-abbrev pub committed : Bool → Option Row → List Transaction
-committed true row = []
-committed false None = []
-committed false (Some row) = record { rows = row ∷ [] } ∷ []
+abbrev pub committed : (replica lsn : ℕ) → Bool → Option Row → List Tx
+committed replica lsn true row = []
+committed replica lsn false None = []
+committed replica lsn false (Some row) = record { replica = replica; first = lsn; rows = row ∷ [] } ∷ []
 
 -- the journal's part of one step
-abbrev pub commits_of : State → Ask → Reply → List Transaction
-commits_of before (RefusedAsk refusal) reply = []
-commits_of before (Asks request) reply = committed (is_want_of_memory reply) (answer_to before request).row
+abbrev pub commits_of : Base → Ledger → Ask → Reply → List Tx
+commits_of base ledger (RefusedAsk refusal) reply = []
+commits_of base ledger (Asks request) reply =
+    committed base.ids.me (next_lsn base ledger) (is_want_of_memory reply) (answer_in base ledger request).row
 
-abbrev pub ledger_after : State → Ledger → Entry → Ledger
-ledger_after base ledger (Asked name ask reply) =
-    record { journal = ledger.journal ++ commits_of (state_after base ledger.journal) ask reply }
+abbrev pub ledger_after : Base → Ledger → Entry → Ledger
+ledger_after base ledger (Asked name ask reply) = record ledger { journal = ledger.journal ++ commits_of base ledger ask reply }
+ledger_after base ledger (Left connection) = ledger
+ledger_after base ledger (Took transactions upto) = record ledger { taken = length ledger.journal; takes = upto ∷ ledger.takes }
+ledger_after base ledger (Confirmed upto) = record ledger { durable = max ledger.durable upto }
 
--- what a history has come to, from the base state
-abbrev pub ledger_of : State → History → Ledger
-ledger_of base [] = record { journal = [] }
+-- what a history has come to, from the base
+abbrev pub ledger_of : Base → History → Ledger
+ledger_of base [] = record { journal = []; taken = 0; takes = []; durable = 0 }
 ledger_of base (entry ∷ earlier) = ledger_after base (ledger_of base earlier) entry
 
--- the state that a history leaves
-abbrev pub state_of : State → History → State
-state_of base history = state_after base (ledger_of base history).journal
+-- the transactions that a history committed
+abbrev pub journal_of : Base → History → List Tx
+journal_of base history = (ledger_of base history).journal
 
--- the reply that the state before demands; a request that was refused beforehand is told so
-abbrev pub reply_to : State → Ask → Reply
-reply_to before (RefusedAsk refusal) = Refused refusal
-reply_to before (Asks request) = (answer_to before request).reply
+-- the state that a history leaves, and its vclock
+abbrev pub state_of : Base → History → State
+state_of base history = state_in base (ledger_of base history)
 
--- the reply is the one that the state before demands, or to a request that memory was missing
-abbrev pub IsReply : State → Ask → Reply → Type 0
-IsReply before (RefusedAsk refusal) reply = reply ≡ Refused refusal
-IsReply before (Asks request) reply = (reply ≡ (answer_to before request).reply) ⊎ (reply ≡ Refused OutOfMemory)
+abbrev pub clock_of : Base → History → List ℕ
+clock_of base history = clock_in base (ledger_of base history)
 
--- the entry is what the history before it demands
-abbrev pub Follows : State → Ledger → Entry → Type 0
-Follows base ledger (Asked name ask reply) = IsReply (state_after base ledger.journal) ask reply
+-- the reply that the ledger demands; a request that was refused beforehand is told so
+abbrev pub reply_to : Base → Ledger → Ask → Reply
+reply_to base ledger (RefusedAsk refusal) = Refused refusal
+reply_to base ledger (Asks request) = (answer_in base ledger request).reply
+
+-- the request can be asked, and the reply is the one that the ledger demands, or to a request that memory was missing
+abbrev pub IsReply : Base → Ledger → Ask → Reply → Type 0
+IsReply base ledger (RefusedAsk refusal) reply = reply ≡ Refused refusal
+IsReply base ledger (Asks request) reply =
+    IsRequest request × ((reply ≡ (answer_in base ledger request).reply) ⊎ (reply ≡ Refused OutOfMemory))
+
+-- The entry is what the history before it, of so many steps, demands: a take has what no earlier one took, and a
+-- confirmation names an earlier take.
+abbrev pub Follows : Base → Ledger → (steps : ℕ) → Entry → Type 0
+Follows base ledger steps (Asked name ask reply) = IsReply base ledger ask reply
+Follows base ledger steps (Left connection) = ⊤
+Follows base ledger steps (Took transactions upto) = (transactions ≡ drop ledger.taken ledger.journal) × (upto ≡ steps)
+Follows base ledger steps (Confirmed upto) = Contains ledger.takes upto
 
 -- each entry is what the entries before it demand
-abbrev pub IsLegal : State → History → Type 0
+abbrev pub IsLegal : Base → History → Type 0
 IsLegal base [] = Unit {0}
-IsLegal base (entry ∷ earlier) = IsLegal base earlier × Follows base (ledger_of base earlier) entry
+IsLegal base (entry ∷ earlier) = IsLegal base earlier × Follows base (ledger_of base earlier) (length earlier) entry
 
-abbrev pub asked_in : Entry → TxnName × Ask
-asked_in (Asked name ask reply) = (name, ask)
-
-abbrev pub told_in : Entry → Reply
-told_in (Asked name ask reply) = reply
+abbrev pub asked_in : Entry → List (TxnName × Ask)
+asked_in (Asked name ask reply) = (name, ask) ∷ []
+asked_in (Left connection) = []
+asked_in (Took transactions upto) = []
+asked_in (Confirmed upto) = []
 
 -- who asked what, the first of it first
 abbrev pub asks_in : History → List (TxnName × Ask)
 asks_in [] = []
-asks_in (entry ∷ earlier) = asks_in earlier ++ asked_in entry ∷ []
+asks_in (entry ∷ earlier) = asks_in earlier ++ asked_in entry
 
--- the replies, the first of them first
-abbrev pub replies_in : History → List Reply
-replies_in [] = []
-replies_in (entry ∷ earlier) = replies_in earlier ++ told_in entry ∷ []
+-- the step wasn't told that memory was missing
+abbrev pub HadMemory : Entry → Type 0
+HadMemory (Asked name ask reply) = is_want_of_memory reply ≡ false
+HadMemory (Left connection) = ⊤
+HadMemory (Took transactions upto) = ⊤
+HadMemory (Confirmed upto) = ⊤
 
 -- no step was told that memory was missing
 abbrev pub HasMemory : History → Type 0
 HasMemory [] = Unit {0}
-HasMemory (entry ∷ earlier) = HasMemory earlier × (is_want_of_memory (told_in entry) ≡ false)
+HasMemory (entry ∷ earlier) = HasMemory earlier × HadMemory entry
+
+abbrev pub replied_in : Entry → List Entry
+replied_in (Asked name ask reply) = Asked name ask reply ∷ []
+replied_in (Left connection) = []
+replied_in (Took transactions upto) = []
+replied_in (Confirmed upto) = []
+
+-- the steps that have a reply
+abbrev pub replied : History → History
+replied [] = []
+replied (entry ∷ earlier) = replied_in entry ++ replied earlier
 
 -- the history of these asks, each told what the ones before it demand
-abbrev pub history_from : State → History → List (TxnName × Ask) → History
+abbrev pub history_from : Base → History → List (TxnName × Ask) → History
 history_from base earlier [] = earlier
 history_from base earlier (asked ∷ others) =
-    history_from base (Asked asked.0 asked.1 (reply_to (state_of base earlier) asked.1) ∷ earlier) others
+    history_from base (Asked asked.0 asked.1 (reply_to base (ledger_of base earlier) asked.1) ∷ earlier) others

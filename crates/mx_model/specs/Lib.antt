@@ -3,6 +3,10 @@ pub mod Keys
 pub mod State
 pub mod Requests
 pub mod Answers
+pub mod Transactions
+pub mod Rows
+pub mod Files
+pub mod Stored
 pub mod Histories
 pub mod ReplyStream
 pub mod Views

@@ -7,6 +7,11 @@ fn refusals_have_numbers_and_texts(rt: HostRuntime) -> Result<(), Fail> {
     let alloc = rt.alloc();
     let table = [
         (Refusal::OutOfMemory, 2, "Out of memory"),
+        (
+            Refusal::ReadOnly(1),
+            7,
+            "Node is read-only, the writable node is 1",
+        ),
         (Refusal::SpaceMissing(513), 36, "Space 513 does not exist"),
         (Refusal::UnknownRequestType(0), 48, "Unknown request type 0"),
         (
@@ -14,6 +19,7 @@ fn refusals_have_numbers_and_texts(rt: HostRuntime) -> Result<(), Fail> {
             48,
             "Unknown request type 18446744073709551615",
         ),
+        (Refusal::LsnsUsedUp, 208, "Log sequence numbers are used up"),
     ];
     for (refusal, code, text) in table {
         assert_eq!(rt; code_of(&refusal), code, "at {text}");
@@ -87,4 +93,5 @@ fn keys_are_numbers(rt: HostRuntime) {
     );
     assert_eq!(rt; unsigned_in(&[0xcc, 0xff, 0x01]), 255);
     replies_are_determined();
+    commits_are_sound();
 }

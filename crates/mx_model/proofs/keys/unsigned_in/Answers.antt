@@ -5,8 +5,8 @@ use Rattle.std.specs.Result.{OkIff, result_unwrap_or}
 use Rattle.std.proofs.lemmas.Int.{ints, to_z-of_z}
 use Rattle.std.proofs.lemmas.Result.{Ok-from_Ok_iff}
 use Rattle.mx_msgpack.specs.Reading.{reading_of, ShownInt}
+use Rattle.mx_msgpack.proofs.NumberLaws.{number_fits}
 use Rattle.mx_model.specs.Keys.{unsigned_shown}
-use Rattle.mx_model.proofs.NumberLaws.{number_fits}
 use Rattle.mx_model.proofs.keys.unsigned_in.Goals as goal
 
 pub returns-in-Ok-Int-default : goal.returns-in-Ok-Int-default

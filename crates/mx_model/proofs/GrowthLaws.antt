@@ -1,0 +1,158 @@
+-- What a file, a block and a transaction make of what was reached: the sum of the lsns never falls, and where it
+-- stays nothing changed.
+use Rattle.std.proofs.Common.{◌≡◌, ℕ, zero, suc, ◌+◌, ◌-◌, ◌<◌, ◌≤◌, Bool, true, false, ◌&&◌, List, [], ◌∷◌, length, sum, refl, sym, ap, ◌∙◌, subst, arith}
+use Rattle.std.specs.Prelude.{slice_index, Option, Some, None, Result, Ok, if◌then◌else◌}
+use Rattle.std.specs.List.{AllByRecursion}
+use Rattle.std.proofs.lemmas.Bool.{eqb-true, leb-true}
+use Rattle.std.proofs.Math.ListN.{length-set}
+use Rattle.std.proofs.lemmas.List.Sums.{sum_by-set}
+use Rattle.std.proofs.lemmas.List.Elements.{All-set}
+use Rattle.mx_vclock.specs.Vclocks.{IsVclock, most_lsn}
+use Rattle.mx_msgpack.specs.Readers.{first_and_others, some_from, all_from}
+use Rattle.mx_msgpack.proofs.Options.{bind_some, same_some}
+use Rattle.mx_model.specs.declared.tx.Tx.{Tx}
+use Rattle.mx_model.specs.declared.row.Row.{Row}
+use Rattle.mx_model.specs.declared.damage.Damage.{Damage}
+use Rattle.mx_model.specs.Transactions.{last_lsn, clock_after_one}
+use Rattle.mx_model.specs.Rows.{replica_in, row_in, map_at, number_under, only_alone, transaction_at, transactions_in, only_whole, type_key, replica_key, lsn_key}
+use Rattle.mx_model.specs.Files.{Reached, after_transaction, then_all, after_transactions, after_read, after_block, block_reached, after_blocks}
+use Rattle.mx_model.proofs.RowLaws.{transaction_at-replica}
+
+-- a transaction as a journal gives it: one row, of one of the replicas
+pub record IsRead (transaction : Tx) : Type 0 where
+  pub replica : transaction.replica < 32
+  pub row : Row
+  pub rows : transaction.rows ≡ row ∷ []
+
+transaction_at-reads : (bytes : List ℕ) (found : Tx × List ℕ) → transaction_at bytes ≡ Some found → IsRead found.0
+unfolding transaction_at
+transaction_at-reads bytes found is =
+    let header = bind_some (map_at bytes) _ found is in
+    let body = bind_some (map_at header.0.1) _ found header.2 in
+    let kind = bind_some (number_under type_key header.0.0) _ found body.2 in
+    let row = bind_some (row_in kind.0 body.0.0) _ found kind.2 in
+    let id = bind_some (number_under replica_key header.0.0) _ found row.2 in
+    let replica = bind_some (replica_in id.0) _ found id.2 in
+    let lsn = bind_some (number_under lsn_key header.0.0) _ found replica.2 in
+    let alone = bind_some (only_alone header.0.0) _ found lsn.2 in
+    let whole = same_some _ found alone.2 in
+    record {
+      replica = (transaction_at-replica bytes found is).1;
+      row = row.0;
+      rows = sym (ap (λ (f : Tx × List ℕ). f.0.rows) whole);
+    }
+
+abbrev pub AllRead : List Tx → Type 0
+AllRead = AllByRecursion IsRead
+
+-- what was reached only grows
+pub record Grows (before after : Reached) : Type 0 where
+  pub sound : IsVclock after.clock
+  pub ids : after.ids ≡ before.ids
+  pub at_least : sum before.clock ≤ sum after.clock
+  pub same : sum after.clock ≤ sum before.clock → after ≡ before
+
+pub grows_not : (reached : Reached) → IsVclock reached.clock → Grows reached reached
+grows_not reached is = record { sound = is; ids = refl; at_least = omega arith; same = λ below. refl }
+
+pub grows_on : (before between after : Reached) → Grows before between → Grows between after → Grows before after
+grows_on before between after first second = record {
+  sound = second.sound;
+  ids = second.ids ∙ first.ids;
+  at_least = omega (arith, first.at_least, second.at_least);
+  same = λ below. second.same (omega (arith, first.at_least)) ∙ first.same (omega (arith, second.at_least));
+}
+
+some_from-reads : (most : ℕ) (bytes : List ℕ) → AllRead (some_from transaction_at most bytes).0
+some_from-reads zero bytes = tt
+some_from-reads (suc most) bytes = by_found (some_from-reads most) (transaction_at bytes) refl
+  where
+    by_found : ((rest : List ℕ) → AllRead (some_from transaction_at most rest).0) → (o : Option (Tx × List ℕ)) → transaction_at bytes ≡ o
+        → AllRead (first_and_others bytes o (some_from transaction_at most)).0
+    by_found others None is = tt
+    by_found others (Some found) is = (transaction_at-reads bytes found is, others found.1)
+
+all_whole : (found : List Tx × List ℕ) (transactions : List Tx) → AllRead found.0 → only_whole found ≡ Some transactions → AllRead transactions
+all_whole (found, []) transactions all is = subst AllRead (same_some found transactions is) all
+all_whole (found, byte ∷ rest) transactions all is = absurd cc
+
+-- the transactions that a block has
+pub transactions_in-read : (bytes : List ℕ) (transactions : List Tx) → transactions_in bytes ≡ Some transactions → AllRead transactions
+unfolding transactions_in
+transactions_in-read bytes transactions is = all_whole (all_from transaction_at bytes) transactions (some_from-reads (length bytes) bytes) is
+
+-- A transaction.
+
+follows_is : (a b c : Bool) (next reached : Reached) → (if (a && b) && c then Some next else None) ≡ Some reached
+    → (a ≡ true) × (b ≡ true) × (next ≡ reached)
+follows_is true true true next reached is = (refl, refl, same_some next reached is)
+follows_is true true false next reached is = absurd cc
+follows_is true false c next reached is = absurd cc
+follows_is false b c next reached is = absurd cc
+
+pub after_transaction-grows : (transaction : Tx) (before after : Reached) → IsRead transaction → IsVclock before.clock
+    → after_transaction transaction before ≡ Some after → Grows before after
+after_transaction-grows transaction before after read sound is =
+    let f = follows_is _ _ _ _ _ is in
+    let first : transaction.first ≡ suc (slice_index before.clock transaction.replica) = eqb-true _ _ f.0 in
+    let most : last_lsn transaction ≤ most_lsn = leb-true _ _ f.1 in
+    let whole = sound.whole in
+    let low = read.replica in
+    let last : last_lsn transaction ≡ transaction.first = ap (λ (rows : List Row). (transaction.first + length rows) - 1) read.rows ∙ omega arith in
+    let now : List ℕ = clock_after_one before.clock transaction in
+    let sums : sum now + slice_index before.clock transaction.replica ≡ sum before.clock + last_lsn transaction =
+    sum_by-set (λ x. x) before.clock transaction.replica (last_lsn transaction) 0 (omega arith) in
+    let more : sum before.clock < sum (clock_after_one before.clock transaction) = omega arith in
+    subst (Grows before) f.2 (record {
+      sound = record {
+        whole = length-set before.clock transaction.replica (last_lsn transaction) ∙ whole;
+        bounded = All-set (λ lsn. lsn ≤ most_lsn) before.clock transaction.replica (last_lsn transaction) most sound.bounded;
+      };
+      ids = refl;
+      at_least = omega arith;
+      same = λ below. absurd (omega arith);
+    })
+
+-- Transactions, blocks.
+
+pub after_transactions-grows : (transactions : List Tx) (before after : Reached) → AllRead transactions → IsVclock before.clock
+    → after_transactions transactions before ≡ Some after → Grows before after
+after_transactions-grows [] before after read sound is = subst (Grows before) (same_some before after is) (grows_not before sound)
+after_transactions-grows (transaction ∷ others) before after read sound is =
+    by_first (λ next sound. after_transactions-grows others next after read.1 sound) (after_transaction transaction before) refl is
+  where
+    by_first : ((next : Reached) → IsVclock next.clock → after_transactions others next ≡ Some after → Grows next after) → (o : Option Reached)
+        → after_transaction transaction before ≡ o → then_all (after_transactions others) o ≡ Some after → Grows before after
+    by_first rest None step is = absurd cc
+    by_first rest (Some next) step is =
+        let first = after_transaction-grows transaction before next read.0 sound step in
+        grows_on before next after first (rest next first.sound is)
+
+pub after_block-grows : (bytes : List ℕ) (before after : Reached) → IsVclock before.clock → after_block bytes before ≡ Some after → Grows before after
+unfolding after_block
+after_block-grows bytes before after sound is = by_read (transactions_in bytes) refl is
+  where
+    by_read : (o : Option (List Tx)) → transactions_in bytes ≡ o → after_read o before ≡ Some after → Grows before after
+    by_read None read is = absurd cc
+    by_read (Some transactions) read is = after_transactions-grows transactions before after (transactions_in-read bytes transactions read) sound is
+
+abbrev ok : Reached → Result Reached Damage
+ok reached = Ok reached
+
+pub same_ok : (one other : Reached) → ok one ≡ ok other → one ≡ other
+same_ok one other is = cc
+
+pub after_blocks-grows : (name : List ℕ) (at : ℕ) (blocks : List (List ℕ)) (before after : Reached) → IsVclock before.clock
+    → after_blocks name at blocks before ≡ Ok after → Grows before after
+after_blocks-grows name at [] before after sound is = subst (Grows before) (same_ok before after is) (grows_not before sound)
+after_blocks-grows name at (bytes ∷ blocks) before after sound is =
+    let later = (at + 19) + length bytes in
+    by_block later (λ next sound. after_blocks-grows name later blocks next after sound) (after_block bytes before) refl is
+  where
+    by_block : (later : ℕ) → ((next : Reached) → IsVclock next.clock → after_blocks name later blocks next ≡ Ok after → Grows next after)
+        → (o : Option Reached) → after_block bytes before ≡ o
+        → block_reached name at (after_blocks name later blocks) o ≡ Ok after → Grows before after
+    by_block later rest None step is = absurd cc
+    by_block later rest (Some next) step is =
+        let first = after_block-grows bytes before next sound step in
+        grows_on before next after first (rest next first.sound is)

@@ -1,0 +1,14 @@
+//! Who a node is.
+
+use uuid::Uuid;
+
+/// The identifiers of a node.
+#[derive(Clone, Copy, Debug, Drop)]
+pub struct Ids {
+    /// Its replica id, from 0 to 31.
+    pub me: u8,
+    /// Its own identifier.
+    pub instance: Uuid,
+    /// The identifier of its replica set.
+    pub set: Uuid,
+}
