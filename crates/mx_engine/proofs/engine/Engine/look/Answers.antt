@@ -1,0 +1,5 @@
+use Rattle.mx_engine.proofs.EngineLaws.{stands_refused}
+use Rattle.mx_engine.proofs.engine.Engine.look.Goals as goal
+
+pub returns : goal.returns
+returns c = stands_refused c.args.self.now

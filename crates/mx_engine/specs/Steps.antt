@@ -1,0 +1,52 @@
+-- What a step leaves an engine with.
+use Rattle.std.specs.Prelude.{◌≡◌, ◌⊎◌, ℕ, suc, List, [], ◌∷◌, ◌++◌, slice_index}
+use Rattle.mx_model.specs.declared.refusal.Refusal.TheVariants.{OutOfMemory}
+use Rattle.mx_model.specs.declared.reply.Reply.{Reply}
+use Rattle.mx_model.specs.declared.reply.Reply.TheVariants.{Refused}
+use Rattle.mx_model.specs.declared.row.Row.TheVariants.{Replaced}
+use Rattle.mx_model.specs.declared.tx.Tx.{Tx}
+use Rattle.mx_model.specs.State.{State, test_space}
+use Rattle.mx_model.specs.Stored.{Holds}
+use Rattle.mx_model.specs.Requests.{Request}
+use Rattle.mx_model.specs.Answers.{Answer}
+use Rattle.mx_model.specs.Transactions.{state_after, clock_after}
+use Rattle.mx_model.specs.Histories.{node_answer, committed, writable_node, is_want_of_memory}
+use Rattle.mx_engine.specs.declared.engine.Engine.{Engine}
+
+-- the reply is this answer's, or memory was missing
+abbrev pub IsTold : Reply → Answer → Type 0
+IsTold reply answer = (reply ≡ answer.reply) ⊎ (reply ≡ Refused OutOfMemory)
+
+-- who the node is, how many steps there were and which of them are on the disk is as it was
+pub record Keeps (old new : Engine) : Type 0 where
+  pub ids : new.ids ≡ old.ids
+  pub count : new.count ≡ old.count
+  pub durable : new.durable ≡ old.durable
+
+-- the state has what these transactions changed, and they wait behind the others
+pub record Stores (old new : Engine) (state : State) (transactions : List Tx) : Type 0 where
+  pub holds : Holds new.state (state_after state transactions)
+  pub pending : new.pending ≡ old.pending ++ transactions
+
+-- the transaction that puts a tuple in its place
+abbrev pub transaction_of : (lsn : ℕ) → List ℕ → Tx
+transaction_of lsn tuple = record { replica = writable_node; first = lsn; rows = Replaced test_space tuple ∷ [] }
+
+-- the node's next lsn
+abbrev pub lsn_after : Engine → ℕ
+lsn_after engine = suc (slice_index engine.clock engine.ids.me)
+
+-- what the engine is to answer on this state
+abbrev pub answer_by : Engine → State → Request → Answer
+answer_by engine state request = node_answer engine.ids state (lsn_after engine) request
+
+-- what the engine commits on this state, where it told this
+abbrev pub commits_by : Engine → State → Request → Reply → List Tx
+commits_by engine state request reply =
+    committed engine.ids.me (lsn_after engine) (is_want_of_memory reply) (answer_by engine state request).row
+
+-- the request was told its answer, and what that commits is stored; or memory was missing, and nothing is
+pub record Answers (old new : Engine) (state : State) (request : Request) (reply : Reply) : Type 0 where
+  pub told : IsTold reply (answer_by old state request)
+  pub stores : Stores old new state (commits_by old state request reply)
+  pub clock : new.clock ≡ clock_after old.clock (commits_by old state request reply)

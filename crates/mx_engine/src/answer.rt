@@ -1,0 +1,10 @@
+//! What a request is answered.
+
+use mx_msgpack::Tuples;
+
+/// The answer to a request that isn't refused.
+#[derive(Debug, Drop)]
+pub enum Answer {
+    /// The tuples that were found, or the one that was put in its place.
+    Tuples(Tuples),
+}

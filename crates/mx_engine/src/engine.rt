@@ -1,0 +1,262 @@
+//! The engine.
+
+ghost use Rattle.std.specs.Prelude.{◌≡◌, ◌<◌, ◌-◌, ◌^◌, ◌∷◌, [], ℕ, suc, pos, length, take, slice_index, slice_set, IfOk, MatchOption, MatchResult};
+ghost use Rattle.mx_vclock.specs.Vclocks.{most_lsn, IsNext};
+ghost use Rattle.std.specs.List.{Contains};
+ghost use Rattle.std.specs.Option.{option_to_list, option_copied};
+ghost use Rattle.mx_model.specs.Keys.{Integer, key_in};
+ghost use Rattle.mx_model.specs.State as plain;
+ghost use Rattle.mx_model.specs.Stored.{Holds, stored};
+ghost use Rattle.mx_model.specs.declared.refusal.Refusal.{Refusal};
+ghost use Rattle.mx_model.specs.declared.reply.Reply.TheVariants.{Refused};
+ghost use Rattle.mx_model.specs.Requests.{Asks, RefusedAsk, Select, Replace};
+ghost use Rattle.mx_model.specs.Answers.{answer_to};
+ghost use Rattle.mx_model.specs.Rows.{IsRequest};
+ghost use Rattle.mx_model.specs.Views.{request_view};
+ghost use Rattle.mx_model.specs.Histories.{Base, History, Asked, Took, Confirmed, ledger_of, clock_of};
+ghost use Rattle.mx_engine.specs.Standing.{EngineStandsFor};
+ghost use Rattle.mx_engine.specs.Steps as steps;
+ghost use Rattle.mx_engine.specs.Steps.{IsTold, Keeps, Stores, Answers};
+ghost use Rattle.mx_engine.specs.Views.{reply_view};
+
+use crate::answer::Answer;
+use crate::pending::Pending;
+use mx_model::{Ids, Refusal, Request, Row, Rows, State, TEST_SPACE, Tx, TxnName, Txs, key_of};
+use mx_msgpack::{Bytes, Tuples};
+use mx_vclock::Vclock;
+use std::alloc::{AllocError, Global};
+
+/// The replica id of the node that may be written.
+const WRITABLE_NODE: u8 = 1;
+
+/// A database in memory. Each call that changes it is one step, which the engine counts.
+///
+/// The clauses speak of each history that the engine stands for: after a call it stands for that
+/// history and the step that the call was.
+#[derive(Drop)]
+pub struct Engine {
+    alloc: Global,
+    state: State,
+    clock: Vclock,
+    ids: Ids,
+    pending: Txs,
+    count: u64,
+    durable: u64,
+}
+
+impl Engine {
+    /// An engine that goes on from a state and its vclock, as the node with these identifiers.
+    ///
+    /// # Errors
+    /// Memory ran out.
+    pub fn from_state(
+        alloc: Global,
+        state: State,
+        clock: Vclock,
+        ids: Ids,
+    ) -> Result<Engine, AllocError>
+        ensures { (base : Base) → Holds state base.state → clock ≡ base.clock → ids ≡ base.ids
+            → IfOk result (λ engine. EngineStandsFor engine base []) }
+    {
+        Ok(Engine {
+            alloc,
+            state,
+            clock,
+            ids,
+            pending: Txs::new(alloc),
+            count: 0,
+            durable: 0,
+        })
+    }
+
+    /// Answers a request.
+    ///
+    /// # Errors
+    /// The request is refused, and the state is as it was.
+    pub fn request(&mut self, _name: TxnName, request: &Request<'_>) -> Result<Answer, Refusal>
+        requires { self.old.count < 2 ^ 63 - 1 }
+        ensures { (base : Base) (history : History) → EngineStandsFor self.old base history → IsRequest (request_view request.now)
+            → EngineStandsFor self.new base (Asked _name (Asks (request_view request.now)) (reply_view result) ∷ history) }
+    {
+        self.count += 1;
+        match *request {
+            Request::Select { space, limit, key } => self.select(space, limit, key),
+            Request::Replace { space, tuple } => self.replace(space, tuple),
+        }
+    }
+
+    /// Counts a step that changes nothing: a request that was refused before it came here.
+    pub fn look(&mut self)
+        requires { self.old.count < 2 ^ 63 - 1 }
+        ensures { (base : Base) (history : History) (name : TxnName) (refusal : Refusal) → EngineStandsFor self.old base history
+            → EngineStandsFor self.new base (Asked name (RefusedAsk refusal) (Refused refusal) ∷ history) }
+    {
+        // The refusal itself was told elsewhere.
+        self.count += 1;
+    }
+
+    /// Hands out the commits that weren't taken before, to be written.
+    pub fn take_pending(&mut self) -> Pending
+        requires { self.old.count < 2 ^ 63 - 1 }
+        ensures { (base : Base) (history : History) → EngineStandsFor self.old base history
+            → EngineStandsFor self.new base (Took result.txs result.upto ∷ history) }
+    {
+        let upto = self.count;
+        self.count += 1;
+        Pending {
+            txs: self.pending.take(),
+            upto,
+        }
+    }
+
+    /// Takes word that all commits among the first `upto` steps are on the disk; that many steps
+    /// there were when some commits were taken.
+    pub fn confirm(&mut self, upto: u64)
+        requires { self.old.count < 2 ^ 63 - 1 }
+        ensures { (base : Base) (history : History) → EngineStandsFor self.old base history → Contains (ledger_of base history).takes upto
+            → EngineStandsFor self.new base (Confirmed upto ∷ history) }
+    {
+        self.count += 1;
+        self.durable = self.durable.max(upto);
+    }
+
+    /// Among how many steps all commits are on the disk.
+    pub fn durable(&self) -> u64
+        ensures { (base : Base) (history : History) → EngineStandsFor self.now base history → result ≡ (ledger_of base history).durable }
+    {
+        self.durable
+    }
+
+    /// How many steps there were.
+    pub fn count(&self) -> u64
+        ensures value { result ≡ self.now.count }
+        ensures steps { (base : Base) (history : History) → EngineStandsFor self.now base history → result ≡ length history }
+    {
+        self.count
+    }
+
+    /// How far the commits have come.
+    pub fn clock(&self) -> Vclock
+        ensures { (base : Base) (history : History) → EngineStandsFor self.now base history → result ≡ clock_of base history }
+    {
+        self.clock
+    }
+
+    /// Who the node is.
+    pub fn ids(&self) -> &Ids
+        ensures { (base : Base) (history : History) → EngineStandsFor self.now base history → result.now ≡ base.ids }
+    {
+        &self.ids
+    }
+
+    /// The tuple of the key, where the limit allows one.
+    fn select(&self, space: u32, limit: u32, key: &[u8]) -> Result<Answer, Refusal>
+        ensures { (state : plain.State) → Holds self.now.state state → IsTold (reply_view result) (answer_to state (Select space limit key.now)) }
+    {
+        if space != TEST_SPACE {
+            return Err(Refusal::SpaceMissing(space));
+        }
+        match shown(self.alloc, find_within(&self.state, limit, key)) {
+            Ok(tuples) => Ok(Answer::Tuples(tuples)),
+            Err(_) => Err(Refusal::OutOfMemory),
+        }
+    }
+
+    /// Puts the tuple in its place, as a commit, and shows it.
+    fn replace(&mut self, space: u32, tuple: &[u8]) -> Result<Answer, Refusal>
+        ensures answers { (state : plain.State) → Holds self.old.state state → Answers self.old self.new state (Replace space tuple.now) (reply_view result) }
+        ensures keeps { Keeps self.old self.new }
+    {
+        if self.ids.me != WRITABLE_NODE {
+            return Err(Refusal::ReadOnly(WRITABLE_NODE));
+        }
+        if space != TEST_SPACE {
+            return Err(Refusal::SpaceMissing(space));
+        }
+        let mut clock = self.clock;
+        let Some(lsn) = go_on(&mut clock) else {
+            return Err(Refusal::LsnsUsedUp);
+        };
+        match self.commit(lsn, tuple) {
+            Ok(tuples) => {
+                self.clock = clock;
+                Ok(Answer::Tuples(tuples))
+            }
+            Err(_) => Err(Refusal::OutOfMemory),
+        }
+    }
+
+    /// Puts the tuple in its place, and a transaction of it behind those that wait, and shows it.
+    ///
+    /// # Errors
+    /// Memory ran out. Nothing changed then.
+    fn commit(&mut self, lsn: u64, tuple: &[u8]) -> Result<Tuples, AllocError>
+        ensures shown { IfOk result (λ tuples. tuples ≡ tuple.now ∷ []) }
+        ensures stores { (state : plain.State) → Holds self.old.state state → MatchResult result
+            (λ _. Stores self.old self.new state (steps.transaction_of lsn tuple.now ∷ []))
+            (λ _. Stores self.old self.new state []) }
+        ensures clock { self.new.clock ≡ self.old.clock }
+        ensures keeps { Keeps self.old self.new }
+    {
+        let tuples = shown(self.alloc, Some(tuple))?;
+        let transaction = transaction_of(self.alloc, lsn, tuple)?;
+        let stored = Bytes::from_slice(self.alloc, tuple)?;
+        self.pending.push(transaction)?;
+        if let Err(fault) = self.state.replace(key_of(tuple), stored) {
+            self.pending.pop();
+            return Err(fault);
+        }
+        Ok(tuples)
+    }
+}
+
+/// Goes on to the writable node's next lsn, where there is one.
+fn go_on(clock: &mut Vclock) -> Option<u64>
+    ensures { MatchOption result
+        (most_lsn < suc (slice_index clock.old 1))
+        (λ lsn. IsNext clock.old 1 lsn × (clock.new ≡ slice_set clock.old 1 lsn)) }
+{
+    let lsn = clock.get(WRITABLE_NODE).saturating_add(1);
+    match clock.follow(WRITABLE_NODE, lsn) {
+        Ok(()) => Some(lsn),
+        Err(_) => None,
+    }
+}
+
+/// The tuple of the key, where the limit allows one.
+fn find_within<'a>(state: &'a State, limit: u32, key: &[u8]) -> Option<&'a [u8]>
+    ensures { (number : ℕ) → key_in key.now ≡ Integer (pos number) ∷ []
+        → option_to_list (option_copied result) ≡ take limit (option_to_list (stored state.now number)) }
+{
+    if limit == 0 {
+        return None;
+    }
+    state.find(key_of(key))
+}
+
+/// The tuple that was found, by itself.
+fn shown(alloc: Global, found: Option<&[u8]>) -> Result<Tuples, AllocError>
+    ensures { IfOk result (λ tuples. tuples ≡ option_to_list (option_copied found.entry)) }
+{
+    let mut tuples = Tuples::new(alloc);
+    if let Some(tuple) = found {
+        tuples.push(Bytes::from_slice(alloc, tuple)?)?;
+    }
+    Ok(tuples)
+}
+
+/// The transaction that puts the tuple in its place.
+fn transaction_of(alloc: Global, lsn: u64, tuple: &[u8]) -> Result<Tx, AllocError>
+    ensures { IfOk result (λ transaction. transaction ≡ steps.transaction_of lsn tuple.now) }
+{
+    let mut rows = Rows::new(alloc);
+    rows.push(Row::Replaced {
+        space: TEST_SPACE,
+        tuple: Bytes::from_slice(alloc, tuple)?,
+    })?;
+    Ok(Tx {
+        replica: WRITABLE_NODE,
+        first: lsn,
+        rows,
+    })
+}

@@ -1,0 +1,13 @@
+//! The engine: it answers requests on a state, and hands out what they commit.
+#![tactic(auto)]
+
+mod answer;
+mod engine;
+mod pending;
+
+pub use answer::Answer;
+pub use engine::Engine;
+pub use pending::Pending;
+
+#[cfg(test)]
+mod tests;

@@ -1,0 +1,12 @@
+//! Commits that wait to be written.
+
+use mx_model::Txs;
+
+/// The commits that weren't taken before.
+#[derive(Debug, Drop)]
+pub struct Pending {
+    /// The transactions, the first of them first.
+    pub txs: Txs,
+    /// How many steps the engine had made. Once the transactions are on the disk, these steps are confirmed.
+    pub upto: u64,
+}
