@@ -1,0 +1,41 @@
+-- What a transaction more makes of the blocks that wait, and of their vclock.
+use Rattle.std.proofs.Common.{◌≡◌, ℕ, ◌+◌, Bool, true, false, List, [], ◌∷◌, ◌++◌, map, refl, sym, ap, ◌∙◌, arith}
+use Rattle.std.proofs.lemmas.List.{append-nil, map-append, length_push}
+use Rattle.std.proofs.lemmas.List.Folds.{concat-append}
+use Rattle.std.specs.List.{concat}
+use mathlib.Core.Bool.{true≢false}
+use Rattle.mx_xlog.specs.Blocks.{block_of}
+use Rattle.mx_model.specs.declared.tx.Tx.{Tx}
+use Rattle.mx_model.specs.Rows.{transaction_text}
+use Rattle.mx_model.specs.Transactions.{clock_after, clock_after_one}
+use Rattle.mx_model.proofs.HistoryLaws.{clock_after-append}
+use Rattle.mx_journal.specs.declared.journal.Journal.{Journal}
+use Rattle.mx_journal.specs.Written.{Waits, blocks_text}
+
+pub blocks_text-append : (xs ys : List Tx) → blocks_text (xs ++ ys) ≡ blocks_text xs ++ blocks_text ys
+blocks_text-append xs ys =
+    let block = λ (tx : Tx). block_of (transaction_text tx) in
+    ap concat (map-append block xs ys) ∙ concat-append (map block xs) (map block ys)
+
+blocks_text-push : (xs : List Tx) (tx : Tx) → blocks_text (xs ++ tx ∷ []) ≡ blocks_text xs ++ block_of (transaction_text tx)
+blocks_text-push xs tx = blocks_text-append xs (tx ∷ []) ∙ ap (λ bytes. blocks_text xs ++ bytes) (append-nil (block_of (transaction_text tx)))
+
+abbrev is_none : List ℕ → Bool
+is_none [] = true
+is_none (byte ∷ bytes) = false
+
+-- no bytes are the blocks of no transaction
+pub nothing_waits : (xs : List Tx) → [] ≡ blocks_text xs → xs ≡ []
+nothing_waits [] none = refl
+nothing_waits (x ∷ xs) none = absurd (true≢false (ap is_none none))
+
+-- one more waits
+pub waits_pushed : (before after : Journal) (waits : List Tx) (tx : Tx) → Waits before waits
+    → after.waiting ≡ before.waiting ++ block_of (transaction_text tx) → after.next ≡ clock_after_one before.next tx
+    → after.pushed ≡ before.pushed + 1 → after.clock ≡ before.clock → after.synced ≡ before.synced → Waits after (waits ++ tx ∷ [])
+waits_pushed before after waits tx waiting bytes next pushed clock synced = record {
+  bytes = bytes ∙ ap (λ text. text ++ block_of (transaction_text tx)) waiting.bytes ∙ sym (blocks_text-push waits tx);
+  next = next ∙ ap (λ c. clock_after_one c tx) waiting.next ∙ sym (clock_after-append before.clock waits (tx ∷ []))
+      ∙ ap (λ c. clock_after c (waits ++ tx ∷ [])) (sym clock);
+  pushed = let l = length_push waits tx in omega (arith, waiting.pushed);
+}

@@ -1,0 +1,26 @@
+use Rattle.std.proofs.Common.{◌≡◌, ◌++◌, length, string_bytes, refl, ap, ◌∙◌}
+use Rattle.mx_xlog.specs.Headers.{header_of}
+use Rattle.mx_model.specs.Files.{journal_name}
+use Rattle.mx_journal.specs.declared.journal.Journal.{Journal}
+use Rattle.mx_journal.specs.Written.{name_of}
+use Rattle.mx_journal.proofs.WrittenLaws.{begun_now}
+use Rattle.mx_journal.proofs.journal.Journal.create.Goals as goal
+
+pub returns-clause-created : goal.returns-clause-created
+returns-clause-created g c =
+    let named : string_bytes c.in_ok-name.name ≡ name_of c.args.head = c.in_ok-name.ensures ∙ ap journal_name c.signature.ensures in
+    let header : c.write_header.new.out ≡ header_of c.args.head =
+    c.in_ok-write_header.ensures ∙ ap (λ front. front ++ header_of c.args.head) c.new-header.ensures in
+    let journal : Journal = record {
+      head = c.args.head;
+      name = c.in_ok-name.name;
+      clock = c.args.head.clock;
+      length = c.len.result;
+      synced = 0;
+      waiting = c.new.result;
+      next = c.args.head.clock;
+      pushed = 0;
+    } in
+    begun_now journal c.as_str.result.now c.as_slice.result.now (g.D.Dir.states c.args.dir.now) (g.D.Dir.states c.make_file.new.dir)
+    c.requires.fits c.requires.kind named refl (c.len.ensures ∙ ap length header) refl (c.as_str.ensures.value ∙ named) (c.as_slice.ensures ∙ header)
+    c.in_ok-make_file.ensures.made c.requires.newest

@@ -1,0 +1,27 @@
+use Rattle.std.proofs.Common.{◌++◌, sym, ap, ◌∙◌}
+use mathlib.Core.Path.{subst}
+use Rattle.mx_xlog.specs.Blocks.{IsData, block_of}
+use Rattle.mx_model.specs.Rows.{transaction_text}
+use Rattle.mx_journal.proofs.BlockLaws.{waits_pushed}
+use Rattle.mx_journal.proofs.RowLaws.{transaction_fits}
+use Rattle.mx_journal.proofs.WrittenLaws.{pushed_written}
+use Rattle.mx_journal.proofs.journal.Journal.push.Goals as goal
+
+pub write_block-requires : goal.write_block-requires
+write_block-requires c =
+    let rows = c.as_slice.ensures ∙ c.in_ok-write_tx.ensures ∙ ap (λ front. front ++ transaction_text c.args.tx.now) c.new-rows.ensures in
+    subst IsData (sym rows) (transaction_fits c.args.tx.now c.requires.sound)
+
+pub returns-clause-waits : goal.returns-clause-waits
+returns-clause-waits c = λ waits waiting.
+    let rows = c.as_slice.ensures ∙ c.in_ok-write_tx.ensures ∙ ap (λ front. front ++ transaction_text c.args.tx.now) c.new-rows.ensures in
+    let others = c.in_ok-note_pushed.ensures.others in
+    waits_pushed c.args.self.now c.note_pushed.new.self waits c.args.tx.now waiting
+    (others.waiting ∙ c.in_ok-write_block.ensures ∙ ap (λ rows. c.args.self.now.waiting ++ block_of rows) rows)
+    c.in_ok-note_pushed.ensures.next c.in_ok-note_pushed.ensures.pushed others.clock others.synced
+
+pub returns-in_err-note_pushed-clause-written : goal.returns-in_err-note_pushed-clause-written
+returns-in_err-note_pushed-clause-written c = λ disk txs. pushed_written c.args.self.now c.note_pushed.new.self c.write_block.new.out disk txs c.note_pushed.ensures.others
+
+pub returns-clause-written : goal.returns-clause-written
+returns-clause-written c = λ disk txs. pushed_written c.args.self.now c.note_pushed.new.self c.write_block.new.out disk txs c.note_pushed.ensures.others

@@ -1,0 +1,17 @@
+use Rattle.std.proofs.Common.{◌≡◌, ◌+◌, length, ap, ◌∙◌, arith}
+use Rattle.mx_journal.specs.Counting.{caught_up}
+use Rattle.mx_journal.proofs.WrittenLaws.{caught_up_now, wrote_now}
+use Rattle.mx_journal.proofs.journal.Journal.write_out.Goals as goal
+
+pub returns-then-is_empty-clause-written : goal.returns-then-is_empty-clause-written
+returns-then-is_empty-clause-written g c = λ txs waits.
+    caught_up_now c.args.self.now c.note_written.new.self (g.D.Dir.states c.args.dir.now) txs waits c.note_written.ensures.journal (c.is_empty.ensures.0 c.if-is_empty.true)
+
+pub returns-clause-written : goal.returns-clause-written
+returns-clause-written g c = λ txs waits.
+    let long = c.in-Some.length in
+    let sum : long ≡ c.args.self.now.length + length c.args.self.now.waiting = omega (arith, c.in-Some.ensures, c.len.ensures) in
+    wrote_now c.args.self.now c.note_written-2.new.self long c.as_str.result.now c.as_slice.result.now
+    (g.D.Dir.states c.args.dir.now) (g.D.Dir.states c.append_synced.new.dir) txs waits
+    (c.note_written-2.ensures.journal ∙ ap (λ none. caught_up (record c.args.self.now { length = long; waiting = none })) c.new.ensures)
+    sum c.as_str.ensures.value c.as_slice.ensures c.in_ok-append_synced.ensures.made

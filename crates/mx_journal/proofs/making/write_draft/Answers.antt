@@ -1,0 +1,17 @@
+use Rattle.mx_outside.specs.Disks.{created}
+use Rattle.mx_journal.specs.Making.{extended}
+use Rattle.mx_journal.proofs.ToldLaws.{became_changed, then_changed, told_after, told_nothing}
+use Rattle.mx_journal.proofs.DiskLaws.{has, there_created}
+use Rattle.mx_journal.proofs.making.write_draft.Goals as goal
+
+pub append_synced-requires : goal.append_synced-requires
+append_synced-requires g c =
+    let name = c.args.name.now in
+    told_after (created name) (g.D.Dir.states c.args.dir.now) (g.D.Dir.states c.create.new.self) (λ disk. Unit {0}) (has name) c.in_ok-create.ensures.told
+    (became_changed (created name) _ _ c.in_ok-create.ensures.made) (told_nothing _) (there_created name)
+
+pub returns-clause-made : goal.returns-clause-made
+returns-clause-made g c =
+    let name = c.args.name.now in
+    then_changed (created name) (extended name c.args.bytes.now) (g.D.Dir.states c.args.dir.now) (g.D.Dir.states c.create.new.self) (g.D.Dir.states c.append_synced.new.dir)
+    (became_changed (created name) _ _ c.in_ok-create.ensures.made) c.in_ok-append_synced.ensures.made

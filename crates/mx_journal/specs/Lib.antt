@@ -1,0 +1,6 @@
+pub mod Written
+pub mod Fair
+pub mod Counting
+pub mod Faults
+pub mod Making
+pub mod Views

@@ -1,0 +1,188 @@
+//! The journal.
+
+ghost use Rattle.std.specs.Prelude.{◌≡◌, ◌+◌, ◌++◌, ◌∷◌, [], false, true, List, Some, IfOk, OnOk};
+ghost use Rattle.std.specs.FinMap as finite;
+ghost use Rattle.mx_outside.specs.Causes.{HasCauseOf};
+ghost use Rattle.mx_outside.specs.Disks.{Disk, IfTold, ToldAlike, on_disk};
+ghost use Rattle.mx_xlog.specs.Headers.{IsHead};
+ghost use Rattle.mx_xlog.specs.Blocks.{end_marker};
+ghost use Rattle.mx_model.specs.declared.tx.Tx.{Tx};
+ghost use Rattle.mx_model.specs.Rows.{IsTransaction};
+ghost use Rattle.mx_model.specs.Files.{follows};
+ghost use Rattle.mx_model.specs.Transactions.{clock_after_one};
+ghost use Rattle.mx_journal.specs.Counting.{SameButPushed, caught_up};
+ghost use Rattle.mx_journal.specs.declared.fault.JournalFault.TheVariants.{Failed};
+ghost use Rattle.mx_journal.specs.Written.{IsWritten, Waits, IsNow, IsNewest, SameOthers, Created, file_text, name_of};
+
+use crate::fault::JournalFault;
+use crate::making::{append_synced, make_file};
+use crate::names::journal_name;
+use crate::row_writing::write_tx;
+use mx_model::Tx;
+use mx_msgpack::Bytes;
+use mx_outside::Dir;
+use mx_vclock::Vclock;
+use mx_xlog::{Head, write_block, write_end, write_header};
+use std::alloc::{AllocError, Global};
+
+/// A journal that writes to one file of a directory, whose name is the signature of the vclock at
+/// which the file begins. It doesn't own the directory; each call is given it.
+///
+/// Transactions are pushed, and wait until they are written out, each as one block, and synced.
+#[derive(Debug, Drop)]
+pub struct Journal {
+    head: Head,
+    name: String,
+    clock: Vclock,
+    length: u64,
+    synced: u64,
+    waiting: Bytes,
+    next: Vclock,
+    pushed: u64,
+}
+
+impl Journal {
+    /// Begins a journal: a file that has a header and no block. It gets its name once it is on the
+    /// disk, in the place of the file that has this name.
+    ///
+    /// # Errors
+    /// The disk failed, or memory ran out.
+    pub fn create<D: Dir>(alloc: Global, dir: &mut D, head: Head) -> Result<Journal, JournalFault>
+        requires fits { IsHead head }
+        requires kind { head.snapshot ≡ false }
+        requires newest { IfTold (D.states dir.old) (λ disk past. IsNewest (name_of head) disk) }
+        ensures told { ToldAlike (D.states dir.old) (D.states dir.new) }
+        ensures created { IfTold (D.states dir.old) (λ disk past. IfOk result (λ journal.
+            IsNow (D.states dir.new) (λ now. IsWritten journal now [] × Created head disk now))) }
+        ensures begins { IfOk result (λ journal. (journal.head ≡ head) × (journal.clock ≡ head.clock) × Waits journal []) }
+        ensures cause { HasCauseOf Failed (D.faults dir.old) (D.faults dir.new) result }
+    {
+        let name = journal_name(alloc, head.clock.signature())?;
+        let mut header = Bytes::new(alloc);
+        write_header(alloc, &head, &mut header)?;
+        make_file(alloc, dir, name.as_str(), header.as_slice())?;
+        Ok(Journal {
+            head,
+            name,
+            clock: head.clock,
+            length: header.len() as u64,
+            synced: 0,
+            waiting: Bytes::new(alloc),
+            next: head.clock,
+            pushed: 0,
+        })
+    }
+
+    /// Adds a transaction to those that wait. It has the next lsn of its replica.
+    ///
+    /// # Errors
+    /// Memory ran out. The journal is of no use then.
+    pub fn push(&mut self, alloc: Global, tx: &Tx) -> Result<(), AllocError>
+        requires sound { IsTransaction tx.now }
+        requires follows { follows self.old.next tx.now ≡ true }
+        ensures waits { (waits : List Tx) → Waits self.old waits → OnOk result (Waits self.new (waits ++ tx.now ∷ [])) }
+        ensures next { OnOk result (self.new.next ≡ clock_after_one self.old.next tx.now) }
+        ensures written { (disk : Disk) (txs : List Tx) → IsWritten self.old disk txs → IsWritten self.new disk txs }
+        ensures head { self.new.head ≡ self.old.head }
+        ensures clock { self.new.clock ≡ self.old.clock }
+    {
+        let mut rows = Bytes::new(alloc);
+        write_tx(tx, &mut rows)?;
+        write_block(rows.as_slice(), &mut self.waiting)?;
+        self.note_pushed(tx)?;
+        Ok(())
+    }
+
+    /// Counts a transaction that was put behind those that wait.
+    fn note_pushed(&mut self, tx: &Tx) -> Result<(), AllocError>
+        requires sound { IsTransaction tx.now }
+        requires follows { follows self.old.next tx.now ≡ true }
+        ensures next { OnOk result (self.new.next ≡ clock_after_one self.old.next tx.now) }
+        ensures pushed { OnOk result (self.new.pushed ≡ self.old.pushed + 1) }
+        ensures others { SameButPushed self.old self.new }
+    {
+        let Some(pushed) = self.pushed.checked_add(1) else {
+            return Err(AllocError);
+        };
+        let Ok(()) = self.next.follow(tx.replica, tx.first) else {
+            unreachable!();
+        };
+        self.pushed = pushed;
+        Ok(())
+    }
+
+    /// Writes what waits, and syncs it. Says how many transactions the journal has on the disk.
+    ///
+    /// # Errors
+    /// The disk failed, or memory ran out. The journal is of no use then.
+    pub fn write_out<D: Dir>(&mut self, alloc: Global, dir: &mut D) -> Result<u64, JournalFault>
+        requires { IfTold (D.states dir.old) (λ disk past. (txs : List Tx) × IsWritten self.old disk txs) }
+        ensures told { ToldAlike (D.states dir.old) (D.states dir.new) }
+        ensures written { (txs waits : List Tx) → IfTold (D.states dir.old) (λ disk past. IsWritten self.old disk txs → Waits self.old waits
+            → OnOk result (IsNow (D.states dir.new) (λ now. IsWritten self.new now (txs ++ waits) × SameOthers (name_of self.old.head) disk now))) }
+        ensures none { IfOk result (λ count. Waits self.new [] × (count ≡ self.old.pushed) × (self.new.clock ≡ self.old.next)) }
+        ensures head { self.new.head ≡ self.old.head }
+        ensures cause { HasCauseOf Failed (D.faults dir.old) (D.faults dir.new) result }
+    {
+        if self.waiting.is_empty() {
+            return Ok(self.note_written());
+        }
+        let Some(length) = self.length.checked_add(self.waiting.len() as u64) else {
+            return Err(JournalFault::NoMemory);
+        };
+        append_synced(alloc, dir, self.name.as_str(), self.waiting.as_slice())?;
+        self.length = length;
+        self.waiting = Bytes::new(alloc);
+        Ok(self.note_written())
+    }
+
+    /// Notes that all transactions that were pushed are on the disk, and says how many they are.
+    fn note_written(&mut self) -> u64
+        ensures journal { self.new ≡ caught_up self.old }
+        ensures count { result ≡ self.old.pushed }
+    {
+        self.clock = self.next;
+        self.synced = self.pushed;
+        self.synced
+    }
+
+    /// Ends the journal in order: puts the marker of its file's end behind the blocks, and syncs it.
+    ///
+    /// # Errors
+    /// The disk failed, or memory ran out.
+    pub fn end<D: Dir>(self, alloc: Global, dir: &mut D) -> Result<(), JournalFault>
+        requires written { IfTold (D.states dir.old) (λ disk past. (txs : List Tx) × IsWritten self disk txs) }
+        requires none { self.waiting ≡ [] }
+        ensures told { ToldAlike (D.states dir.old) (D.states dir.new) }
+        ensures ended { (txs : List Tx) → IfTold (D.states dir.old) (λ disk past. IsWritten self disk txs
+            → OnOk result (IsNow (D.states dir.new) (λ now. (finite.get now.now (name_of self.head) ≡ Some (on_disk (file_text self.head txs ++ end_marker)))
+            × SameOthers (name_of self.head) disk now))) }
+        ensures cause { HasCauseOf Failed (D.faults dir.old) (D.faults dir.new) result }
+    {
+        let mut marker = Bytes::new(alloc);
+        write_end(&mut marker)?;
+        append_synced(alloc, dir, self.name.as_str(), marker.as_slice())?;
+        Ok(())
+    }
+
+    /// The vclock at which the journal's file begins.
+    pub fn first(&self) -> &Vclock
+        ensures { result.now ≡ self.now.head.clock }
+    {
+        &self.head.clock
+    }
+
+    /// The vclock that the journal's file goes up to.
+    pub fn clock(&self) -> &Vclock
+        ensures { result.now ≡ self.now.clock }
+    {
+        &self.clock
+    }
+
+    /// How many bytes the journal's file has.
+    pub fn length(&self) -> u64
+        ensures { result ≡ self.now.length }
+    {
+        self.length
+    }
+}

@@ -1,0 +1,20 @@
+//! The journal: each commit is written to a file of a directory, and synced.
+#![tactic(auto)]
+
+mod fault;
+mod journal;
+mod making;
+mod maps;
+mod names;
+mod row_reading;
+mod row_writing;
+
+pub use fault::JournalFault;
+pub use journal::Journal;
+pub use names::journal_name;
+pub use row_reading::{TxRef, read_tx};
+
+#[cfg(test)]
+mod row_tests;
+#[cfg(test)]
+mod tests;
