@@ -1,20 +1,14 @@
 -- The head of a unit, and the bytes that it announces.
-use Rattle.std.proofs.Common.{◌≡◌, ℕ, ◌+◌, ◌<◌, ◌≤◌, Bool, true, false, cond, List, [], ◌∷◌, ◌++◌, length, take, drop, Option, Some, None, refl, sym, ap, ◌∙◌, arith, length-append}
-use Rattle.std.proofs.Common.{nat_lt, nat_eq}
-use Rattle.std.specs.Option.{option_map}
+use Rattle.std.proofs.Common.{◌≡◌, ℕ, ◌+◌, ◌<◌, ◌≤◌, Bool, true, false, cond, List, ◌++◌, length, take, drop, Option, Some, None, refl, sym, ap, ◌∙◌, arith, length-append}
+use Rattle.std.proofs.Common.{nat_lt}
 use Rattle.std.specs.Prelude.{◌==◌, ◌⊎◌, IsTrue, if◌then◌else◌}
 use Rattle.std.proofs.Common.{inl, inr}
 use Rattle.std.proofs.lemmas.Bool.{ltb-false, le-ltb, lt-ltb, cases_lt}
 use Rattle.std.proofs.lemmas.List.{take-append-le, drop-append-le, length-drop, drop-drop}
-use Rattle.byteorder.specs.Endian.{big_number}
-use Rattle.mx_top.specs.Readers.{◌>>=◌, after_byte, number_at, bytes_at}
+use Rattle.mx_msgpack.specs.Readers.{◌>>=◌, after_byte, number_at, bytes_at}
+use Rattle.mx_msgpack.proofs.Options.{bind_some, passed, allowed, same_some}
+use Rattle.mx_msgpack.proofs.PieceLaws.{first_byte, number_rest, and_more, after_byte-front, number_at-front, bind_more, bind_rest}
 use Rattle.mx_top.specs.Units.{longest_unit, last_place, unit_head_at, content_at}
-use Rattle.mx_top.proofs.Options.{bind_some, passed, allowed, same_some}
-use Rattle.mx_top.proofs.PacketLaws.{first_byte}
-
--- what a read found, and more bytes after it
-abbrev pub and_more : {X : Type 0} → List ℕ → Option (X × List ℕ) → Option (X × List ℕ)
-and_more more found = option_map (λ x. (x.0, x.1 ++ more)) found
 
 -- a size that passes neither the last place nor the longest unit
 abbrev in_place : ℕ → ℕ × List ℕ → Option (ℕ × List ℕ)
@@ -41,12 +35,6 @@ head_parts place bytes found e =
     let same = same_some c.0 found g.1 in
     (a.0, b.0, a.1, b.1, c.1 ∙ g.1, ap (λ (x : ℕ × List ℕ). nat_lt last_place ((place + 9) + x.0)) (sym same) ∙ g.0)
 
-number_rest : (width : ℕ) (bytes : List ℕ) (found : ℕ × List ℕ) → number_at width bytes ≡ Some found → (found.1 ≡ drop width bytes) × (width ≤ length bytes)
-number_rest width bytes found e =
-    let p = passed (nat_lt (length bytes) width) (Some (big_number width (take width bytes), drop width bytes)) found e in
-    let q = same_some (big_number width (take width bytes), drop width bytes) found p.1 in
-    (sym (ap (λ (x : ℕ × List ℕ). x.1) q), ltb-false (length bytes) width p.0)
-
 -- the bytes after a head are those after nine, and the unit ends within the last place
 pub head_rest : (place : ℕ) (bytes : List ℕ) (found : ℕ × List ℕ) → unit_head_at place bytes ≡ Some found
     → (found.1 ≡ drop 9 bytes) × (9 ≤ length bytes) × ((place + 9) + found.0 ≤ last_place)
@@ -62,36 +50,12 @@ head_rest place bytes found e =
       ltb-false last_place ((place + 9) + found.0) p.5,
     )
 
-after_byte-front : (wanted : ℕ) (bytes more : List ℕ) → 1 ≤ length bytes → after_byte wanted (bytes ++ more) ≡ option_map (λ rest. rest ++ more) (after_byte wanted bytes)
-after_byte-front wanted [] more some = absurd (omega arith)
-after_byte-front wanted (first ∷ rest) more some = by_test (nat_eq first wanted)
-  where
-    by_test : (b : Bool) → cond b (Some (rest ++ more)) None ≡ option_map (λ l. l ++ more) (cond b (Some rest) None)
-    by_test true = refl
-    by_test false = refl
-
-number_at-front : (width : ℕ) (bytes more : List ℕ) → width ≤ length bytes → number_at width (bytes ++ more) ≡ and_more more (number_at width bytes)
-number_at-front width bytes more fits =
-    let fits' : width ≤ length (bytes ++ more) = omega (arith, length-append bytes more) in
-    rw (le-ltb (length (bytes ++ more)) width fits', le-ltb (length bytes) width fits, take-append-le width bytes more fits, drop-append-le width bytes more fits) refl
-
 checks_more : (more : List ℕ) (one long past : Bool) (size : ℕ × List ℕ)
     → cond one (cond long None (cond past None (Some (size.0, size.1 ++ more)))) None ≡ and_more more (cond one (cond long None (cond past None (Some size))) None)
 checks_more more true true past size = refl
 checks_more more true false true size = refl
 checks_more more true false false size = refl
 checks_more more false long past size = refl
-
--- a step after a read that found the same before more bytes
-bind_more : {X Y : Type 0} (more : List ℕ) (o : Option (X × List ℕ)) (f : X × List ℕ → Option (Y × List ℕ))
-    → ((x : X × List ℕ) → o ≡ Some x → f (x.0, x.1 ++ more) ≡ and_more more (f x)) → (and_more more o >>= f) ≡ and_more more (o >>= f)
-bind_more more None f same = refl
-bind_more more (Some x) f same = same x refl
-
-bind_rest : {Y : Type 0} (more : List ℕ) (o : Option (List ℕ)) (f : List ℕ → Option (Y × List ℕ))
-    → ((rest : List ℕ) → o ≡ Some rest → f (rest ++ more) ≡ and_more more (f rest)) → (option_map (λ rest. rest ++ more) o >>= f) ≡ and_more more (o >>= f)
-bind_rest more None f same = refl
-bind_rest more (Some rest) f same = same rest refl
 
 abbrev length_read : ℕ → ℕ × List ℕ → Option (ℕ × List ℕ)
 length_read place connection = number_at 4 connection.1 >>= checked place connection.0

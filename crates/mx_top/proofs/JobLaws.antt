@@ -3,11 +3,11 @@ use Rattle.std.proofs.Common.{◌≡◌, ℕ, nat_eq, true, false, List, [], ◌
 use Rattle.std.proofs.lemmas.Bool.{eqb-true}
 use Rattle.std.proofs.lemmas.List.{append-nil, append_assoc}
 use Rattle.std.specs.Option.{option_map}
-use Rattle.mx_top.specs.Readers.{◌>>=◌, all_from, in_front}
+use Rattle.mx_msgpack.specs.Readers.{◌>>=◌, all_from, in_front}
+use Rattle.mx_msgpack.proofs.ReaderLaws.{all_from_none, all_from_some}
 use Rattle.mx_top.specs.Packets.{packet_at}
 use Rattle.mx_top.specs.Asks.{Job, job_in}
 use Rattle.mx_top.specs.Units.{next_job_at, with_job, jobs_for, only_whole, jobs_in}
-use Rattle.mx_top.proofs.ReaderLaws.{all_from_none, all_from_some}
 use Rattle.mx_top.proofs.PacketLaws.{packet_at-Advances, next_job_parts}
 
 -- these, and then the others

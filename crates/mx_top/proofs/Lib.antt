@@ -1,8 +1,7 @@
-mod Options
-mod ReaderLaws
 mod PacketLaws
 mod JobLaws
-mod EngineLaws
+mod DiskLaws
+mod ReadyLaws
 mod StepLaws
 mod UnitLaws
 mod OutputLaws
@@ -11,3 +10,14 @@ mod Waiting
 mod HeadLaws
 mod ProgressLaws
 mod Told
+mod SoundLaws
+mod EndLaws
+mod StopLaws
+mod SeenLaws
+mod LoadingLaws
+mod PassingLaws
+mod TurnLaws
+mod SettlingLaws
+mod ReplayLaws
+mod FileLaws
+mod OpenLaws

@@ -1,26 +1,29 @@
 -- How one unit more, or a cause that ends the run, changes how far the run has come.
 use Rattle.std.proofs.Common.{◌≡◌, ℕ, ◌+◌, ◌-◌, ◌<◌, ◌≤◌, true, false, List, [], ◌∷◌, ◌++◌, length, drop, Option, Some, None, refl, sym, ap, ◌∙◌, subst, arith, length-append}
-use Rattle.std.specs.Prelude.{is_some, IsSomeAnd}
+use Rattle.std.specs.Prelude.{is_some, Result, Ok, Err, IfErr, OnOk, IsSomeAnd}
 use Rattle.std.proofs.lemmas.List.{append-nil, append_assoc, length-drop, nil_from_length}
 use mathlib.Core.List.{IsPrefix}
-use Rattle.mx_model.specs.State.{first_state}
-use Rattle.mx_model.specs.Histories.{History, asks_in, history_from}
+use Rattle.mx_msgpack.specs.Readers.{Advances, ◌>>=◌, bytes_at, all_from}
+use Rattle.mx_msgpack.proofs.Options.{bind_some, same_some}
+use Rattle.mx_msgpack.proofs.ReaderLaws.{all_from_none, all_from_some}
+use Rattle.mx_msgpack.proofs.PieceLaws.{bytes_at-shorter}
+use Rattle.mx_outside.specs.Disks.{Disk, IfTold}
+use Rattle.mx_model.specs.Histories.{Base, History, asks_in, history_from}
 use Rattle.mx_model.proofs.HistoryLaws.{history_of_asks}
 use Rattle.mx_top.specs.declared.server.Server.{Server}
-use Rattle.mx_top.specs.declared.status.Status.TheVariants as status
-use Rattle.mx_top.specs.Readers.{Advances, ◌>>=◌, bytes_at, all_from}
 use Rattle.mx_top.specs.Asks.{Job}
 use Rattle.mx_top.specs.Units.{InputUnit, Bytes, jobs_in, unit_head_at, content_at, unit_at, units_of, asks_of}
+use Rattle.mx_top.specs.Starts.{Start}
+use Rattle.mx_top.specs.Ready.{Ready}
+use Rattle.mx_top.specs.Stops.{IsDiskStop}
 use Rattle.mx_top.specs.TraceOutput.{trace_output}
 use Rattle.mx_top.specs.Serving.{Serves, Took}
-use Rattle.mx_top.specs.Runs.{place_before, IsTrace, BeginsTrace}
+use Rattle.mx_top.specs.Runs.{place_before, IsTrace, BeginsTrace, Keeps}
 use Rattle.mx_top.specs.declared.stop.Stop.{Stop}
-use Rattle.mx_top.specs.declared.stop.Stop.TheVariants.{BadInput, ReadFault, WriteFault, NoMemory}
-use Rattle.mx_top.specs.Progress.{StopsAt, status_of_stop, after_units, ReadTo, Wrote, Ends, GoesOn}
-use Rattle.mx_top.proofs.Options.{bind_some, same_some}
-use Rattle.mx_top.proofs.ReaderLaws.{all_from_none, all_from_some}
-use Rattle.mx_top.proofs.PacketLaws.{bytes_at-shorter}
+use Rattle.mx_top.specs.declared.stop.Stop.TheVariants.{BadInput, ReadFault, WriteFault, DiskFault, NoMemory}
+use Rattle.mx_top.specs.Progress.{StopsAt, after_units, ReadTo, Wrote, Finished, Ends, RunSeen, GoesOn}
 use Rattle.mx_top.proofs.HeadLaws.{head_rest}
+use Rattle.mx_top.proofs.OutputLaws.{trace_output-replied}
 
 content_at-shorter : (place : ℕ) (bytes : List ℕ) (found : List ℕ × List ℕ) → content_at place bytes ≡ Some found → length found.1 < length bytes
 unfolding content_at
@@ -48,7 +51,8 @@ unit_at-Advances total bytes found e =
     omega arith
 
 -- a unit stands first where its bytes do and each packet has a job
-unit_some : (input rest content after : List ℕ) (place : ℕ) → place + length rest ≡ length input → content_at place rest ≡ Some (content, after) → is_some (jobs_in content) ≡ true
+unit_some : (input rest content after : List ℕ) (place : ℕ) → place + length rest ≡ length input → content_at place rest ≡ Some (content, after)
+    → is_some (jobs_in content) ≡ true
     → unit_at (length input) rest ≡ Some (Bytes 1 content, after)
 unfolding unit_at
 unit_some input rest content after place at found each =
@@ -67,7 +71,8 @@ unit_none input rest place at none =
     ap (λ p. content_at p rest >>= with_jobs) here ∙ ap (λ o. o >>= with_jobs) none
 
 -- nor where a packet has no job
-unit_jobless : (input rest content after : List ℕ) (place : ℕ) → place + length rest ≡ length input → content_at place rest ≡ Some (content, after) → is_some (jobs_in content) ≡ false
+unit_jobless : (input rest content after : List ℕ) (place : ℕ) → place + length rest ≡ length input → content_at place rest ≡ Some (content, after)
+    → is_some (jobs_in content) ≡ false
     → unit_at (length input) rest ≡ None
 unfolding unit_at
 unit_jobless input rest content after place at found each =
@@ -79,13 +84,15 @@ unit_jobless input rest content after place at found each =
     by_jobs (Some jobs) e = absurd cc
 
 -- no unit stands first in what is left
-all_read : (input rest : List ℕ) (place : ℕ) (units : List InputUnit) → ReadTo input rest place units → unit_at (length input) rest ≡ None → units_of input ≡ (units, rest)
+all_read : (input rest : List ℕ) (place : ℕ) (units : List InputUnit) → ReadTo input rest place units → unit_at (length input) rest ≡ None
+    → units_of input ≡ (units, rest)
 all_read input rest place units read none =
     read.all ∙ ap (after_units units) (all_from_none (unit_at (length input)) (unit_at-Advances (length input)) rest none)
     ∙ ap (λ u. (u, rest)) (append-nil units)
 
 -- one unit stands first in what is left
-read_on : (input rest after : List ℕ) (place next : ℕ) (units : List InputUnit) (unit : InputUnit) → ReadTo input rest place units → unit_at (length input) rest ≡ Some (unit, after)
+read_on : (input rest after : List ℕ) (place next : ℕ) (units : List InputUnit) (unit : InputUnit) → ReadTo input rest place units
+    → unit_at (length input) rest ≡ Some (unit, after)
     → next + length after ≡ place + length rest → ReadTo input after next (units ++ unit ∷ [])
 read_on input rest after place next units unit read found moved = record {
   all = let others = all_from (unit_at (length input)) after in
@@ -101,41 +108,58 @@ begun_so_far input rest place units read = ((all_from (unit_at (length input)) r
 prefix_all : {X : Type 0} (xs : List X) → IsPrefix xs xs
 prefix_all xs = ([], append-nil xs)
 
+-- the server has answered the units of a history and is ready for more
+abbrev pub ReadyAfter : (start : Start) (server after : Server) (units : List InputUnit) (states now : Option (List Disk)) → Type 0
+ReadyAfter start server after units states now =
+    (history : History) → Serves start server units history states → Ready start.base history after.engine after.journal now
+
 -- the whole output is there
-whole_trace : (seed input before rest : List ℕ) (server : Server) (units : List InputUnit) (old : Option (List ℕ)) → units_of input ≡ (units, rest) → Wrote seed server units before old
-    → IsSomeAnd old (IsTrace seed input before)
-whole_trace seed input before rest server units old all wrote =
+whole_trace : (start : Start) (input before rest : List ℕ) (server after : Server) (units : List InputUnit) (old : Option (List ℕ))
+    (states now : Option (List Disk))
+    → units_of input ≡ (units, rest) → ReadyAfter start server after units states now → Wrote start server units before old states
+    → IsSomeAnd old (λ written. Finished start input before written after now)
+whole_trace start input before rest server after units old states now all ready wrote =
     let those : (units_of input).0 ≡ units = ap (λ x. x.0) all in
-    subst (λ o. IsSomeAnd o (IsTrace seed input before)) (sym wrote.written) (record {
+    let legal = wrote.serves.ready.behind.stands.legal in
+    let asks : asks_in wrote.history ≡ asks_of (units_of input).0 = wrote.serves.asks ∙ sym (ap asks_of those) in
+    subst (λ o. IsSomeAnd o (λ written. Finished start input before written after now)) (sym wrote.written) (record {
       history = wrote.history;
-      legal = wrote.serves.stands.legal;
-      asks = wrote.serves.asks ∙ sym (ap asks_of those);
-      output = ap (λ u. before ++ trace_output seed u wrote.history) (sym those);
-      determined = λ memory.
-          let told = history_of_asks first_state wrote.history wrote.serves.stands.legal memory ∙ ap (history_from first_state []) (wrote.serves.asks ∙ sym (ap asks_of those)) in
-          ap (λ h. before ++ trace_output seed units h) told
-          ∙ ap (λ u. before ++ trace_output seed u (history_from first_state [] (asks_of (units_of input).0))) (sym those);
+      trace = record {
+        legal = legal;
+        asks = asks;
+        output = ap (λ u. before ++ trace_output start u wrote.history) (sym those);
+        determined = λ memory.
+            ap (λ l. before ++ l) (trace_output-replied start units wrote.history)
+            ∙ ap (λ h. before ++ trace_output start units h) (history_of_asks start.base wrote.history legal memory ∙ ap (history_from start.base []) asks)
+            ∙ ap (λ u. before ++ trace_output start u (history_from start.base [] (asks_of (units_of input).0))) (sym those);
+      };
+      ready = ready wrote.history wrote.serves;
     })
 
 -- a front of the output is there: all that was written for these units, and a part of that for one more
-begun_trace : (seed input before written : List ℕ) (units : List InputUnit) (history : History) (server : Server) → Serves seed server units history → IsPrefix units (units_of input).0
-    → IsPrefix written (trace_output seed units history) → BeginsTrace seed input before (before ++ written)
-begun_trace seed input before written units history server serves begun part = record {
+begun_trace : (start : Start) (input before written : List ℕ) (units : List InputUnit) (history : History) (server : Server)
+    (states : Option (List Disk))
+    → Serves start server units history states → IsPrefix units (units_of input).0
+    → IsPrefix written (trace_output start units history) → BeginsTrace start input before (before ++ written)
+begun_trace start input before written units history server states serves begun part = record {
   units = units;
   begun = begun;
   history = history;
-  legal = serves.stands.legal;
+  legal = serves.ready.behind.stands.legal;
   asks = subst (IsPrefix (asks_in history)) serves.asks (prefix_all (asks_in history));
   written = written;
   part = part;
   output = refl;
 }
 
-so_far_trace : (seed input before : List ℕ) (server : Server) (units : List InputUnit) (old : Option (List ℕ)) → IsPrefix units (units_of input).0 → Wrote seed server units before old
-    → IsSomeAnd old (BeginsTrace seed input before)
-so_far_trace seed input before server units old begun wrote =
-    subst (λ o. IsSomeAnd o (BeginsTrace seed input before)) (sym wrote.written)
-    (begun_trace seed input before (trace_output seed units wrote.history) units wrote.history server wrote.serves begun (prefix_all (trace_output seed units wrote.history)))
+so_far_trace : (start : Start) (input before : List ℕ) (server : Server) (units : List InputUnit) (old : Option (List ℕ))
+    (states : Option (List Disk))
+    → IsPrefix units (units_of input).0 → Wrote start server units before old states
+    → IsSomeAnd old (λ written. BeginsTrace start input before written)
+so_far_trace start input before server units old states begun wrote =
+    subst (λ o. IsSomeAnd o (λ written. BeginsTrace start input before written)) (sym wrote.written)
+    (begun_trace start input before (trace_output start units wrote.history) units wrote.history server states wrote.serves begun
+    (prefix_all (trace_output start units wrote.history)))
 
 fault_at : (input rest : List ℕ) (place : ℕ) → 0 < length rest → place + length rest ≡ length input → place_before input rest ≡ Some place
 fault_at input [] place some at = absurd (omega arith)
@@ -146,9 +170,11 @@ unfolding unit_at content_at unit_head_at
 unit_at-nil total = refl
 
 -- nothing is left
-pub ends_well : (input rest more : List ℕ) (place : ℕ) (server : Server) (units : List InputUnit) (old : Option (List ℕ)) (waiting : List ℕ)
-    → ReadTo input rest place units → rest ≡ waiting ++ more → waiting ++ more ≡ [] → Ends status.Ok input (Some more) server units old old
-ends_well input rest more place server units old waiting read same none =
+pub ends_well : (input rest more : List ℕ) (place : ℕ) (server : Server) (units : List InputUnit) (old : Option (List ℕ))
+    (states : Option (List Disk)) (waiting : List ℕ)
+    → ReadTo input rest place units → rest ≡ waiting ++ more → waiting ++ more ≡ []
+    → Ends (Ok tt) input (Some more) server server units old old states states
+ends_well input rest more place server units old states waiting read same none =
     let gone : rest ≡ [] = same ∙ none in
     let all = all_read input rest place units read (ap (unit_at (length input)) gone ∙ unit_at-nil (length input)) ∙ ap (λ r. (units, r)) gone in
     let long = ap length none in
@@ -156,98 +182,155 @@ ends_well input rest more place server units old waiting read same none =
     let empty : more ≡ [] = nil_from_length more (omega arith) in
     record {
       place = (ap (λ x. place_before input x.1) all, ap (λ m. Some m) empty);
-      output = λ seed before wrote. whole_trace seed input before [] server units old all wrote;
+      output = λ start before wrote. whole_trace start input before [] server server units old states states all (λ history serves. serves.ready) wrote;
     }
 
 -- what is left begins with no unit
-pub ends_malformed : (input rest : List ℕ) (left : Option (List ℕ)) (place : ℕ) (server : Server) (units : List InputUnit) (old : Option (List ℕ))
-    → ReadTo input rest place units → 0 < length rest → unit_at (length input) rest ≡ None → Ends (status.BadInput place) input left server units old old
-ends_malformed input rest left place server units old read some none =
+ends_malformed : (input rest : List ℕ) (left : Option (List ℕ)) (place : ℕ) (server after : Server) (units : List InputUnit)
+    (old : Option (List ℕ)) (states now : Option (List Disk))
+    → ReadTo input rest place units → 0 < length rest → unit_at (length input) rest ≡ None
+    → ((start : Start) → ReadyAfter start server after units states now)
+    → Ends (Err (BadInput place)) input left server after units old old states now
+ends_malformed input rest left place server after units old states now read some none ready =
     let all = all_read input rest place units read none in
     record {
       place = ap (λ x. place_before input x.1) all ∙ fault_at input rest place some read.at;
-      output = λ seed before wrote. whole_trace seed input before rest server units old all wrote;
+      output = λ start before wrote. whole_trace start input before rest server after units old states now all (ready start) wrote;
     }
 
-pub ends_readfault : (input rest : List ℕ) (left : Option (List ℕ)) (place : ℕ) (server : Server) (units : List InputUnit) (old : Option (List ℕ))
-    → ReadTo input rest place units → Ends status.ReadFault input left server units old old
-ends_readfault input rest left place server units old read = record {
-  place = tt;
-  output = λ seed before wrote. so_far_trace seed input before server units old (begun_so_far input rest place units read) wrote;
-}
-
-pub ends_memoryless : (input rest : List ℕ) (left : Option (List ℕ)) (place : ℕ) (server : Server) (units : List InputUnit) (old : Option (List ℕ))
-    → ReadTo input rest place units → Ends status.NoMemory input left server units old old
-ends_memoryless input rest left place server units old read = record {
-  place = tt;
-  output = λ seed before wrote. so_far_trace seed input before server units old (begun_so_far input rest place units read) wrote;
-}
-
 -- reading the next unit stopped the run
-pub ends_stopped : (input rest waiting more : List ℕ) (place : ℕ) (server : Server) (units : List InputUnit) (old : Option (List ℕ)) (stop : Stop)
-    → ReadTo input rest place units → rest ≡ waiting ++ more → StopsAt place (waiting ++ more) stop → Ends (status_of_stop stop) input (Some more) server units old old
-ends_stopped input rest waiting more place server units old (BadInput at) read same (here, none, some) =
+pub ends_stopped : (input rest waiting more : List ℕ) (place : ℕ) (server : Server) (units : List InputUnit) (old : Option (List ℕ))
+    (states : Option (List Disk)) (stop : Stop)
+    → ReadTo input rest place units → rest ≡ waiting ++ more → StopsAt place (waiting ++ more) stop
+    → Ends (Err stop) input (Some more) server server units old old states states
+ends_stopped input rest waiting more place server units old states (BadInput at) read same (here, none, some) =
     let long = ap length same in
     let some' : 0 < length rest = omega arith in
     let none' : unit_at (length input) rest ≡ None = unit_none input rest place read.at (ap (content_at place) same ∙ none) in
-    subst (λ p. Ends (status.BadInput p) input (Some more) server units old old) (sym here)
-    (ends_malformed input rest (Some more) place server units old read some' none')
-ends_stopped input rest waiting more place server units old ReadFault read same stops = ends_readfault input rest (Some more) place server units old read
-ends_stopped input rest waiting more place server units old WriteFault read same stops = absurd stops
-ends_stopped input rest waiting more place server units old NoMemory read same stops = ends_memoryless input rest (Some more) place server units old read
+    subst (λ p. Ends (Err (BadInput p)) input (Some more) server server units old old states states) (sym here)
+    (ends_malformed input rest (Some more) place server server units old states states read some' none' (λ start history serves. serves.ready))
+ends_stopped input rest waiting more place server units old states ReadFault read same stops = record {
+  place = tt;
+  output = λ start before wrote. so_far_trace start input before server units old states (begun_so_far input rest place units read) wrote;
+}
+ends_stopped input rest waiting more place server units old states WriteFault read same stops = absurd stops
+ends_stopped input rest waiting more place server units old states DiskFault read same stops = absurd stops
+ends_stopped input rest waiting more place server units old states NoMemory read same stops = record {
+  place = tt;
+  output = λ start before wrote. so_far_trace start input before server units old states (begun_so_far input rest place units read) wrote;
+}
+
+-- answering the next unit stopped the run
+pub ends_unanswered : (input rest : List ℕ) (left : Option (List ℕ)) (place : ℕ) (server after : Server) (units : List InputUnit)
+    (old : Option (List ℕ)) (states now : Option (List Disk))
+    (stop : Stop) → ReadTo input rest place units → IsDiskStop stop → Ends (Err stop) input left server after units old old states now
+ends_unanswered input rest left place server after units old states now (BadInput at) read stops = absurd stops
+ends_unanswered input rest left place server after units old states now ReadFault read stops = absurd stops
+ends_unanswered input rest left place server after units old states now WriteFault read stops = absurd stops
+ends_unanswered input rest left place server after units old states now DiskFault read stops = record {
+  place = tt;
+  output = λ start before wrote. so_far_trace start input before server units old states (begun_so_far input rest place units read) wrote;
+}
+ends_unanswered input rest left place server after units old states now NoMemory read stops = record {
+  place = tt;
+  output = λ start before wrote. so_far_trace start input before server units old states (begun_so_far input rest place units read) wrote;
+}
 
 -- a packet of the next unit has no job
-pub ends_jobless : (input rest waiting more content after : List ℕ) (place : ℕ) (server : Server) (units : List InputUnit) (old : Option (List ℕ))
-    → ReadTo input rest place units → rest ≡ waiting ++ more → content_at place (waiting ++ more) ≡ Some (content, after) → false ≡ is_some (jobs_in content)
-    → Ends (status.BadInput place) input (Some more) server units old old
-ends_jobless input rest waiting more content after place server units old read same found each =
+pub ends_jobless : (input rest waiting more content behind : List ℕ) (place : ℕ) (server after : Server) (units : List InputUnit)
+    (old : Option (List ℕ)) (states now : Option (List Disk))
+    → ReadTo input rest place units → rest ≡ waiting ++ more → content_at place (waiting ++ more) ≡ Some (content, behind)
+    → false ≡ is_some (jobs_in content)
+    → ((start : Start) (history : History) → Serves start server units history states → Serves start after units history now)
+    → Ends (Err (BadInput place)) input (Some more) server after units old old states now
+ends_jobless input rest waiting more content behind place server after units old states now read same found each kept =
     let here = ap (content_at place) same ∙ found in
-    let shorter = content_at-shorter place rest (content, after) here in
+    let shorter = content_at-shorter place rest (content, behind) here in
     let some : 0 < length rest = omega arith in
-    ends_malformed input rest (Some more) place server units old read some (unit_jobless input rest content after place read.at here (sym each))
+    ends_malformed input rest (Some more) place server after units old states now read some
+    (unit_jobless input rest content behind place read.at here (sym each)) (λ start history serves. (kept start history serves).ready)
 
 -- the next unit was answered, and its output was written in part
-pub ends_unwritten : (input rest waiting more content after out : List ℕ) (place : ℕ) (server served : Server) (units : List InputUnit) (old new : Option (List ℕ))
-    → ReadTo input rest place units → rest ≡ waiting ++ more → content_at place (waiting ++ more) ≡ Some (content, after) → true ≡ is_some (jobs_in content)
-    → ((seed : List ℕ) (history : History) → Serves seed server units history → Took seed served units history content out)
+pub ends_unwritten : (input rest waiting more content behind out : List ℕ) (place : ℕ) (server after : Server) (units : List InputUnit)
+    (old new : Option (List ℕ)) (states now : Option (List Disk))
+    → ReadTo input rest place units → rest ≡ waiting ++ more → content_at place (waiting ++ more) ≡ Some (content, behind)
+    → true ≡ is_some (jobs_in content)
+    → ((start : Start) (history : History) → Serves start server units history states → Took start after units history content out now)
     → ((before : List ℕ) → old ≡ Some before → (written : List ℕ) × (new ≡ Some (before ++ written)) × IsPrefix written out)
-    → Ends status.WriteFault input (Some more) server units old new
-ends_unwritten input rest waiting more content after out place server served units old new read same found each took part =
-    let unit = unit_some input rest content after place read.at (ap (content_at place) same ∙ found) (sym each) in
-    let shorter = content_at-shorter place rest (content, after) (ap (content_at place) same ∙ found) in
-    let on = read_on input rest after place (place + (length rest - length after)) units (Bytes 1 content) read unit (omega arith) in
+    → Ends (Err WriteFault) input (Some more) server after units old new states now
+ends_unwritten input rest waiting more content behind out place server after units old new states now read same found each took part =
+    let unit = unit_some input rest content behind place read.at (ap (content_at place) same ∙ found) (sym each) in
+    let shorter = content_at-shorter place rest (content, behind) (ap (content_at place) same ∙ found) in
+    let on = read_on input rest behind place (place + (length rest - length behind)) units (Bytes 1 content) read unit (omega arith) in
     record {
       place = tt;
-      output = λ seed before wrote.
-          let step = took seed wrote.history wrote.serves in
-          let sent = trace_output seed units wrote.history in
+      output = λ start before wrote.
+          let step = took start wrote.history wrote.serves in
+          let sent = trace_output start units wrote.history in
           let wrote_part = part (before ++ sent) wrote.written in
-          let front : IsPrefix (sent ++ wrote_part.0) (trace_output seed (units ++ Bytes 1 content ∷ []) step.history) =
+          let front : IsPrefix (sent ++ wrote_part.0) (trace_output start (units ++ Bytes 1 content ∷ []) step.history) =
           (wrote_part.2.0, append_assoc sent wrote_part.0 wrote_part.2.0 ∙ ap (λ l. sent ++ l) wrote_part.2.1 ∙ sym step.grows) in
-          subst (λ o. IsSomeAnd o (BeginsTrace seed input before)) (sym (wrote_part.1 ∙ ap (λ l. Some l) (append_assoc before sent wrote_part.0)))
-          (begun_trace seed input before (sent ++ wrote_part.0) (units ++ Bytes 1 content ∷ []) step.history served step.serves
-          (begun_so_far input after (place + (length rest - length after)) (units ++ Bytes 1 content ∷ []) on) front);
+          subst (λ o. IsSomeAnd o (λ written. BeginsTrace start input before written))
+          (sym (wrote_part.1 ∙ ap (λ l. Some l) (append_assoc before sent wrote_part.0)))
+          (begun_trace start input before (sent ++ wrote_part.0) (units ++ Bytes 1 content ∷ []) step.history after now step.serves
+          (begun_so_far input behind (place + (length rest - length behind)) (units ++ Bytes 1 content ∷ []) on) front);
     }
 
 -- the next unit was answered, and all of its output was written
-pub goes_on : (input rest waiting more content after out : List ℕ) (place next : ℕ) (server served : Server) (units : List InputUnit) (old new : Option (List ℕ))
-    → ReadTo input rest place units → rest ≡ waiting ++ more → content_at place (waiting ++ more) ≡ Some (content, after) → true ≡ is_some (jobs_in content)
-    → next + length after ≡ place + length rest
-    → ((seed : List ℕ) (history : History) → Serves seed server units history → Took seed served units history content out)
+pub goes_on : (input rest waiting more content behind out : List ℕ) (place next : ℕ) (server after : Server) (units : List InputUnit)
+    (old new : Option (List ℕ)) (states now : Option (List Disk))
+    → ReadTo input rest place units → rest ≡ waiting ++ more → content_at place (waiting ++ more) ≡ Some (content, behind)
+    → true ≡ is_some (jobs_in content)
+    → next + length behind ≡ place + length rest
+    → ((start : Start) (history : History) → Serves start server units history states → Took start after units history content out now)
     → ((before : List ℕ) → old ≡ Some before → new ≡ Some (before ++ out))
-    → GoesOn input after next server served units old new
-goes_on input rest waiting more content after out place next server served units old new read same found each moved took all = record {
+    → GoesOn input behind next server after units old new states now
+goes_on input rest waiting more content behind out place next server after units old new states now read same found each moved took all = record {
   unit = Bytes 1 content;
-  read = read_on input rest after place next units (Bytes 1 content) read (unit_some input rest content after place read.at (ap (content_at place) same ∙ found) (sym each)) moved;
-  wrote = λ seed before wrote.
-      let step = took seed wrote.history wrote.serves in
+  read = read_on input rest behind place next units (Bytes 1 content) read
+      (unit_some input rest content behind place read.at (ap (content_at place) same ∙ found) (sym each)) moved;
+  wrote = λ start before wrote.
+      let step = took start wrote.history wrote.serves in
       record {
         history = step.history;
         serves = step.serves;
-        written = all (before ++ trace_output seed units wrote.history) wrote.written
-            ∙ ap (λ l. Some l) (append_assoc before (trace_output seed units wrote.history) out ∙ ap (λ l. before ++ l) (sym step.grows));
+        written = all (before ++ trace_output start units wrote.history) wrote.written
+            ∙ ap (λ l. Some l) (append_assoc before (trace_output start units wrote.history) out ∙ ap (λ l. before ++ l) (sym step.grows));
       };
 }
+
+-- the whole output begins itself
+begun_whole : (start : Start) (history : History) (input before after : List ℕ) → IsTrace start history input before after
+    → BeginsTrace start input before after
+begun_whole start history input before after trace = record {
+  units = (units_of input).0;
+  begun = prefix_all (units_of input).0;
+  history = history;
+  legal = trace.legal;
+  asks = subst (IsPrefix (asks_in history)) trace.asks (prefix_all (asks_in history));
+  written = trace_output start (units_of input).0 history;
+  part = prefix_all (trace_output start (units_of input).0 history);
+  output = trace.output;
+}
+
+-- all units were answered, and then the journal was ended, or a fault of the directory stopped that
+pub seen_ended : (ended : Result (Unit {0}) Stop) (start : Start) (input before : List ℕ) (server : Server) (new : Option (List ℕ))
+    (states now : Option (List Disk))
+    → IfErr ended IsDiskStop
+    → ((base : Base) (history : History) → Ready base history server.engine server.journal states
+    → OnOk ended (IfTold now (λ disk past. Keeps base history disk)))
+    → IsSomeAnd new (λ written. Finished start input before written server states)
+    → IsSomeAnd new (λ written. RunSeen ended start input before written now)
+seen_ended ended start input before server None states now stops keeps finished = finished
+seen_ended (Ok done) start input before server (Some written) states now stops keeps finished =
+    record { history = finished.history; trace = finished.trace; keeps = keeps start.base finished.history finished.ready }
+seen_ended (Err (BadInput at)) start input before server (Some written) states now stops keeps finished = absurd stops
+seen_ended (Err ReadFault) start input before server (Some written) states now stops keeps finished = absurd stops
+seen_ended (Err WriteFault) start input before server (Some written) states now stops keeps finished = absurd stops
+seen_ended (Err DiskFault) start input before server (Some written) states now stops keeps finished =
+    begun_whole start finished.history input before written finished.trace
+seen_ended (Err NoMemory) start input before server (Some written) states now stops keeps finished =
+    begun_whole start finished.history input before written finished.trace
 
 -- the place after a unit
 pub moves : (place size : ℕ) (rest waiting more after : List ℕ) → rest ≡ waiting ++ more → after ≡ drop (9 + size) waiting → 9 + size ≤ length waiting

@@ -1,11 +1,25 @@
 -- A reply is what is written of it: its size and header, and then its body.
-use Rattle.std.proofs.Common.{◌≡◌, ℕ, ◌+◌, List, [], ◌∷◌, ◌++◌, length, length-append, sym, ap, ◌∙◌, append_assoc, arith}
+use Rattle.std.proofs.Common.{◌≡◌, ℕ, ◌+◌, ◌<◌, List, [], ◌∷◌, ◌++◌, length, get_or, take, min, length-append, sym, ap, ◌∙◌, append-nil, append_assoc, arith}
+use Rattle.std.proofs.lemmas.List.{take_more}
+use Rattle.std.proofs.lemmas.List.Folds.{concat-append}
 use Rattle.std.specs.List.{concat}
 use Rattle.byteorder.specs.Endian.{big_bytes}
 use Rattle.mx_model.specs.declared.reply.Reply.TheVariants.{Tuples, Refused}
 use Rattle.mx_model.specs.declared.refusal.Refusal.{Refusal}
 use Rattle.mx_model.specs.Refusals.{code_of, text_of}
 use Rattle.mx_model.specs.ReplyStream.{reply_packet, reply_header, shortest_str}
+
+-- one tuple more
+pub concat_more : (tuples : List (List ℕ)) (index : ℕ) (tuple : List ℕ) → index < length tuples → tuple ≡ get_or tuples index tuple
+    → concat (take (index + 1) tuples) ≡ concat (take index tuples) ++ tuple
+concat_more tuples index tuple within is =
+    ap concat (take_more tuples index tuple within)
+    ∙ concat-append (take index tuples) (get_or tuples index tuple ∷ [])
+    ∙ ap (λ l. concat (take index tuples) ++ l) (append-nil (get_or tuples index tuple) ∙ sym is)
+
+-- a sum that stays at the greatest number once it is reached
+pub sum_more : (most size item next all more : ℕ) → size ≡ min all most → next ≡ min (size + item) most → more ≡ all + item → next ≡ min more most
+sum_more most size item next all more so_far added joined = omega arith
 
 tuples-packet : (version sync : ℕ) (found : List (List ℕ))
     → ((0xce ∷ big_bytes 4 (length (concat found) + 30)) ++ reply_header version sync 0)

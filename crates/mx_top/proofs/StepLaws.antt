@@ -1,18 +1,22 @@
--- One step more of the engine, and what it adds to a history and to the output.
-use Rattle.std.proofs.Common.{◌≡◌, ℕ, ◌+◌, ◌<◌, ◌≤◌, Bool, true, false, cond, List, [], ◌∷◌, ◌++◌, length, map, take, get_or, refl, sym, ap, ◌∙◌, subst, arith, length-append}
-use Rattle.std.specs.Prelude.{◌==◌, if◌then◌else◌}
+-- One request more, and what it adds to a history and to the output.
+use Rattle.std.proofs.Common.{◌≡◌, ℕ, zero, suc, ◌+◌, ◌<◌, ◌≤◌, Bool, true, false, cond, List, [], ◌∷◌, ◌++◌, length, map, take, drop, get_or, refl, sym, ap, ◌∙◌, subst, arith, add-one, length-append}
+use Rattle.std.specs.Prelude.{◌==◌, Option, if◌then◌else◌}
+use Rattle.std.specs.List.{AllByRecursion}
 use Rattle.std.proofs.lemmas.List.{append-nil, append_assoc, map_push, length-map, take_more}
+use Rattle.mx_outside.specs.Disks.{Disk}
 use Rattle.mx_model.specs.declared.reply.Reply.{Reply}
-use Rattle.mx_model.specs.Histories.{History, asks_in}
+use Rattle.mx_model.specs.Histories.{Base, History, Asked, asks_in}
+use Rattle.mx_model.specs.Requests.{Ask}
 use Rattle.mx_model.specs.ReplyStream.{reply_packet, reply_packets}
-use Rattle.mx_top.specs.declared.engine.Engine.{Engine}
+use Rattle.mx_engine.specs.declared.engine.Engine.{Engine}
+use Rattle.mx_engine.specs.Standing.{EngineStandsFor}
+use Rattle.mx_journal.specs.declared.journal.Journal.{Journal}
 use Rattle.mx_top.specs.Asks.{Job}
 use Rattle.mx_top.specs.Units.{named}
 use Rattle.mx_top.specs.TraceOutput.{replies_on, schema_version}
-use Rattle.mx_top.specs.Engines.{StandsFor, Answers, step_of}
 use Rattle.mx_top.specs.declared.jobs.Job as coded
 use Rattle.mx_top.specs.Views.{job_view}
-use Rattle.mx_top.specs.Serving.{AnswersAll}
+use Rattle.mx_top.specs.Ready.{IsJob, Ready, Replied, Answers, AnswersAll, steps_of}
 
 -- the packets of two runs of replies, where the first has one for each sync
 pub reply_packets-append : (version : ℕ) (syncs more : List ℕ) (replies others : List Reply) → length syncs ≡ length replies
@@ -45,11 +49,12 @@ abbrev sync_of : Job → ℕ
 sync_of job = job.sync
 
 -- no job
-pub answered_none : (engine : Engine) (earlier : History) (out : List ℕ) → StandsFor engine earlier → AnswersAll engine earlier [] out out
-answered_none engine earlier out stands = record {
+pub answered_none : (base : Base) (earlier : History) (engine : Engine) (journal : Journal) (states : Option (List Disk)) (out : List ℕ)
+    → Ready base earlier engine journal states → AnswersAll base earlier engine journal states [] out out
+answered_none base earlier engine journal states out ready = record {
   history = earlier;
   replies = [];
-  stands = stands;
+  ready = ready;
   asks = sym (append-nil (asks_in earlier));
   told = λ on. sym (append-nil (replies_on on earlier)) ∙ ap (λ l. replies_on on earlier ++ l) (none (1 == on));
   each = refl;
@@ -60,36 +65,61 @@ answered_none engine earlier out stands = record {
     none true = refl
     none false = refl
 
--- one job more
-pub answered_more : (engine : Engine) (earlier : History) (jobs : List Job) (job : Job) (before middle after : List ℕ) (old : Engine)
-    (so_far : AnswersAll old earlier jobs before middle) → Answers engine so_far.history job middle after → AnswersAll engine earlier (jobs ++ job ∷ []) before after
-answered_more engine earlier jobs job before middle after old so_far step = record {
-  history = step_of job step.reply ∷ so_far.history;
-  replies = so_far.replies ++ step.reply ∷ [];
-  stands = step.stands;
-  asks = ap (λ l. l ++ named 1 job ∷ []) so_far.asks ∙ append_assoc (asks_in earlier) (map (named 1) jobs) (named 1 job ∷ [])
-      ∙ ap (λ l. asks_in earlier ++ l) (sym (map_push (named 1) jobs job));
-  told = λ on.
-      ap (λ l. l ++ where_one on (step.reply ∷ [])) (so_far.told on)
-      ∙ append_assoc (replies_on on earlier) (where_one on so_far.replies) (where_one on (step.reply ∷ []))
-      ∙ ap (λ l. replies_on on earlier ++ l) (where_one-append (1 == on) so_far.replies (step.reply ∷ []));
-  each = length-append so_far.replies (step.reply ∷ []) ∙ ap (λ n. n + 1) so_far.each ∙ sym (length-append jobs (job ∷ []));
-  output =
-      let same_long : length (map sync_of jobs) ≡ length so_far.replies = length-map jobs sync_of ∙ sym so_far.each in
-      step.output
-      ∙ ap (λ l. l ++ reply_packet schema_version job.sync step.reply) so_far.output
-      ∙ append_assoc before (reply_packets schema_version (map sync_of jobs) so_far.replies) (reply_packet schema_version job.sync step.reply)
-      ∙ ap (λ l. before ++ l) (
-      ap (λ l. reply_packets schema_version (map sync_of jobs) so_far.replies ++ l) (sym (append-nil (reply_packet schema_version job.sync step.reply)))
-      ∙ sym (reply_packets-append schema_version (map sync_of jobs) (job.sync ∷ []) so_far.replies (step.reply ∷ []) same_long)
-      ∙ ap (λ l. reply_packets schema_version l (so_far.replies ++ step.reply ∷ [])) (sym (map_push sync_of jobs job)));
-}
+module _ (base : Base) (earlier : History) (old new : Engine) (begun written : Journal) (before_states states : Option (List Disk))
+    (before middle after : List ℕ) where
+  -- one job more
+  pub answered_more : (jobs : List Job) (job : Job) (so_far : AnswersAll base earlier old begun before_states jobs before middle)
+      → Answers base so_far.history new written states job middle after → AnswersAll base earlier new written states (jobs ++ job ∷ []) before after
+  answered_more jobs job so_far step = record {
+    history = steps_of job step.reply step.transactions step.upto so_far.history;
+    replies = so_far.replies ++ step.reply ∷ [];
+    ready = step.ready;
+    asks = append-nil _ ∙ append-nil _ ∙ ap (λ l. l ++ named 1 job ∷ []) so_far.asks
+        ∙ append_assoc (asks_in earlier) (map (named 1) jobs) (named 1 job ∷ [])
+        ∙ ap (λ l. asks_in earlier ++ l) (sym (map_push (named 1) jobs job));
+    told = λ on.
+        append-nil _ ∙ append-nil _ ∙ ap (λ l. l ++ where_one on (step.reply ∷ [])) (so_far.told on)
+        ∙ append_assoc (replies_on on earlier) (where_one on so_far.replies) (where_one on (step.reply ∷ []))
+        ∙ ap (λ l. replies_on on earlier ++ l) (where_one-append (1 == on) so_far.replies (step.reply ∷ []));
+    each = length-append so_far.replies (step.reply ∷ []) ∙ ap (λ n. n + 1) so_far.each ∙ sym (length-append jobs (job ∷ []));
+    output =
+        let same_long : length (map sync_of jobs) ≡ length so_far.replies = length-map jobs sync_of ∙ sym so_far.each in
+        step.output
+        ∙ ap (λ l. l ++ reply_packet schema_version job.sync step.reply) so_far.output
+        ∙ append_assoc before (reply_packets schema_version (map sync_of jobs) so_far.replies) (reply_packet schema_version job.sync step.reply)
+        ∙ ap (λ l. before ++ l) (
+        ap (λ l. reply_packets schema_version (map sync_of jobs) so_far.replies ++ l) (sym (append-nil (reply_packet schema_version job.sync step.reply)))
+        ∙ sym (reply_packets-append schema_version (map sync_of jobs) (job.sync ∷ []) so_far.replies (step.reply ∷ []) same_long)
+        ∙ ap (λ l. reply_packets schema_version l (so_far.replies ++ step.reply ∷ [])) (sym (map_push sync_of jobs job)));
+  }
 
--- one job more of a list
-pub answered_at : (engine old : Engine) (earlier : History) (jobs : List coded.Job) (index : ℕ) (other : coded.Job) (before middle after : List ℕ) → index < length jobs
-    → (so_far : AnswersAll old earlier (map job_view (take index jobs)) before middle) → Answers engine so_far.history (job_view (get_or jobs index other)) middle after
-    → AnswersAll engine earlier (map job_view (take (index + 1) jobs)) before after
-answered_at engine old earlier jobs index other before middle after within so_far step =
-    let more = ap (λ l. map job_view l) (take_more jobs index other within) ∙ map_push job_view (take index jobs) (get_or jobs index other) in
-    subst (λ l. AnswersAll engine earlier l before after) (sym more)
-    (answered_more engine earlier (map job_view (take index jobs)) (job_view (get_or jobs index other)) before middle after old so_far step)
+  -- one job more of a list
+  pub answered_at : (jobs : List coded.Job) (index : ℕ) (other : coded.Job) → index < length jobs
+      → (so_far : AnswersAll base earlier old begun before_states (map job_view (take index jobs)) before middle)
+      → Answers base so_far.history new written states (job_view (get_or jobs index other)) middle after
+      → AnswersAll base earlier new written states (map job_view (take (index + 1) jobs)) before after
+  answered_at jobs index other within so_far step =
+      let more = ap (λ l. map job_view l) (take_more jobs index other within) ∙ map_push job_view (take index jobs) (get_or jobs index other) in
+      subst (λ l. AnswersAll base earlier new written states l before after) (sym more)
+      (answered_more (map job_view (take index jobs)) (job_view (get_or jobs index other)) so_far step)
+
+-- the jobs after the first of them
+sound_after : (jobs : List coded.Job) (index : ℕ) → AllByRecursion IsJob (map job_view (drop index jobs))
+    → AllByRecursion IsJob (map job_view (drop (suc index) jobs))
+sound_after [] index sound = tt
+sound_after (job ∷ jobs) zero sound = sound.1
+sound_after (job ∷ jobs) (suc index) sound = sound_after jobs index sound
+
+pub sound_more : (jobs : List coded.Job) (index : ℕ) → AllByRecursion IsJob (map job_view (drop index jobs))
+    → AllByRecursion IsJob (map job_view (drop (index + 1) jobs))
+sound_more jobs index sound = rw add-one (sound_after jobs index sound)
+
+-- the engine's answer and its packet are what a job is replied
+pub replied_by : (base : Base) (history : History) (engine : Engine) (job : Job) (before after : List ℕ) (ask : Ask) (reply : Reply) → job.ask ≡ ask
+    → EngineStandsFor engine base (Asked (record { conn = 1; stream = 0 }) ask reply ∷ history)
+    → after ≡ before ++ reply_packet schema_version job.sync reply → Replied base history engine job before after
+replied_by base history engine job before after ask reply asked stands output = record {
+  reply = reply;
+  stands = subst (λ a. EngineStandsFor engine base (Asked (record { conn = 1; stream = 0 }) a reply ∷ history)) (sym asked) stands;
+  output = output;
+}

@@ -1,54 +1,63 @@
 -- How far a run has come, where the input tells what it has left.
-use Rattle.std.proofs.Common.{◌≡◌, ℕ, List, [], ◌++◌, Some, refl, sym, ap, ◌∙◌, subst, arith, ◌∷◌}
-use Rattle.std.specs.Prelude.{◌⊎◌, Option, Result, Ok, Err, IsSomeAnd}
+use Rattle.std.proofs.Common.{◌≡◌, ℕ, List, [], ◌++◌, Some, get_or, slice_set, refl, sym, ap, ◌∙◌, subst, arith, ◌∷◌}
+use Rattle.std.specs.Prelude.{◌⊎◌, Option, IsSomeAnd}
 use Rattle.std.proofs.Common.{inl, inr}
 use Rattle.std.proofs.lemmas.List.{append-nil}
+use Rattle.mx_outside.specs.Disks.{Disk}
+use Rattle.mx_model.specs.declared.damage.Damage.{Damage}
 use Rattle.mx_top.specs.declared.server.Server.{Server}
 use Rattle.mx_top.specs.Units.{InputUnit, units_of}
 use Rattle.mx_top.specs.Serving.{Serves}
+use Rattle.mx_top.specs.Starts.{Start}
+use Rattle.mx_top.specs.declared.status.Status.{Status}
 use Rattle.mx_top.specs.declared.status.Status.TheVariants as status
-use Rattle.mx_top.specs.declared.stop.Stop.{Stop}
-use Rattle.mx_top.specs.declared.stop.Stop.TheVariants.{BadInput, ReadFault, WriteFault, NoMemory}
 use Rattle.mx_top.specs.Runs.{BeginsTrace, PlaceSeen, fault_place, status_by}
-use Rattle.mx_top.specs.Progress.{ReadTo, Wrote, GoesOn, status_of}
+use Rattle.mx_top.specs.Progress.{ReadTo, Wrote, GoesOn}
 
--- the input was read up to this place, and all of the output for its units was written
-pub record HasRead (seed input : List ℕ) (left : Option (List ℕ)) (waiting : List ℕ) (place : ℕ) (server : Server) (old new : Option (List ℕ)) : Type 0 where
+-- The input was read up to this place; and where the server had served nothing first, all of the output for the units read
+-- was written.
+pub record HasRead (input : List ℕ) (left : Option (List ℕ)) (waiting : List ℕ) (place : ℕ) (first server : Server) (old new : Option (List ℕ))
+    (states now : Option (List Disk)) : Type 0 where
   pub rest : List ℕ
   pub left_is : left ≡ Some rest
   pub units : List InputUnit
   pub read : ReadTo input (waiting ++ rest) place units
-  pub wrote : (before : List ℕ) → old ≡ Some before → Wrote seed server units before new
+  pub wrote : (start : Start) (before : List ℕ) → Serves start first [] [] states → old ≡ Some before → Wrote start server units before new now
 
 -- nothing was read or written yet
-pub has_read_nothing : (seed input waiting : List ℕ) (left : Option (List ℕ)) (server : Server) (old : Option (List ℕ)) → left ≡ Some input → waiting ≡ [] → Serves seed server [] []
-    → HasRead seed input left waiting 0 server old old
+pub has_read_nothing : (input waiting : List ℕ) (left : Option (List ℕ)) (server : Server) (old : Option (List ℕ)) (states : Option (List Disk))
+    → left ≡ Some input → waiting ≡ []
+    → HasRead input left waiting 0 server server old old states states
 unfolding units_of
-has_read_nothing seed input waiting left server old told none serves =
+has_read_nothing input waiting left server old states told none =
     let all : waiting ++ input ≡ input = ap (λ (w : List ℕ). w ++ input) none in
     record {
       rest = input;
       left_is = told;
       units = [];
       read = subst (λ r. ReadTo input r 0 []) (sym all) (record { all = refl; at = omega arith });
-      wrote = λ before was. record { history = []; serves = serves; written = was ∙ ap (λ l. Some l) (sym (append-nil before)) };
+      wrote = λ start before serves was. record { history = []; serves = serves; written = was ∙ ap (λ l. Some l) (sym (append-nil before)) };
     }
 
 -- one unit more
-pub has_read_more : (seed input waiting rest : List ℕ) (left : Option (List ℕ)) (place next : ℕ) (server served : Server) (units : List InputUnit) (old middle new : Option (List ℕ))
-    → left ≡ Some rest → GoesOn input (waiting ++ rest) next server served units middle new → ((before : List ℕ) → old ≡ Some before → Wrote seed server units before middle)
-    → HasRead seed input left waiting next served old new
-has_read_more seed input waiting rest left place next server served units old middle new told on wrote = record {
+pub has_read_more : (input waiting rest : List ℕ) (left : Option (List ℕ)) (next : ℕ) (first server after : Server) (units : List InputUnit)
+    (old middle new : Option (List ℕ))
+    (states between now : Option (List Disk))
+    → left ≡ Some rest → GoesOn input (waiting ++ rest) next server after units middle new between now
+    → ((start : Start) (before : List ℕ) → Serves start first [] [] states → old ≡ Some before → Wrote start server units before middle between)
+    → HasRead input left waiting next first after old new states now
+has_read_more input waiting rest left next first server after units old middle new states between now told on wrote = record {
   rest = rest;
   left_is = told;
   units = units ++ on.unit ∷ [];
   read = on.read;
-  wrote = λ before was. on.wrote seed before (wrote before was);
+  wrote = λ start before serves was. on.wrote start before (wrote start before serves was);
 }
 
 -- nothing was written, of which much begins with it
-pub begins_nothing : (seed input before : List ℕ) (old : Option (List ℕ)) → old ≡ Some before → IsSomeAnd old (BeginsTrace seed input before)
-begins_nothing seed input before old was = subst (λ o. IsSomeAnd o (BeginsTrace seed input before)) (sym was) (record {
+pub begins_nothing : (start : Start) (input before : List ℕ) (old : Option (List ℕ)) → old ≡ Some before
+    → IsSomeAnd old (λ written. BeginsTrace start input before written)
+begins_nothing start input before old was = subst (λ o. IsSomeAnd o (λ written. BeginsTrace start input before written)) (sym was) (record {
   units = [];
   begun = ((units_of input).0, refl);
   history = [];
@@ -59,11 +68,24 @@ begins_nothing seed input before old was = subst (λ o. IsSomeAnd o (BeginsTrace
   output = sym (append-nil before);
 })
 
--- a run that no fault ended has the status that its input demands, or memory was missing
-pub completes : (ended : Result (Unit {0}) Stop) (input : List ℕ) (left : Option (List ℕ)) → PlaceSeen (status_of ended) input left → (ended ≡ Err ReadFault → ⊥) → (ended ≡ Err WriteFault → ⊥)
-    → (status_of ended ≡ status_by (fault_place input)) ⊎ (status_of ended ≡ status.NoMemory)
-completes (Ok done) input left place reads writes = inl (sym (ap status_by place.0))
-completes (Err (BadInput at)) input left place reads writes = inl (sym (ap status_by place))
-completes (Err ReadFault) input left place reads writes = absurd (reads refl)
-completes (Err WriteFault) input left place reads writes = absurd (writes refl)
-completes (Err NoMemory) input left place reads writes = inr refl
+-- a run that no fault ended has the status that its input demands, or memory was missing, or the directory stands for nothing
+pub completes : (ended : Status) (input : List ℕ) (left : Option (List ℕ)) → PlaceSeen ended input left → (ended ≡ status.BadWords → ⊥)
+    → (ended ≡ status.ReadFault → ⊥) → (ended ≡ status.WriteFault → ⊥) → (ended ≡ status.DiskFault → ⊥)
+    → (ended ≡ status_by (fault_place input)) ⊎ (ended ≡ status.NoMemory) ⊎ ((damage : Damage) × (ended ≡ status.Damaged damage))
+completes status.Ok input left place words reads writes disks = inl (sym (ap status_by place.0))
+completes (status.BadInput at) input left place words reads writes disks = inl (sym (ap status_by place))
+completes status.BadWords input left place words reads writes disks = absurd (words refl)
+completes status.ReadFault input left place words reads writes disks = absurd (reads refl)
+completes status.WriteFault input left place words reads writes disks = absurd (writes refl)
+completes status.DiskFault input left place words reads writes disks = absurd (disks refl)
+completes status.NoMemory input left place words reads writes disks = inr (inl refl)
+completes (status.Damaged damage) input left place words reads writes disks = inr (inr (damage, refl))
+
+-- the only one of a list, before and after it was changed
+pub only_one : {X : Type 0} (items : List X) (before after found new : X) → items ≡ before ∷ [] → found ≡ get_or items 0 found
+    → slice_set items 0 new ≡ after ∷ []
+    → (found ≡ before) × (new ≡ after)
+only_one items before after found new was here is =
+    let changed : new ∷ [] ≡ after ∷ [] = ap (λ l. slice_set l 0 new) (sym was) ∙ is in
+    let same : new ≡ after = cc in
+    (here ∙ ap (λ l. get_or l 0 found) was, same)

@@ -4,14 +4,15 @@ use Rattle.std.specs.Prelude.{◌==◌, if◌then◌else◌, Some}
 use Rattle.std.specs.List.{filter_map}
 use Rattle.std.proofs.lemmas.List.Elements.{filter_map-append}
 use Rattle.std.proofs.lemmas.List.{append-nil, append_assoc, drop_at}
-use Rattle.mx_model.specs.Histories.{History}
-use Rattle.mx_top.specs.Readers.{◌>>=◌, all_from}
+use Rattle.mx_msgpack.specs.Readers.{◌>>=◌, all_from}
+use Rattle.mx_msgpack.proofs.Options.{bind_some, same_some}
+use Rattle.mx_msgpack.proofs.ReaderLaws.{all_from-append}
+use Rattle.mx_model.specs.Histories.{History, Asked, Left, Took, Confirmed, replied}
 use Rattle.mx_top.specs.Packets.{packet_at, packets_of}
 use Rattle.mx_top.specs.Asks.{Job, job_in}
 use Rattle.mx_top.specs.Units.{InputUnit, Bytes, jobs_for, only_whole, jobs_in, bytes_on, jobs_on, named, gained, asks_from}
-use Rattle.mx_top.specs.TraceOutput.{sent_on, output_unit, output_from}
-use Rattle.mx_top.proofs.Options.{bind_some, same_some}
-use Rattle.mx_top.proofs.ReaderLaws.{all_from-append}
+use Rattle.mx_top.specs.Starts.{Start}
+use Rattle.mx_top.specs.TraceOutput.{reply_on, replies_on, sent_on, output_unit, output_from}
 use Rattle.mx_top.proofs.PacketLaws.{packet_at-Advances, packet_at-IsStable}
 
 pub gained-append : {X : Type 0} (xs ys : List X) → gained xs (xs ++ ys) ≡ ys
@@ -27,11 +28,13 @@ jobs_found (packet ∷ packets) jobs e =
     rw first.1 (ap (λ l. first.0 ∷ l) found ∙ same_some (first.0 ∷ rest.0) jobs rest.2)
 
 -- bytes that are whole packets, each with a job
-pub whole_parts : (found : List (List ℕ) × List ℕ) (jobs : List Job) → only_whole found ≡ Some jobs → (found.1 ≡ []) × (filter_map job_in found.0 ≡ jobs)
+pub whole_parts : (found : List (List ℕ) × List ℕ) (jobs : List Job) → only_whole found ≡ Some jobs
+    → (found.1 ≡ []) × (filter_map job_in found.0 ≡ jobs)
 whole_parts (packets, []) jobs e = (refl, jobs_found packets jobs e)
 whole_parts (packets, byte ∷ rest) jobs e = absurd cc
 
-pub jobs_parts : (bytes : List ℕ) (jobs : List Job) → jobs_in bytes ≡ Some jobs → ((all_from packet_at bytes).1 ≡ []) × (filter_map job_in (packets_of bytes) ≡ jobs)
+pub jobs_parts : (bytes : List ℕ) (jobs : List Job) → jobs_in bytes ≡ Some jobs
+    → ((all_from packet_at bytes).1 ≡ []) × (filter_map job_in (packets_of bytes) ≡ jobs)
 unfolding jobs_in
 jobs_parts bytes jobs e = whole_parts (all_from packet_at bytes) jobs e
 
@@ -43,7 +46,8 @@ packets_of-append bytes more = ap (λ x. x.0) (all_from-append packet_at packet_
 pub packets_of-whole : (bytes more : List ℕ) → (all_from packet_at bytes).1 ≡ [] → packets_of (bytes ++ more) ≡ packets_of bytes ++ packets_of more
 packets_of-whole bytes more whole = packets_of-append bytes more ∙ ap (λ l. packets_of bytes ++ packets_of (l ++ more)) whole
 
-pub whole-append : (bytes more : List ℕ) → (all_from packet_at bytes).1 ≡ [] → (all_from packet_at more).1 ≡ [] → (all_from packet_at (bytes ++ more)).1 ≡ []
+pub whole-append : (bytes more : List ℕ) → (all_from packet_at bytes).1 ≡ [] → (all_from packet_at more).1 ≡ []
+    → (all_from packet_at (bytes ++ more)).1 ≡ []
 whole-append bytes more whole others =
     ap (λ x. x.1) (all_from-append packet_at packet_at-Advances packet_at-IsStable bytes more)
     ∙ ap (λ l. (all_from packet_at (l ++ more)).1) whole ∙ others
@@ -58,7 +62,8 @@ bytes_on-append on (Bytes to bytes ∷ units) more =
 abbrev pub bytes_to : ℕ → ℕ → List ℕ → List ℕ
 bytes_to to on bytes = if to == on then bytes else []
 
-pub bytes_on-push : (on to : ℕ) (bytes : List ℕ) (units : List InputUnit) → bytes_on on (units ++ Bytes to bytes ∷ []) ≡ bytes_on on units ++ bytes_to to on bytes
+pub bytes_on-push : (on to : ℕ) (bytes : List ℕ) (units : List InputUnit)
+    → bytes_on on (units ++ Bytes to bytes ∷ []) ≡ bytes_on on units ++ bytes_to to on bytes
 bytes_on-push on to bytes units =
     bytes_on-append on units (Bytes to bytes ∷ []) ∙ ap (λ l. bytes_on on units ++ l) (append-nil (bytes_to to on bytes))
 
@@ -73,7 +78,8 @@ jobs_on-prefix on units more =
     )
 
 -- after whole packets, a unit of whole packets adds its jobs
-pub jobs_on-push : (content : List ℕ) (units : List InputUnit) (jobs : List Job) → (all_from packet_at (bytes_on 1 units)).1 ≡ [] → jobs_in content ≡ Some jobs
+pub jobs_on-push : (content : List ℕ) (units : List InputUnit) (jobs : List Job) → (all_from packet_at (bytes_on 1 units)).1 ≡ []
+    → jobs_in content ≡ Some jobs
     → jobs_on 1 (units ++ Bytes 1 content ∷ []) ≡ jobs_on 1 units ++ jobs
 jobs_on-push content units jobs whole found =
     let p = jobs_parts content jobs found in
@@ -96,14 +102,23 @@ asks_from-push earlier (Bytes to first ∷ units) on bytes =
     ∙ ap (λ l. (front ++ asks_from later units) ++ map (named on) (gained (jobs_on on l) (jobs_on on (l ++ Bytes on bytes ∷ [])))) (append_assoc earlier (Bytes to first ∷ []) units)
 
 -- the output of one unit more
-pub output_from-push : (seed : List ℕ) (earlier units : List InputUnit) (on : ℕ) (bytes : List ℕ) (history : History) → output_from seed earlier (units ++ Bytes on bytes ∷ []) history
-    ≡ output_from seed earlier units history ++ output_unit on (gained (sent_on seed on (earlier ++ units) history) (sent_on seed on ((earlier ++ units) ++ Bytes on bytes ∷ []) history))
-output_from-push seed earlier [] on bytes history =
-    let unit = output_unit on (gained (sent_on seed on earlier history) (sent_on seed on (earlier ++ Bytes on bytes ∷ []) history)) in
-    append-nil unit ∙ ap (λ l. output_unit on (gained (sent_on seed on l history) (sent_on seed on (l ++ Bytes on bytes ∷ []) history))) (sym (append-nil earlier))
-output_from-push seed earlier (Bytes to first ∷ units) on bytes history =
-    let front = output_unit to (gained (sent_on seed to earlier history) (sent_on seed to (earlier ++ Bytes to first ∷ []) history)) in
+pub output_from-push : (start : Start) (earlier units : List InputUnit) (on : ℕ) (bytes : List ℕ) (history : History)
+    → output_from start earlier (units ++ Bytes on bytes ∷ []) history
+    ≡ output_from start earlier units history ++ output_unit on (gained (sent_on start on (earlier ++ units) history) (sent_on start on ((earlier ++ units) ++ Bytes on bytes ∷ []) history))
+output_from-push start earlier [] on bytes history =
+    let unit = output_unit on (gained (sent_on start on earlier history) (sent_on start on (earlier ++ Bytes on bytes ∷ []) history)) in
+    append-nil unit ∙ ap (λ l. output_unit on (gained (sent_on start on l history) (sent_on start on (l ++ Bytes on bytes ∷ []) history))) (sym (append-nil earlier))
+output_from-push start earlier (Bytes to first ∷ units) on bytes history =
+    let front = output_unit to (gained (sent_on start to earlier history) (sent_on start to (earlier ++ Bytes to first ∷ []) history)) in
     let later = earlier ++ Bytes to first ∷ [] in
-    ap (λ l. front ++ l) (output_from-push seed later units on bytes history)
-    ∙ sym (append_assoc front (output_from seed later units history) _)
-    ∙ ap (λ l. (front ++ output_from seed later units history) ++ output_unit on (gained (sent_on seed on l history) (sent_on seed on (l ++ Bytes on bytes ∷ []) history))) (append_assoc earlier (Bytes to first ∷ []) units)
+    ap (λ l. front ++ l) (output_from-push start later units on bytes history)
+    ∙ sym (append_assoc front (output_from start later units history) _)
+    ∙ ap (λ l. (front ++ output_from start later units history) ++ output_unit on (gained (sent_on start on l history) (sent_on start on (l ++ Bytes on bytes ∷ []) history))) (append_assoc earlier (Bytes to first ∷ []) units)
+
+-- the replies to a connection stand in the steps that have one
+pub replies_on-replied : (on : ℕ) (history : History) → replies_on on (replied history) ≡ replies_on on history
+replies_on-replied on [] = refl
+replies_on-replied on (Asked name ask reply ∷ earlier) = ap (λ l. l ++ reply_on on (Asked name ask reply)) (replies_on-replied on earlier)
+replies_on-replied on (Left other ∷ earlier) = replies_on-replied on earlier ∙ sym (append-nil (replies_on on earlier))
+replies_on-replied on (Took transactions upto ∷ earlier) = replies_on-replied on earlier ∙ sym (append-nil (replies_on on earlier))
+replies_on-replied on (Confirmed upto ∷ earlier) = replies_on-replied on earlier ∙ sym (append-nil (replies_on on earlier))

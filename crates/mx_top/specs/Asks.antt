@@ -1,34 +1,16 @@
 -- What a packet asks: its header and its body (IPROTO, "Request structure").
-use Rattle.std.specs.Prelude.{ℕ, ◌^◌, pos, negsuc, List, length, drop, Option, Some, None, Result, Ok, Err, nat_lt, ◌==◌, if◌then◌else◌}
+use Rattle.std.specs.Prelude.{ℕ, List, length, Option, Some, None, Result, Ok, Err, ◌==◌, if◌then◌else◌}
 use Rattle.mx_msgpack.specs.declared.bad.Bad.{Bad}
-use Rattle.mx_msgpack.specs.Reading.{Shown, ShownInt, ShownStr, ShownArray, ShownMap, reading_of, measured}
+use Rattle.mx_msgpack.specs.Reading.{measured}
+use Rattle.mx_msgpack.specs.Readers.{◌>>=◌, after_byte, unsigned_at, unsigned_32_at}
 use Rattle.mx_model.specs.declared.refusal.Refusal.TheVariants.{UnknownRequestType}
 use Rattle.mx_model.specs.Keys.{items_in}
 use Rattle.mx_model.specs.Requests.{Ask, Asks, RefusedAsk, Select, Replace}
-use Rattle.mx_top.specs.Readers.{Reader, ◌>>=◌, after_byte}
 
 -- a request and the number by which its reply is known
 pub record Job : Type 0 where
   pub sync : ℕ
   pub ask : Ask
-
-abbrev pub unsigned_from : List ℕ → Result (Shown × ℕ) Bad → Option (ℕ × List ℕ)
-unsigned_from bytes (Err bad) = None
-unsigned_from bytes (Ok (ShownInt (pos number), size)) = if nat_lt number (2 ^ 64) then Some (number, drop size bytes) else None
-unsigned_from bytes (Ok (ShownInt (negsuc number), size)) = None
-unsigned_from bytes (Ok (ShownStr text, size)) = None
-unsigned_from bytes (Ok (ShownArray count items, size)) = None
-unsigned_from bytes (Ok (ShownMap count items, size)) = None
-
--- an Int from 0 to 2^64 - 1 in any spelling
-unfoldable pub unsigned_at : Reader ℕ
-unsigned_at bytes = unsigned_from bytes (reading_of bytes)
-
--- the same of at most 32 bits
-unfoldable pub unsigned_32_at : Reader ℕ
-unsigned_32_at bytes = do
-  number ← unsigned_at bytes
-  if nat_lt number.0 (2 ^ 32) then Some number else None
 
 -- a space under 0x10, then a tuple under 0x21 whose first field is a number of 0 or more
 unfoldable pub replace_in : List ℕ → Option Ask

@@ -1,6 +1,6 @@
 -- The packets of a connection (IPROTO, "Request structure"): a size and that many bytes.
 use Rattle.std.specs.Prelude.{ℕ, List, Some, None, nat_lt, if◌then◌else◌}
-use Rattle.mx_top.specs.Readers.{Reader, ◌>>=◌, all_from, number_at, after_byte, bytes_at}
+use Rattle.mx_msgpack.specs.Readers.{Reader, ◌>>=◌, all_from, number_at, after_byte, bytes_at}
 
 -- the longest packet, without its size
 abbrev pub longest_packet : ℕ

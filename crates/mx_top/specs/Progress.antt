@@ -1,22 +1,26 @@
 -- How far a run has come, in its input and in its output.
 use Rattle.std.specs.Prelude.{◌≡◌, ⊤, ℕ, ◌+◌, ◌<◌, List, [], ◌∷◌, ◌++◌, length, Option, Some, None, Result, Ok, Err, IsSomeAnd}
+use Rattle.mx_msgpack.specs.Readers.{all_from}
+use Rattle.mx_outside.specs.Disks.{Disk, IfTold}
 use Rattle.mx_model.specs.Histories.{History}
 use Rattle.mx_top.specs.declared.server.Server.{Server}
 use Rattle.mx_top.specs.declared.status.Status.{Status}
 use Rattle.mx_top.specs.declared.status.Status.TheVariants as status
 use Rattle.mx_top.specs.declared.stop.Stop.{Stop}
-use Rattle.mx_top.specs.declared.stop.Stop.TheVariants.{BadInput, ReadFault, WriteFault, NoMemory}
-use Rattle.mx_top.specs.Readers.{all_from}
+use Rattle.mx_top.specs.declared.stop.Stop.TheVariants.{BadInput, ReadFault, WriteFault, DiskFault, NoMemory}
 use Rattle.mx_top.specs.Units.{InputUnit, content_at, unit_at, units_of}
 use Rattle.mx_top.specs.TraceOutput.{trace_output}
 use Rattle.mx_top.specs.Serving.{Serves}
-use Rattle.mx_top.specs.Runs.{PlaceSeen, OutputSeen}
+use Rattle.mx_top.specs.Ready.{Ready}
+use Rattle.mx_top.specs.Starts.{Start}
+use Rattle.mx_top.specs.Runs.{IsTrace, BeginsTrace, Keeps, PlaceSeen}
 
 -- what stops a run where a unit stands at this place in the bytes that are left
 abbrev pub StopsAt : (place : ℕ) → (bytes : List ℕ) → Stop → Type 0
 StopsAt place bytes (BadInput at) = (at ≡ place) × (content_at place bytes ≡ None) × (0 < length bytes)
 StopsAt place bytes ReadFault = ⊤
 StopsAt place bytes WriteFault = ⊥
+StopsAt place bytes DiskFault = ⊥
 StopsAt place bytes NoMemory = ⊤
 
 abbrev pub after_units : List InputUnit → List InputUnit × List ℕ → List InputUnit × List ℕ
@@ -27,29 +31,66 @@ pub record ReadTo (input rest : List ℕ) (place : ℕ) (units : List InputUnit)
   pub all : units_of input ≡ after_units units (all_from (unit_at (length input)) rest)
   pub at : place + length rest ≡ length input
 
--- these units were answered, and all of the output for them was written
-pub record Wrote (seed : List ℕ) (server : Server) (units : List InputUnit) (before : List ℕ) (contents : Option (List ℕ)) : Type 0 where
-  pub history : History
-  pub serves : Serves seed server units history
-  pub written : contents ≡ Some (before ++ trace_output seed units history)
-
--- the run ended by this status: what it says of the input, and where all of the output for these units was written, what it says of the output
-pub record Ends (ended : Status) (input : List ℕ) (left : Option (List ℕ)) (server : Server) (units : List InputUnit) (old new : Option (List ℕ)) : Type 0 where
-  pub place : PlaceSeen ended input left
-  pub output : (seed before : List ℕ) → Wrote seed server units before old → IsSomeAnd new (OutputSeen ended seed input before)
-
--- one unit more was read and answered
-pub record GoesOn (input rest : List ℕ) (place : ℕ) (server after : Server) (units : List InputUnit) (old new : Option (List ℕ)) : Type 0 where
-  pub unit : InputUnit
-  pub read : ReadTo input rest place (units ++ unit ∷ [])
-  pub wrote : (seed before : List ℕ) → Wrote seed server units before old → Wrote seed after (units ++ unit ∷ []) before new
-
+-- the status of a run that this stopped
 abbrev pub status_of_stop : Stop → Status
 status_of_stop (BadInput at) = status.BadInput at
 status_of_stop ReadFault = status.ReadFault
 status_of_stop WriteFault = status.WriteFault
+status_of_stop DiskFault = status.DiskFault
 status_of_stop NoMemory = status.NoMemory
 
+-- the status of a run whose units ended so
 abbrev pub status_of : Result (Unit {0}) Stop → Status
 status_of (Ok done) = status.Ok
 status_of (Err stop) = status_of_stop stop
+
+-- these units were answered, and all of the output for them was written
+pub record Wrote (start : Start) (server : Server) (units : List InputUnit) (before : List ℕ) (contents : Option (List ℕ)) (states : Option (List Disk)) : Type 0 where
+  pub history : History
+  pub serves : Serves start server units history states
+  pub written : contents ≡ Some (before ++ trace_output start units history)
+
+-- all of the input's units were answered, and all of the output was written
+pub record Finished (start : Start) (input before after : List ℕ) (server : Server) (states : Option (List Disk)) : Type 0 where
+  pub history : History
+  pub trace : IsTrace start history input before after
+  pub ready : Ready start.base history server.engine server.journal states
+
+-- what the end of the units, or the cause that stopped the run among them, says of the output
+abbrev pub EndSeen : Result (Unit {0}) Stop → (start : Start) → (input before after : List ℕ) → (server : Server) → (states : Option (List Disk)) → Type 0
+EndSeen (Ok done) start input before after server states = Finished start input before after server states
+EndSeen (Err (BadInput at)) start input before after server states = Finished start input before after server states
+EndSeen (Err ReadFault) start input before after server states = BeginsTrace start input before after
+EndSeen (Err WriteFault) start input before after server states = BeginsTrace start input before after
+EndSeen (Err DiskFault) start input before after server states = BeginsTrace start input before after
+EndSeen (Err NoMemory) start input before after server states = BeginsTrace start input before after
+
+-- all of the input's units were answered, all of the output was written, and the directory keeps what was committed
+pub record Completed (start : Start) (input before after : List ℕ) (states : Option (List Disk)) : Type 0 where
+  pub history : History
+  pub trace : IsTrace start history input before after
+  pub keeps : IfTold states (λ disk past. Keeps start.base history disk)
+
+-- the same once the journal is ended in order
+abbrev pub RunSeen : Result (Unit {0}) Stop → (start : Start) → (input before after : List ℕ) → (states : Option (List Disk)) → Type 0
+RunSeen (Ok done) start input before after states = Completed start input before after states
+RunSeen (Err (BadInput at)) start input before after states = Completed start input before after states
+RunSeen (Err ReadFault) start input before after states = BeginsTrace start input before after
+RunSeen (Err WriteFault) start input before after states = BeginsTrace start input before after
+RunSeen (Err DiskFault) start input before after states = BeginsTrace start input before after
+RunSeen (Err NoMemory) start input before after states = BeginsTrace start input before after
+
+-- the units ended so: what this says of the input, and where all of the output for these units was written, what it says of the output
+pub record Ends (ended : Result (Unit {0}) Stop) (input : List ℕ) (left : Option (List ℕ)) (server after : Server) (units : List InputUnit)
+    (old new : Option (List ℕ)) (states now : Option (List Disk)) : Type 0 where
+  pub place : PlaceSeen (status_of ended) input left
+  pub output : (start : Start) (before : List ℕ) → Wrote start server units before old states
+      → IsSomeAnd new (λ written. EndSeen ended start input before written after now)
+
+-- one unit more was read and answered
+pub record GoesOn (input rest : List ℕ) (place : ℕ) (server after : Server) (units : List InputUnit)
+    (old new : Option (List ℕ)) (states now : Option (List Disk)) : Type 0 where
+  pub unit : InputUnit
+  pub read : ReadTo input rest place (units ++ unit ∷ [])
+  pub wrote : (start : Start) (before : List ℕ) → Wrote start server units before old states
+      → Wrote start after (units ++ unit ∷ []) before new now

@@ -1,12 +1,14 @@
 -- What a run of the program does, seen from outside.
-use Rattle.std.specs.Prelude.{◌≡◌, ⊤, ℕ, ◌-◌, List, [], ◌∷◌, ◌++◌, length, Option, Some, None}
+use Rattle.std.specs.Prelude.{◌≡◌, ◌⊎◌, ⊤, ℕ, ◌-◌, List, [], ◌∷◌, ◌++◌, length, Option, Some, None, Ok, Err}
 use mathlib.Core.List.{IsPrefix}
-use Rattle.mx_model.specs.State.{first_state}
-use Rattle.mx_model.specs.Histories.{History, IsLegal, HasMemory, asks_in, history_from}
+use Rattle.mx_outside.specs.Disks.{Disk, IfTold}
+use Rattle.mx_model.specs.Files.{Reached, IsDirectoryState}
+use Rattle.mx_model.specs.Histories.{Base, History, IsLegal, HasMemory, asks_in, history_from, state_of, clock_of}
 use Rattle.mx_top.specs.declared.status.Status.{Status}
 use Rattle.mx_top.specs.declared.status.Status.TheVariants as status
 use Rattle.mx_top.specs.Units.{InputUnit, units_of, asks_of}
 use Rattle.mx_top.specs.TraceOutput.{trace_output}
+use Rattle.mx_top.specs.Starts.{Start, Begins, AllOnDisk}
 
 abbrev pub place_before : List ℕ → List ℕ → Option ℕ
 place_before input [] = None
@@ -17,29 +19,51 @@ abbrev pub fault_place : List ℕ → Option ℕ
 fault_place input = place_before input (units_of input).1
 
 -- the output where each request finds memory
-abbrev pub expected_output : (seed input : List ℕ) → List ℕ
-expected_output seed input =
-    trace_output seed (units_of input).0 (history_from first_state [] (asks_of (units_of input).0))
+abbrev pub expected_output : (start : Start) (input : List ℕ) → List ℕ
+expected_output start input =
+    trace_output start (units_of input).0 (history_from start.base [] (asks_of (units_of input).0))
 
--- What was written is the whole output for the input's units and a legal history of their requests. Where none was told
--- that memory was missing, it is a function of seed and input.
-pub record IsTrace (seed input before after : List ℕ) : Type 0 where
-  pub history : History
-  pub legal : IsLegal first_state history
+-- What was written is the whole output for the input's units and this legal history of their requests. Where none was
+-- told that memory was missing, it is a function of the start and the input.
+pub record IsTrace (start : Start) (history : History) (input before after : List ℕ) : Type 0 where
+  pub legal : IsLegal start.base history
   pub asks : asks_in history ≡ asks_of (units_of input).0
-  pub output : after ≡ before ++ trace_output seed (units_of input).0 history
-  pub determined : HasMemory history → after ≡ before ++ expected_output seed input
+  pub output : after ≡ before ++ trace_output start (units_of input).0 history
+  pub determined : HasMemory history → after ≡ before ++ expected_output start input
 
 -- What was written is a front of the output for units that begin the input's, and a legal history of requests that begin theirs.
-pub record BeginsTrace (seed input before after : List ℕ) : Type 0 where
+pub record BeginsTrace (start : Start) (input before after : List ℕ) : Type 0 where
   pub units : List InputUnit
   pub begun : IsPrefix units (units_of input).0
   pub history : History
-  pub legal : IsLegal first_state history
+  pub legal : IsLegal start.base history
   pub asks : IsPrefix (asks_in history) (asks_of units)
   pub written : List ℕ
-  pub part : IsPrefix written (trace_output seed units history)
+  pub part : IsPrefix written (trace_output start units history)
   pub output : after ≡ before ++ written
+
+-- The directory stands for what the history has come to, and all of its journals are on the disk.
+pub record Keeps (base : Base) (history : History) (disk : Disk) : Type 0 where
+  pub reached : Reached
+  pub stands : IsDirectoryState disk.now (Ok reached)
+  pub ids : reached.ids ≡ Some base.ids
+  pub state : reached.state ≡ state_of base history
+  pub clock : reached.clock ≡ clock_of base history
+  pub synced : AllOnDisk disk
+
+-- The run answered the input to its end or its fault, and left its commits in the directory.
+pub record Ended (seed input before after : List ℕ) (old new : Option (List Disk)) : Type 0 where
+  pub start : Start
+  pub begins : Begins start seed old
+  pub history : History
+  pub trace : IsTrace start history input before after
+  pub keeps : IfTold new (λ disk past. Keeps start.base history disk)
+
+-- the run ended early
+pub record Stopped (seed input before after : List ℕ) (old : Option (List Disk)) : Type 0 where
+  pub start : Start
+  pub begins : Begins start seed old
+  pub trace : BeginsTrace start input before after
 
 -- what a status says of the input: at Ok it was well-formed and was read to its end, and a malformed unit is the first one
 abbrev pub PlaceSeen : Status → (input : List ℕ) → (left : Option (List ℕ)) → Type 0
@@ -48,16 +72,36 @@ PlaceSeen (status.BadInput at) input left = fault_place input ≡ Some at
 PlaceSeen status.BadWords input left = left ≡ Some input
 PlaceSeen status.ReadFault input left = ⊤
 PlaceSeen status.WriteFault input left = ⊤
+PlaceSeen status.DiskFault input left = ⊤
 PlaceSeen status.NoMemory input left = ⊤
+PlaceSeen (status.Damaged damage) input left = left ≡ Some input
 
--- what a status says of the output
-abbrev pub OutputSeen : Status → (seed input before after : List ℕ) → Type 0
-OutputSeen status.Ok seed input before after = IsTrace seed input before after
-OutputSeen (status.BadInput at) seed input before after = IsTrace seed input before after
-OutputSeen status.BadWords seed input before after = after ≡ before
-OutputSeen status.ReadFault seed input before after = BeginsTrace seed input before after
-OutputSeen status.WriteFault seed input before after = BeginsTrace seed input before after
-OutputSeen status.NoMemory seed input before after = BeginsTrace seed input before after
+-- Nothing was written, or a front of what the database that the directory stands for would answer. A run that failed before
+-- it had opened the directory wrote nothing.
+abbrev pub Front : (seed input before after : List ℕ) → Option (List Disk) → Type 0
+Front seed input before after old = (after ≡ before) ⊎ Stopped seed input before after old
+
+-- what a status says of the output and of the directory
+abbrev pub OutputSeen : Status → (seed input before after : List ℕ) → (old new : Option (List Disk)) → Type 0
+OutputSeen status.Ok seed input before after old new = Ended seed input before after old new
+OutputSeen (status.BadInput at) seed input before after old new = Ended seed input before after old new
+OutputSeen status.BadWords seed input before after old new = (after ≡ before) × (new ≡ old)
+OutputSeen status.ReadFault seed input before after old new = Stopped seed input before after old
+OutputSeen status.WriteFault seed input before after old new = Stopped seed input before after old
+OutputSeen status.DiskFault seed input before after old new = Front seed input before after old
+OutputSeen status.NoMemory seed input before after old new = Front seed input before after old
+OutputSeen (status.Damaged damage) seed input before after old new = (after ≡ before) × (new ≡ old)
+
+-- the directory stands for nothing, by this damage, where it tells its files
+abbrev pub DamageSeen : Status → Option (List Disk) → Type 0
+DamageSeen status.Ok old = ⊤
+DamageSeen (status.BadInput at) old = ⊤
+DamageSeen status.BadWords old = ⊤
+DamageSeen status.ReadFault old = ⊤
+DamageSeen status.WriteFault old = ⊤
+DamageSeen status.DiskFault old = ⊤
+DamageSeen status.NoMemory old = ⊤
+DamageSeen (status.Damaged damage) old = IfTold old (λ disk past. IsDirectoryState disk.now (Err damage))
 
 -- the status of a run that no fault ended
 abbrev pub status_by : Option ℕ → Status

@@ -1,9 +1,9 @@
 -- The units of an input: the bytes that come on a connection, in pieces.
 use Rattle.std.specs.Prelude.{ℕ, ◌+◌, ◌-◌, ◌^◌, List, [], ◌∷◌, ◌++◌, length, drop, map, Option, Some, None, nat_lt, ◌==◌, if◌then◌else◌}
 use Rattle.std.specs.List.{filter_map}
+use Rattle.mx_msgpack.specs.Readers.{Reader, ◌>>=◌, all_from, number_at, after_byte, bytes_at}
 use Rattle.mx_model.specs.declared.txn_name.TxnName.{TxnName}
 use Rattle.mx_model.specs.Requests.{Ask}
-use Rattle.mx_top.specs.Readers.{Reader, ◌>>=◌, all_from, number_at, after_byte, bytes_at}
 use Rattle.mx_top.specs.Packets.{packet_at, packets_of}
 use Rattle.mx_top.specs.Asks.{Job, job_in}
 

@@ -1,38 +1,33 @@
 //! The greeting of a connection (IPROTO, "Greeting message").
 
 ghost use Rattle.std.specs.Prelude.{◌≡◌, ◌++◌, IfOk, OnOk};
-ghost use Rattle.mx_top.specs.Greeting.{greeting_of, instance_of, padded_line};
+ghost use Rattle.mx_top.specs.Greeting.{greeting_of, padded_line};
 
 use base64::engine::general_purpose::STANDARD;
 use std::alloc::{AllocError, Global};
-use uuid::{Builder, Uuid};
+use uuid::Uuid;
 
 /// The bytes of a line before its newline.
 const LINE: usize = 63;
 
-/// The greeting of a node with this seed: product, version, protocol and instance on one line, the
-/// salt in base64 on the other, 128 bytes in all.
+/// The greeting of a node: product, version, protocol and the node's instance on one line, the salt
+/// in base64 on the other, 128 bytes in all.
 #[tactic(auto, unfolding(crate::specs::Greeting::greeting_of))]
-pub(crate) fn greeting(alloc: Global, seed: &[u8; 32]) -> Result<Vec<u8>, AllocError>
-    ensures { IfOk result (λ text. text.items ≡ greeting_of seed.now) }
+pub(crate) fn greeting(
+    alloc: Global,
+    instance: &Uuid,
+    salt: &[u8; 32],
+) -> Result<Vec<u8>, AllocError>
+    ensures { IfOk result (λ text. text.items ≡ greeting_of instance.now salt.now) }
 {
     let mut text = Vec::with_capacity(alloc, 2 * (LINE + 1))?;
     let mut buffer = Uuid::encode_buffer();
-    let instance = instance_of(seed).hyphenated().encode_lower(&mut buffer);
+    let instance = instance.hyphenated().encode_lower(&mut buffer);
     let mut first = String::from_str(alloc, "Tarantool 2.11.0 (Binary) ")?;
     first.push_str(instance)?;
     push_line(&mut text, first.as_bytes())?;
-    push_line(&mut text, STANDARD.encode(alloc, seed)?.as_bytes())?;
+    push_line(&mut text, STANDARD.encode(alloc, salt)?.as_bytes())?;
     Ok(text)
-}
-
-/// The instance's UUID: the first 16 bytes of the seed, made a version 4 UUID.
-fn instance_of(seed: &[u8; 32]) -> Uuid
-    ensures { result ≡ instance_of seed.now }
-{
-    let mut bytes = [0; 16];
-    bytes.copy_from_slice(&seed[..16]);
-    Builder::from_random_bytes(bytes).into_uuid()
 }
 
 /// Adds a line, filled up by spaces.

@@ -7,9 +7,8 @@ ghost use Rattle.mx_top.specs.Units.{jobs_in, next_job_at};
 ghost use Rattle.mx_top.specs.Views.{ask_view, job_view};
 
 use crate::packets::packet_at;
-use crate::readers::{after_byte, unsigned_32_at, unsigned_at};
 use mx_model::{Refusal, Request, items_in};
-use mx_msgpack::skip;
+use mx_msgpack::{after_byte, skip, unsigned_32_at, unsigned_at};
 use std::alloc::{AllocError, Global};
 
 /// The type of a SELECT.

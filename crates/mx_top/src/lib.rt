@@ -3,15 +3,19 @@
 
 mod answers;
 mod delivery;
-mod engine;
+mod file_names;
 mod greeting;
 mod intake;
 mod jobs;
+mod loading;
+mod opening;
+mod opening_fault;
 mod output_unit;
 mod packets;
-mod readers;
+mod replaying;
 mod replies;
 mod server;
+mod settling;
 mod status;
 mod stop;
 mod top_call;
@@ -21,6 +25,7 @@ mod words;
 
 pub use status::Status;
 pub use top_call::run;
+pub use words::directory_word;
 
 #[cfg(test)]
 mod tests;

@@ -4,7 +4,7 @@ ghost use Rattle.std.specs.Prelude.{◌≡◌};
 ghost use Rattle.std.specs.Option.{option_map};
 ghost use Rattle.mx_top.specs.Packets.{size_at, packet_at};
 
-use crate::readers::{after_byte, bytes_at, number_at};
+use mx_msgpack::{after_byte, bytes_at, number_at};
 
 /// The longest packet, without its size.
 const LONGEST_PACKET: u32 = 65536;

@@ -1,10 +1,10 @@
 //! Replies as packets (IPROTO, "Response structure").
 
-ghost use Rattle.std.specs.Prelude.{◌≡◌, ◌++◌, ◌∷◌, ◌+◌, ◌^◌, ◌<◌, ◌≤◌, ℕ, List, take, length, OnOk};
+ghost use Rattle.std.specs.Prelude.{◌≡◌, ◌++◌, ◌∷◌, ◌+◌, ◌^◌, ◌<◌, ◌≤◌, ◌-◌, ℕ, List, take, length, min, OnOk};
 ghost use Rattle.std.specs.List.{concat};
-ghost use Rattle.std.specs.Option.{option_to_list, option_copied};
 ghost use Rattle.byteorder.specs.Endian.{big_bytes};
-ghost use Rattle.mx_model.specs.declared.reply.Reply.TheVariants.{Tuples, Refused};
+ghost use Rattle.mx_model.specs.declared.reply.Reply.TheVariants as reply;
+ghost use Rattle.mx_model.specs.declared.reply.Reply.TheVariants.{Refused};
 ghost use Rattle.mx_model.specs.declared.refusal.Refusal.{Refusal};
 ghost use Rattle.mx_model.specs.Refusals.{text_of};
 ghost use Rattle.mx_model.specs.ReplyStream.{reply_packet, reply_header, reply_type, shortest_str};
@@ -12,36 +12,45 @@ ghost use Rattle.mx_top.specs.TraceOutput.{schema_version};
 
 use byteorder::{BigEndian, ByteOrder};
 use mx_model::{Refusal, code_of, text_of};
+use mx_msgpack::{Bytes, Tuples};
 use std::alloc::{AllocError, Global};
 
 /// The bytes of a header, without the five of the packet's size before it.
 const HEADER_SIZE: usize = 23;
 
-/// Adds the reply of no tuple or one.
-pub(crate) fn push_found(
-    out: &mut Vec<u8>,
-    sync: u64,
-    found: Option<&[u8]>,
-) -> Result<(), AllocError>
-    ensures { OnOk result (out.new.items ≡ out.old.items
-        ++ reply_packet schema_version sync (Tuples (option_to_list (option_copied found.entry)))) }
+/// Adds the reply of these tuples.
+pub(crate) fn push_tuples(out: &mut Vec<u8>, sync: u64, tuples: &Tuples) -> Result<(), AllocError>
+    ensures { OnOk result (out.new.items ≡ out.old.items ++ reply_packet schema_version sync (reply.Tuples tuples.now)) }
 {
-    match found {
-        None => push_tuples(out, sync, 0, &[]),
-        Some(tuple) => push_tuples(out, sync, 1, tuple),
-    }
-}
-
-/// Adds the reply of `count` tuples, which stand one after the other in `tuples`.
-fn push_tuples(out: &mut Vec<u8>, sync: u64, count: u32, tuples: &[u8]) -> Result<(), AllocError>
-    ensures { (found : List (List ℕ)) → length found ≡ count → concat found ≡ tuples.now
-        → OnOk result (out.new.items ≡ out.old.items ++ reply_packet schema_version sync (Tuples found)) }
-{
+    let Ok(count) = u32::try_from(tuples.len()) else {
+        return Err(AllocError);
+    };
     let mut head = [0x81, 0x30, 0xdd, 0, 0, 0, 0];
     BigEndian::write_u32(&mut head[3..], count);
-    push_header(out, tuples.len().saturating_add(head.len()), sync, 0)?;
+    let size = total_size(tuples.as_slice()).saturating_add(head.len());
+    push_header(out, size, sync, 0)?;
     out.extend_from_slice(&head)?;
-    out.extend_from_slice(tuples)?;
+    push_each(out, tuples.as_slice())
+}
+
+/// How many bytes the tuples have together, or the greatest number there is.
+fn total_size(tuples: &[Bytes]) -> usize
+    ensures { result ≡ min (length (concat tuples.now)) (2 ^ 64 - 1) }
+{
+    let mut size = 0_usize;
+    for tuple in tuples {
+        size = size.saturating_add(tuple.len());
+    }
+    size
+}
+
+/// Adds the bytes of each tuple.
+fn push_each(out: &mut Vec<u8>, tuples: &[Bytes]) -> Result<(), AllocError>
+    ensures { OnOk result (out.new.items ≡ out.old.items ++ concat tuples.now) }
+{
+    for tuple in tuples {
+        out.extend_from_slice(tuple.as_slice())?;
+    }
     Ok(())
 }
 

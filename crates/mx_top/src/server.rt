@@ -1,12 +1,19 @@
-//! The server of one connection: its engine, and what the connection is sent.
+//! The server of one connection: its engine and journal, and what the connection is sent.
 
-ghost use Rattle.std.specs.Prelude.{◌≡◌, ◌++◌, [], IfOk, OnOk, if◌then◌else◌, is_some, true};
+ghost use Rattle.std.specs.Prelude.{◌≡◌, ◌≤◌, ◌++◌, [], Err, IfOk, OnOk, IfErr, if◌then◌else◌, is_some, true};
+ghost use Rattle.mx_outside.specs.Causes.{Rose};
+ghost use Rattle.mx_top.specs.declared.stop.Stop.TheVariants.{DiskFault};
+ghost use Rattle.mx_top.specs.Stops.{IsDiskStop};
 
 use crate::answers::answer_all;
-use crate::engine::Engine;
 use crate::greeting::greeting;
 use crate::jobs::jobs_in;
+use crate::opening::Opened;
 use crate::output_unit::{begin_unit, finish_unit};
+use crate::stop::Stop;
+use mx_engine::Engine;
+use mx_journal::Journal;
+use mx_outside::Dir;
 use std::alloc::{AllocError, Global};
 
 /// The number of the one connection.
@@ -18,33 +25,53 @@ pub(crate) struct Server {
     alloc: Global,
     greeting: Vec<u8>,
     engine: Engine,
+    journal: Journal,
     opened: bool,
 }
 
 impl Server {
-    ghost use Rattle.std.specs.Prelude.{ℕ, List, MatchBool};
-    ghost use Rattle.mx_model.specs.Histories.{History};
+    ghost use Rattle.std.specs.Prelude.{ℕ, List, Option, MatchBool};
+    ghost use Rattle.mx_outside.specs.Disks.{Disk, IfTold};
+    ghost use Rattle.mx_model.specs.Histories.{Base, History};
     ghost use Rattle.mx_top.specs.Units.{InputUnit, jobs_in};
+    ghost use Rattle.mx_top.specs.Starts.{Start};
+    ghost use Rattle.mx_top.specs.Ready.{Ready, IsReady};
+    ghost use Rattle.mx_top.specs.Runs.{Keeps};
     ghost use Rattle.mx_top.specs.Serving.{Serves, Took};
 
-    /// A node with this seed, which has no connection yet.
-    pub(crate) fn new(alloc: Global, seed: &[u8; 32]) -> Result<Server, AllocError>
-        ensures { IfOk result (λ server. Serves seed.now server [] []) }
+    /// A node over an opened directory, which has no connection yet; the seed is its salt.
+    pub(crate) fn new(alloc: Global, seed: &[u8; 32], opened: Opened) -> Result<Server, AllocError>
+        ensures { (start : Start) (states : Option (List Disk)) → start.seed ≡ seed.now → Ready start.base [] opened.engine opened.journal states
+            → IfOk result (λ server. Serves start server [] [] states) }
     {
+        let Opened { engine, journal } = opened;
         Ok(Server {
             alloc,
-            greeting: greeting(alloc, seed)?,
-            engine: Engine::new(alloc),
+            greeting: greeting(alloc, &engine.ids().instance, seed)?,
+            engine,
+            journal,
             opened: false,
         })
     }
 
     /// Answers the bytes of a unit, and puts the output unit for it into `out`: nothing for no bytes.
-    /// Says whether the bytes are whole packets, each with a job; where they aren't, nothing changes.
-    pub(crate) fn take(&mut self, content: &[u8], out: &mut Vec<u8>) -> Result<bool, AllocError>
+    /// What it commits is on the disk then. Says whether the bytes are whole packets, each with a job;
+    /// where they aren't, nothing changes.
+    pub(crate) fn take<D: Dir>(
+        &mut self,
+        dir: &mut D,
+        content: &[u8],
+        out: &mut Vec<u8>,
+    ) -> Result<bool, Stop>
+        requires { IsReady self.old.engine self.old.journal (D.states dir.old) }
         ensures taken { IfOk result (λ taken. taken ≡ is_some (jobs_in content.now)) }
-        ensures took { (seed : List ℕ) (units : List InputUnit) (history : History) → Serves seed self.old units history
-            → IfOk result (λ taken. MatchBool taken (Took seed self.new units history content.now out.new.items) (Serves seed self.new units history)) }
+        ensures took { (start : Start) (units : List InputUnit) (history : History) → Serves start self.old units history (D.states dir.old)
+            → IfOk result (λ taken. MatchBool taken (Took start self.new units history content.now out.new.items (D.states dir.new))
+            (Serves start self.new units history (D.states dir.new))) }
+        ensures ready { OnOk result (IsReady self.new.engine self.new.journal (D.states dir.new)) }
+        ensures later { D.faults dir.old ≤ D.faults dir.new }
+        ensures fault { result ≡ Err DiskFault → Rose (D.faults dir.old) (D.faults dir.new) }
+        ensures stops { IfErr result IsDiskStop }
     {
         let Some(jobs) = jobs_in(self.alloc, content)? else {
             return Ok(false);
@@ -55,9 +82,29 @@ impl Server {
         }
         begin_unit(out, CONNECTION)?;
         self.greet(out)?;
-        answer_all(self.alloc, &mut self.engine, &jobs, out)?;
+        answer_all(
+            self.alloc,
+            &mut self.engine,
+            &mut self.journal,
+            dir,
+            &jobs,
+            out,
+        )?;
         finish_unit(out)?;
         Ok(true)
+    }
+
+    /// Ends the journal in order.
+    pub(crate) fn end<D: Dir>(self, dir: &mut D) -> Result<(), Stop>
+        requires { IsReady self.engine self.journal (D.states dir.old) }
+        ensures keeps { (base : Base) (history : History) → Ready base history self.engine self.journal (D.states dir.old)
+            → OnOk result (IfTold (D.states dir.new) (λ disk past. Keeps base history disk)) }
+        ensures later { D.faults dir.old ≤ D.faults dir.new }
+        ensures fault { result ≡ Err DiskFault → Rose (D.faults dir.old) (D.faults dir.new) }
+        ensures stops { IfErr result IsDiskStop }
+    {
+        self.journal.end(self.alloc, dir)?;
+        Ok(())
     }
 
     /// Adds the greeting, where the connection hasn't had it yet.

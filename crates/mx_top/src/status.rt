@@ -1,10 +1,11 @@
 //! How a run ended.
 
+use mx_model::Damage;
 use thiserror::Error;
 
 /// The status of a run. Its name and the values that it carries are printed, and its number is the
 /// program's exit status.
-#[derive(Clone, Copy, Debug, Drop, PartialEq, Eq, Error)]
+#[derive(Debug, Drop, Error)]
 pub enum Status {
     /// The input was read to its end and answered.
     #[error("Ok")]
@@ -21,7 +22,13 @@ pub enum Status {
     /// The output failed.
     #[error("WriteFault")]
     WriteFault,
+    /// The directory failed.
+    #[error("DiskFault")]
+    DiskFault,
     /// No memory was found.
     #[error("NoMemory")]
     NoMemory,
+    /// The directory stands for nothing.
+    #[error("Damaged {0}")]
+    Damaged(Damage),
 }

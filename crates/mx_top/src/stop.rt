@@ -1,12 +1,14 @@
-//! Why a run ends before its input does.
+//! Why the units of an input end before the input does.
 
 ghost use Rattle.std.specs.Prelude.{◌≡◌};
 ghost use Rattle.mx_top.specs.declared.stop.Stop.TheVariants.{NoMemory};
+ghost use Rattle.mx_top.specs.Stops.{stop_of};
 
+use mx_journal::JournalFault;
 use std::alloc::{AllocError, AllocFailed};
 use thiserror::Error;
 
-/// The first cause that a run meets.
+/// The first cause that a run meets once its directory is opened.
 #[derive(Clone, Copy, Debug, Drop, PartialEq, Eq, Error)]
 pub(crate) enum Stop {
     /// The first malformed unit begins at byte `at`.
@@ -16,6 +18,8 @@ pub(crate) enum Stop {
     ReadFault,
     #[error("the output failed")]
     WriteFault,
+    #[error("the directory failed")]
+    DiskFault,
     #[error("out of memory")]
     NoMemory,
 }
@@ -33,5 +37,16 @@ impl<T: Drop> From<AllocFailed<T>> for Stop {
 
     fn from(_: AllocFailed<T>) -> Stop {
         Stop::NoMemory
+    }
+}
+
+impl From<JournalFault> for Stop {
+    ghost from_gives = { λ fault e. e ≡ stop_of fault };
+
+    fn from(fault: JournalFault) -> Stop {
+        match fault {
+            JournalFault::Failed => Stop::DiskFault,
+            JournalFault::NoMemory => Stop::NoMemory,
+        }
     }
 }

@@ -1,6 +1,7 @@
 use super::*;
+use crate::loading::load;
 use mx_fake::{MemoryDir, MemorySink, MemorySource};
-use mx_outside::Names;
+use mx_outside::{Dir, DirFault, Names};
 use std::alloc::{AllocError, Global};
 use std::test::Fail;
 
@@ -21,31 +22,84 @@ const REPLACE: &[u8] =
 const SELECT: &[u8] =
     b"\xce\x00\x00\x00\x11\x82\x00\x01\x01\x02\x84\x10\xcd\x02\x00\x12\x0a\x14\x00\x20\x91\x01";
 
-/// What a run came to.
+/// What a run came to: its status as it is printed, its output, and its directory.
 #[derive(Drop)]
 struct Ran {
-    status: Status,
+    status: String,
     output: Vec<u8>,
+    dirs: Vec<MemoryDir>,
 }
 
-/// A run on these words and this input, some of whose calls on source and sink are to fail.
-fn run_on(
+/// Which calls on source, sink and directory are to fail.
+#[derive(Clone, Copy)]
+struct Failing {
+    reads: &'static [u64],
+    writes: &'static [u64],
+}
+
+/// No call fails.
+const NONE: Failing = Failing {
+    reads: &[],
+    writes: &[],
+};
+
+/// The directory that a run left.
+fn directory_of(ran: Ran) -> Result<MemoryDir, AllocError> {
+    let mut dirs = ran.dirs;
+    dirs.pop().ok_or(AllocError)
+}
+
+/// A run on these words and this input, with this directory.
+fn run_in(
     alloc: Global,
+    dir: MemoryDir,
     words: &[&str],
     input: &[u8],
-    failing_reads: &[u64],
-    failing_writes: &[u64],
+    failing: Failing,
 ) -> Result<Ran, AllocError> {
     let mut names = Names::new(alloc);
     for word in words {
         names.push(String::from_str(alloc, word)?)?;
     }
-    let mut dirs: Vec<MemoryDir> = Vec::new(alloc);
-    let mut source = MemorySource::new(input.to_vec(alloc)?, failing_reads.to_vec(alloc)?);
-    let mut sink = MemorySink::new(alloc, failing_writes.to_vec(alloc)?);
-    let status = run(alloc, &names, &SEED, &mut dirs, &mut source, &mut sink);
+    let mut dirs = Vec::new(alloc);
+    dirs.push(dir)?;
+    let mut source = MemorySource::new(input.to_vec(alloc)?, failing.reads.to_vec(alloc)?);
+    let mut sink = MemorySink::new(alloc, failing.writes.to_vec(alloc)?);
+    let ended = run(alloc, &names, &SEED, &mut dirs, &mut source, &mut sink);
+    let status = format!(in alloc; "{ended}")?;
     let output = sink.bytes().to_vec(alloc)?;
-    Ok(Ran { status, output })
+    Ok(Ran {
+        status,
+        output,
+        dirs,
+    })
+}
+
+/// A run on a new directory.
+fn run_on(
+    alloc: Global,
+    words: &[&str],
+    input: &[u8],
+    failing: Failing,
+) -> Result<Ran, AllocError> {
+    let dir = MemoryDir::new(alloc, Vec::new(alloc));
+    run_in(alloc, dir, words, input, failing)
+}
+
+/// The bytes of a file, or none where it isn't there.
+fn file(alloc: Global, dir: &mut MemoryDir, name: &str) -> Result<Vec<u8>, DirFault> {
+    match dir.has(alloc, name) {
+        Ok(true) => load(alloc, dir, name),
+        _ => Ok(Vec::new(alloc)),
+    }
+}
+
+/// Puts bytes at the end of a file that is there.
+fn append(alloc: Global, dir: &mut MemoryDir, name: &str, bytes: &[u8]) -> Result<(), DirFault> {
+    match dir.has(alloc, name) {
+        Ok(true) => dir.append(alloc, name, bytes),
+        _ => Err(DirFault::NoMemory),
+    }
 }
 
 /// The parts, one after the other.
@@ -82,7 +136,7 @@ fn reply(alloc: Global, kind: u16, sync: u8, body: &[u8]) -> Result<Vec<u8>, All
 /// A run on these bytes, and then others.
 fn run_after(alloc: Global, good: &[u8], bad: &[u8]) -> Result<Ran, AllocError> {
     let input = joined(alloc, &[good, bad])?;
-    run_on(alloc, &["trace", "d"], &input, &[], &[])
+    run_on(alloc, &["trace", "d"], &input, NONE)
 }
 
 /// A reply of one tuple.
@@ -105,103 +159,77 @@ fn replace_then_select_is_exact(rt: HostRuntime) -> Result<(), Fail> {
     assert_eq!(rt; output.len(), 0xce + 8);
     let trace = ["trace", "d"];
     let cut = input.split_last().map_or([].as_slice(), |(_, front)| front);
-    let cases: [(&str, &[&str], &[u8], &[u64], &[u64], Status, &[u8]); 12] = [
-        ("the example", &trace, &input, &[], &[], Status::Ok, &output),
-        ("no input", &trace, &[], &[], &[], Status::Ok, &[]),
-        (
-            "another kind",
-            &trace,
-            b"\x05",
-            &[],
-            &[],
-            Status::BadInput { at: 0 },
-            &[],
-        ),
-        (
-            "a cut unit",
-            &trace,
-            cut,
-            &[],
-            &[],
-            Status::BadInput { at: 0 },
-            &[],
-        ),
-        (
-            "no directory",
-            &["trace"],
-            &input,
-            &[],
-            &[],
-            Status::BadWords,
-            &[],
-        ),
-        (
-            "an option",
-            &["trace", "-d"],
-            &input,
-            &[],
-            &[],
-            Status::BadWords,
-            &[],
-        ),
+    let second_read = Failing {
+        reads: &[2],
+        writes: &[],
+    };
+    let first_write = Failing {
+        reads: &[],
+        writes: &[1],
+    };
+    let flush = Failing {
+        reads: &[],
+        writes: &[2],
+    };
+    let cases: [(&str, &[&str], &[u8], Failing, &str, &[u8]); 12] = [
+        ("the example", &trace, &input, NONE, "Ok", &output),
+        ("no input", &trace, &[], NONE, "Ok", &[]),
+        ("another kind", &trace, b"\x05", NONE, "BadInput 0", &[]),
+        ("a cut unit", &trace, cut, NONE, "BadInput 0", &[]),
+        ("no directory", &["trace"], &input, NONE, "BadWords", &[]),
+        ("an option", &["trace", "-d"], &input, NONE, "BadWords", &[]),
         (
             "an empty word",
             &["trace", ""],
             &input,
-            &[],
-            &[],
-            Status::BadWords,
+            NONE,
+            "BadWords",
             &[],
         ),
         (
             "a word more",
             &["trace", "d", "e"],
             &input,
-            &[],
-            &[],
-            Status::BadWords,
+            NONE,
+            "BadWords",
             &[],
         ),
         (
             "another command",
             &["nodes", "d"],
             &input,
-            &[],
-            &[],
-            Status::BadWords,
+            NONE,
+            "BadWords",
             &[],
         ),
         (
             "the second read fails",
             &trace,
             &input,
-            &[2],
-            &[],
-            Status::ReadFault,
+            second_read,
+            "ReadFault",
             &output,
         ),
         (
             "the first write fails",
             &trace,
             &input,
-            &[],
-            &[1],
-            Status::WriteFault,
+            first_write,
+            "WriteFault",
             &[],
         ),
         (
             "the flush fails",
             &trace,
             &input,
-            &[],
-            &[2],
-            Status::WriteFault,
+            flush,
+            "WriteFault",
             &output,
         ),
     ];
-    for (name, words, input, reads, writes, status, output) in cases {
-        let ran = run_on(alloc, words, input, reads, writes)?;
-        assert_eq!(rt; ran.status, status, "{name}");
+    for (name, words, input, failing, status, output) in cases {
+        let ran = run_on(alloc, words, input, failing)?;
+        assert_eq!(rt; ran.status.as_str(), status, "{name}");
         assert_eq!(rt; ran.output.as_slice(), output, "{name}");
     }
     Ok(())
@@ -281,8 +309,8 @@ fn replies_are_exact(rt: HostRuntime) -> Result<(), Fail> {
     }
     input.extend_from_slice(&unit(alloc, ON_ONE, &[&ping, &ping])?)?;
     output.extend_from_slice(&unit(alloc, TO_ONE, &[&ping_told, &ping_told])?)?;
-    let ran = run_on(alloc, &["trace", "d"], &input, &[], &[])?;
-    assert_eq!(rt; ran.status, Status::Ok);
+    let ran = run_on(alloc, &["trace", "d"], &input, NONE)?;
+    assert_eq!(rt; ran.status.as_str(), "Ok");
     assert_eq!(rt; ran.output.as_slice(), output.as_slice());
     Ok(())
 }
@@ -315,10 +343,9 @@ fn malformed_units_are_told_at_their_beginning(rt: HostRuntime) -> Result<(), Fa
         alloc,
         &["trace", "d"],
         &unit(alloc, ON_ONE, &[&deepest])?,
-        &[],
-        &[],
+        NONE,
     )?;
-    assert_eq!(rt; deep_run.status, Status::Ok);
+    assert_eq!(rt; deep_run.status.as_str(), "Ok");
     let bad_packets: [&[u8]; 12] = [
         &too_deep,
         b"\x0f\x82\x00\x03\x01\x01\x82\x10\xcd\x02\x00\x21\x92\x01\xa1a",
@@ -336,7 +363,7 @@ fn malformed_units_are_told_at_their_beginning(rt: HostRuntime) -> Result<(), Fa
     for bad in bad_packets {
         let unit = unit(alloc, ON_ONE, &[REPLACE, bad])?;
         let ran = run_after(alloc, &good, &unit)?;
-        assert_eq!(rt; ran.status, Status::BadInput { at: 29 }, "{bad:?}");
+        assert_eq!(rt; ran.status.as_str(), "BadInput 29", "{bad:?}");
         assert_eq!(rt; ran.output.as_slice(), output.as_slice(), "{bad:?}");
     }
     let bad_units: [&[u8]; 5] = [
@@ -348,8 +375,189 @@ fn malformed_units_are_told_at_their_beginning(rt: HostRuntime) -> Result<(), Fa
     ];
     for bad in bad_units {
         let ran = run_after(alloc, &good, bad)?;
-        assert_eq!(rt; ran.status, Status::BadInput { at: 29 }, "{bad:?}");
+        assert_eq!(rt; ran.status.as_str(), "BadInput 29", "{bad:?}");
         assert_eq!(rt; ran.output.as_slice(), output.as_slice(), "{bad:?}");
     }
+    Ok(())
+}
+
+const FIRST: &str = "00000000000000000000.xlog";
+
+const SECOND: &str = "00000000000000000001.xlog";
+
+/// The header of the first journal: the node's UUIDs are the seed's, and its replica id is 1.
+const HEADER: &[u8; 118] = b"XLOG\n0.13\nInstance: 00010203-0405-4607-8809-0a0b0c0d0e0f\n\
+    ReplicaSet: 10111213-1415-4617-9819-1a1b1c1d1e1f\nVClock: {}\n\n";
+
+/// The header of the journal that begins behind one commit.
+const NEXT_HEADER: &[u8; 122] = b"XLOG\n0.13\nInstance: 00010203-0405-4607-8809-0a0b0c0d0e0f\n\
+    ReplicaSet: 10111213-1415-4617-9819-1a1b1c1d1e1f\nVClock: {1: 1}\n\n";
+
+/// The block of the REPLACE, as the first commit of replica 1.
+const BLOCK: &[u8; 36] = b"\xd5\xba\x0b\xab\xce\0\0\0\x11\0\xce\xa3\xd2\x78\x98\xa3\0\0\0\
+    \x83\x00\x03\x02\x01\x03\x01\x82\x10\xcd\x02\x00\x21\x92\x01\xa1a";
+
+/// The marker of a file's end.
+const END: &[u8; 4] = b"\xd5\x10\xad\xed";
+
+#[test]
+fn commits_are_found_by_the_next_run(rt: HostRuntime) -> Result<(), Fail> {
+    let alloc = rt.alloc();
+    let trace = ["trace", "d"];
+    let empty = run_on(alloc, &trace, &[], NONE)?;
+    let mut dir = directory_of(empty)?;
+    assert_eq!(rt;
+        file(alloc, &mut dir, FIRST)?,
+        joined(alloc, &[HEADER, END])?
+    );
+    let input = unit(alloc, ON_ONE, &[REPLACE])?;
+    let put = run_in(alloc, dir, &trace, &input, NONE)?;
+    assert_eq!(rt; put.status.as_str(), "Ok");
+    let mut dir = directory_of(put)?;
+    assert_eq!(rt;
+        file(alloc, &mut dir, FIRST)?,
+        joined(alloc, &[HEADER, BLOCK, END])?
+    );
+    let input = unit(alloc, ON_ONE, &[SELECT])?;
+    let again = run_in(alloc, dir, &trace, &input, NONE)?;
+    let tuple = found(alloc, 2, b"\x92\x01\xa1a")?;
+    assert_eq!(rt; again.status.as_str(), "Ok");
+    assert_eq!(rt; again.output, unit(alloc, TO_ONE, &[GREETING, &tuple])?);
+    let mut dir = directory_of(again)?;
+    assert_eq!(rt;
+        file(alloc, &mut dir, SECOND)?,
+        joined(alloc, &[NEXT_HEADER, END])?
+    );
+    Ok(())
+}
+
+#[test]
+fn each_call_on_the_directory_may_fail(rt: HostRuntime) -> Result<(), Fail> {
+    let alloc = rt.alloc();
+    let input = unit(alloc, ON_ONE, &[REPLACE])?;
+    // Opening makes 7 calls, the commit 2 and the end 2; the output waits for the commit's.
+    for call in 1..=12 {
+        let mut failing = Vec::new(alloc);
+        failing.push(call)?;
+        let dir = MemoryDir::new(alloc, failing);
+        let ran = run_in(alloc, dir, &["trace", "d"], &input, NONE)?;
+        let status = if call == 12 { "Ok" } else { "DiskFault" };
+        assert_eq!(rt; ran.status.as_str(), status, "call {call}");
+        assert_eq!(rt; ran.output.is_empty(), call < 10, "call {call}");
+    }
+    Ok(())
+}
+
+#[test]
+fn a_commit_is_kept_though_its_reply_is_lost(rt: HostRuntime) -> Result<(), Fail> {
+    let alloc = rt.alloc();
+    let input = unit(alloc, ON_ONE, &[REPLACE])?;
+    let first_write = Failing {
+        reads: &[],
+        writes: &[1],
+    };
+    let ran = run_on(alloc, &["trace", "d"], &input, first_write)?;
+    assert_eq!(rt; ran.status.as_str(), "WriteFault");
+    let mut dir = directory_of(ran)?;
+    assert_eq!(rt;
+        file(alloc, &mut dir, FIRST)?,
+        joined(alloc, &[HEADER, BLOCK])?
+    );
+    Ok(())
+}
+
+#[test]
+fn damage_is_told_with_its_place(rt: HostRuntime) -> Result<(), Fail> {
+    let alloc = rt.alloc();
+    // A row that takes the lsn 1 again, one without a header, one of another node, one behind a gap.
+    let other_node = b"XLOG\n0.13\nInstance: 00010203-0405-4607-8809-0a0b0c0d0e0e\n\
+        ReplicaSet: 10111213-1415-4617-9819-1a1b1c1d1e1f\nVClock: {1: 1}\n\n";
+    let cases: [(&str, &[&[u8]], &str, &[&[u8]], &str); 7] = [
+        (
+            FIRST,
+            &[HEADER, BLOCK, BLOCK],
+            SECOND,
+            &[],
+            "Damaged 00000000000000000000.xlog 154 row",
+        ),
+        (
+            FIRST,
+            &[&BLOCK[..]],
+            SECOND,
+            &[],
+            "Damaged 00000000000000000000.xlog 0 head",
+        ),
+        (
+            FIRST,
+            &[HEADER, BLOCK],
+            SECOND,
+            &[other_node],
+            "Damaged 00000000000000000001.xlog 0 head",
+        ),
+        (
+            FIRST,
+            &[HEADER],
+            SECOND,
+            &[NEXT_HEADER],
+            "Damaged 00000000000000000001.xlog 0 gap {} {1: 1}",
+        ),
+        (
+            FIRST,
+            &[NEXT_HEADER],
+            SECOND,
+            &[],
+            "Damaged 00000000000000000000.xlog 0 head",
+        ),
+        (
+            FIRST,
+            &[HEADER],
+            "00000000000000000000.snap",
+            &[],
+            "Damaged 00000000000000000000.snap 0 head",
+        ),
+        (
+            FIRST,
+            &[HEADER, BLOCK, &BLOCK[..35]],
+            SECOND,
+            &[NEXT_HEADER],
+            "Ok",
+        ),
+    ];
+    for (name, parts, other, more, status) in cases {
+        let mut dir = MemoryDir::new(alloc, Vec::new(alloc));
+        dir.create(alloc, name)?;
+        append(alloc, &mut dir, name, &joined(alloc, parts)?)?;
+        if !more.is_empty() || other.ends_with(".snap") {
+            dir.create(alloc, other)?;
+            append(alloc, &mut dir, other, &joined(alloc, more)?)?;
+        }
+        let ran = run_in(alloc, dir, &["trace", "d"], &[], NONE)?;
+        assert_eq!(rt; ran.status.as_str(), status);
+    }
+    Ok(())
+}
+
+#[test]
+fn a_replica_takes_no_writes(rt: HostRuntime) -> Result<(), Fail> {
+    let alloc = rt.alloc();
+    let header = b"XLOG\n0.13\nInstance: 00010203-0405-4607-8809-0a0b0c0d0e0f\n\
+        ReplicaSet: 10111213-1415-4617-9819-1a1b1c1d1e1f\nReplica: 2\nVClock: {}\n\n";
+    let mut dir = MemoryDir::new(alloc, Vec::new(alloc));
+    dir.create(alloc, FIRST)?;
+    append(alloc, &mut dir, FIRST, &joined(alloc, &[header, BLOCK])?)?;
+    let input = unit(alloc, ON_ONE, &[REPLACE, SELECT])?;
+    let ran = run_in(alloc, dir, &["trace", "d"], &input, NONE)?;
+    let refused = reply(
+        alloc,
+        0x8007,
+        1,
+        b"\x81\x31\xd9\x29Node is read-only, the writable node is 1",
+    )?;
+    let tuple = found(alloc, 2, b"\x92\x01\xa1a")?;
+    assert_eq!(rt; ran.status.as_str(), "Ok");
+    assert_eq!(rt;
+        ran.output,
+        unit(alloc, TO_ONE, &[GREETING, &refused, &tuple])?
+    );
     Ok(())
 }

@@ -5,11 +5,11 @@ ghost use Rattle.std.specs.Option.{option_map};
 ghost use Rattle.mx_outside.specs.Causes.{Rose};
 ghost use Rattle.mx_top.specs.Units.{unit_head_at, content_at, last_place};
 ghost use Rattle.mx_top.specs.Progress.{StopsAt};
-ghost use Rattle.mx_top.specs.declared.stop.Stop.TheVariants.{ReadFault, WriteFault};
+ghost use Rattle.mx_top.specs.declared.stop.Stop.TheVariants.{ReadFault, WriteFault, DiskFault};
 
 use crate::intake::Intake;
-use crate::readers::{after_byte, number_at};
 use crate::stop::Stop;
+use mx_msgpack::{after_byte, number_at};
 use mx_outside::Source;
 
 /// The bytes before those that a unit brings: a kind, a connection and a length.
@@ -41,6 +41,7 @@ pub(crate) fn next_unit<S: Source>(
     ensures later { S.faults input.old ≤ S.faults input.new }
     ensures fault { result ≡ Err ReadFault → Rose (S.faults input.old) (S.faults input.new) }
     ensures no_write { result ≡ Err WriteFault → ⊥ }
+    ensures no_disk { result ≡ Err DiskFault → ⊥ }
 {
     if !intake.fill(input, UNIT_HEAD)? {
         return no_head(intake.len(), place);
@@ -61,6 +62,7 @@ fn no_head(waiting: usize, place: u64) -> Result<Option<usize>, Stop>
         → MatchResult result (λ found. MatchOption found (bytes ≡ []) (λ _. ⊥)) (StopsAt place bytes) }
     ensures no_fault { result ≡ Err ReadFault → ⊥ }
     ensures no_write { result ≡ Err WriteFault → ⊥ }
+    ensures no_disk { result ≡ Err DiskFault → ⊥ }
 {
     if waiting == 0 {
         Ok(None)

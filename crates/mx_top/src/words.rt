@@ -1,8 +1,10 @@
 //! The words of a command line.
 
-ghost use Rattle.std.specs.Prelude.{◌≡◌, map};
+ghost use Rattle.std.specs.Prelude.{◌≡◌, ◌↔◌, true, map, IsSome};
 ghost use Rattle.std.specs.String.{string_bytes};
 ghost use Rattle.mx_top.specs.Words.{is_command, is_directory_word};
+
+use mx_outside::Names;
 
 /// Whether the words are `trace` and a directory.
 pub(crate) fn is_command(words: &[String]) -> bool
@@ -13,6 +15,20 @@ pub(crate) fn is_command(words: &[String]) -> bool
             command.as_str() == "trace" && is_directory_word(directory.as_str())
         }
         _ => false,
+    }
+}
+
+/// The word that names the directory of a command; `None` where the words are no command.
+pub fn directory_word(words: &Names) -> Option<&str>
+    ensures { IsSome result ↔ (is_command words.now ≡ true) }
+{
+    let words = words.as_slice();
+    if !is_command(words) {
+        return None;
+    }
+    match words {
+        [_, directory] => Some(directory.as_str()),
+        _ => None,
     }
 }
 

@@ -1,8 +1,24 @@
-use Rattle.mx_top.proofs.StepLaws.{answered_at}
+use Rattle.std.proofs.Common.{arith}
+use Rattle.mx_top.proofs.StepLaws.{answered_at, sound_more}
 use Rattle.mx_top.proofs.answers.answer_all.Goals as goal
 
+pub answer-requires-clause-ready : goal.answer-requires-clause-ready
+answer-requires-clause-ready g c =
+    let ready = c.requires.ready in
+    let so_far = c.loop-job.invariant.answers ready.0 ready.1 ready.2 in
+    (ready.0, so_far.history, so_far.ready)
+
 pub loop-job-preserved : goal.loop-job-preserved
-loop-job-preserved c = λ history stands.
-    let so_far = c.loop-job.invariant history stands in
-    let step = c.in_ok-answer.ensures so_far.history so_far.stands in
-    answered_at c.answer.new.engine c.loop-job.engine history c.args.jobs.now c.loop-job.job-index _ c.args.out.now.items c.loop-job.out.items c.answer.new.out.items c.loop-job-test.true so_far step
+loop-job-preserved g c =
+    let jobs = c.args.jobs.now in
+    let index = c.loop-job.job-index in
+    let so_far = c.loop-job.invariant in
+    record {
+      sound = sound_more jobs index so_far.sound;
+      answers = λ base history ready.
+          let answers = so_far.answers base history ready in
+          answered_at base history c.loop-job.engine c.answer.new.engine c.loop-job.journal c.answer.new.journal
+          (g.D.Dir.states c.loop-job.dir) (g.D.Dir.states c.answer.new.dir) c.args.out.now.items c.loop-job.out.items c.answer.new.out.items
+          jobs index _ c.loop-job-test.true answers (c.in_ok-answer.ensures.answers base answers.history answers.ready);
+      later = omega (arith, so_far.later, c.answer.ensures.later);
+    }

@@ -1,0 +1,13 @@
+use Rattle.std.proofs.Common.{sym, ◌∙◌}
+use Rattle.mx_outside.specs.Disks.{removed}
+use Rattle.mx_model.specs.Files.{is_draft}
+use Rattle.mx_top.proofs.PassingLaws.{may_made, left}
+use Rattle.mx_top.proofs.settling.remove_if_draft.Goals as goal
+
+pub returns-then-not-is_draft-clause-removed : goal.returns-then-not-is_draft-clause-removed
+returns-then-not-is_draft-clause-removed g c =
+    left is_draft removed c.args.name.now (g.D.Dir.states c.args.dir.now) (sym c.is_draft.ensures ∙ c.if-not-is_draft.true)
+
+pub returns-clause-removed : goal.returns-clause-removed
+returns-clause-removed g c =
+    may_made is_draft removed c.args.name.now _ _ c.remove.result (sym c.is_draft.ensures ∙ c.if-not-is_draft.false) c.remove.ensures.removed

@@ -1,0 +1,45 @@
+use Rattle.std.proofs.Common.{Ok, Err}
+use Rattle.std.proofs.lemmas.Result.{err_from_is_err_and}
+use Rattle.mx_top.proofs.ProgressLaws.{seen_ended}
+use Rattle.mx_top.proofs.trace.run_units.Goals as goal
+
+pub returns-in_err-end-in-Err-BadInput-clause-output : goal.returns-in_err-end-in-Err-BadInput-clause-output
+returns-in_err-end-in-Err-BadInput-clause-output g c = λ start bytes before serves told was.
+    let p = err_from_is_err_and c.from_residual.result c.from_residual.ensures.1 in
+    let finished = rw c.in-Err-BadInput.field-0-is at c.in-Err-BadInput.ensures.output start bytes before serves told was in
+    rw (p.1, p.2) (seen_ended (Err c.in_err-end-in-Err-BadInput.field-0.0) start bytes before c.answer_units.new.server
+    (g.K.Sink.contents c.answer_units.new.output)
+    (g.D.Dir.states c.answer_units.new.dir) (g.D.Dir.states c.end-in-Err-BadInput.new.dir)
+    c.in_err-end-in-Err-BadInput.ensures.stops c.in_err-end-in-Err-BadInput.ensures.keeps finished)
+
+pub returns-in-Ok-clause-output : goal.returns-in-Ok-clause-output
+returns-in-Ok-clause-output g c = λ start bytes before serves told was.
+    seen_ended c.end.result start bytes before c.answer_units.new.server (g.K.Sink.contents c.answer_units.new.output)
+    (g.D.Dir.states c.answer_units.new.dir) (g.D.Dir.states c.end.new.dir)
+    c.end.ensures.stops c.end.ensures.keeps (c.in-Ok.ensures.output start bytes before serves told was)
+
+pub returns-in_ok-end-in-Err-BadInput-clause-place : goal.returns-in_ok-end-in-Err-BadInput-clause-place
+returns-in_ok-end-in-Err-BadInput-clause-place g c = λ bytes told. rw c.in-Err-BadInput.field-0-is at c.in-Err-BadInput.ensures.place bytes told
+
+pub returns-in_ok-end-in-Err-BadInput-clause-output : goal.returns-in_ok-end-in-Err-BadInput-clause-output
+returns-in_ok-end-in-Err-BadInput-clause-output g c = λ start bytes before serves told was.
+    let finished = rw c.in-Err-BadInput.field-0-is at c.in-Err-BadInput.ensures.output start bytes before serves told was in
+    seen_ended (Ok c.in_ok-end-in-Err-BadInput.field-0) start bytes before c.answer_units.new.server (g.K.Sink.contents c.answer_units.new.output)
+    (g.D.Dir.states c.answer_units.new.dir) (g.D.Dir.states c.end-in-Err-BadInput.new.dir)
+    c.in_ok-end-in-Err-BadInput.ensures.stops c.in_ok-end-in-Err-BadInput.ensures.keeps finished
+
+pub returns-in-Err-ReadFault-clause-output : goal.returns-in-Err-ReadFault-clause-output
+returns-in-Err-ReadFault-clause-output g c = λ start bytes before serves told was.
+    rw c.in-Err-ReadFault.field-0-is at c.in-Err-ReadFault.ensures.output start bytes before serves told was
+
+pub returns-in-Err-WriteFault-clause-output : goal.returns-in-Err-WriteFault-clause-output
+returns-in-Err-WriteFault-clause-output g c = λ start bytes before serves told was.
+    rw c.in-Err-WriteFault.field-0-is at c.in-Err-WriteFault.ensures.output start bytes before serves told was
+
+pub returns-in-Err-DiskFault-clause-output : goal.returns-in-Err-DiskFault-clause-output
+returns-in-Err-DiskFault-clause-output g c = λ start bytes before serves told was.
+    rw c.in-Err-DiskFault.field-0-is at c.in-Err-DiskFault.ensures.output start bytes before serves told was
+
+pub returns-in-Err-NoMemory-clause-output : goal.returns-in-Err-NoMemory-clause-output
+returns-in-Err-NoMemory-clause-output g c = λ start bytes before serves told was.
+    rw c.in-Err-NoMemory.field-0-is at c.in-Err-NoMemory.ensures.output start bytes before serves told was

@@ -1,0 +1,85 @@
+//! Bringing what was read of a directory onto the disk.
+
+ghost use Rattle.std.specs.Prelude.{◌≡◌, ◌≤◌, map, OnOk};
+ghost use Rattle.std.specs.String.{string_bytes};
+ghost use Rattle.std.specs.FinMap as finite;
+ghost use Rattle.mx_outside.specs.Causes.{HasCauseOf};
+ghost use Rattle.mx_outside.specs.Disks.{IfTold, ToldAlike, IsThere, file_synced, removed};
+ghost use Rattle.mx_outside.specs.declared.dir.DirFault.TheVariants.{Failed};
+ghost use Rattle.mx_model.specs.Files.{is_journal, is_draft};
+ghost use Rattle.mx_journal.specs.Written.{IsNow};
+ghost use Rattle.mx_top.specs.Settled.{Settled};
+ghost use Rattle.mx_top.specs.Passing.{after_turn, after_turns, AreThere, Reaches};
+
+use crate::file_names::{is_draft, is_journal};
+use mx_outside::{Dir, DirFault};
+use std::alloc::Global;
+
+/// Brings the journals of a directory onto the disk, removes files that never got their names, and
+/// brings the names onto the disk. The names given are all that there are.
+pub(crate) fn settle<D: Dir>(alloc: Global, dir: &mut D, names: &[String]) -> Result<(), DirFault>
+    requires { IfTold (D.states dir.old) (λ disk past. map string_bytes names.now ≡ finite.keys disk.now) }
+    ensures told { ToldAlike (D.states dir.old) (D.states dir.new) }
+    ensures settled { IfTold (D.states dir.old) (λ disk past. OnOk result (IsNow (D.states dir.new) (Settled disk))) }
+    ensures cause { HasCauseOf Failed (D.faults dir.old) (D.faults dir.new) result }
+{
+    sync_journals(alloc, dir, names)?;
+    remove_drafts(alloc, dir, names)?;
+    dir.sync_names(alloc)
+}
+
+/// Brings the bytes of the journals onto the disk.
+fn sync_journals<D: Dir>(alloc: Global, dir: &mut D, names: &[String]) -> Result<(), DirFault>
+    requires { IfTold (D.states dir.old) (λ disk past. AreThere is_journal file_synced (map string_bytes names.now) disk) }
+    ensures told { ToldAlike (D.states dir.old) (D.states dir.new) }
+    ensures synced { Reaches (after_turns is_journal file_synced (map string_bytes names.now)) (D.states dir.old) (D.states dir.new) result }
+    ensures cause { HasCauseOf Failed (D.faults dir.old) (D.faults dir.new) result }
+{
+    let mut rest = names;
+    while let Some((name, others)) = rest.split_first() {
+        sync_if_journal(alloc, dir, name)?;
+        rest = others;
+    }
+    Ok(())
+}
+
+/// Brings a file's bytes onto the disk, if it is a journal.
+fn sync_if_journal<D: Dir>(alloc: Global, dir: &mut D, name: &str) -> Result<(), DirFault>
+    requires { IsThere (D.states dir.old) name.now }
+    ensures told { ToldAlike (D.states dir.old) (D.states dir.new) }
+    ensures synced { Reaches (after_turn is_journal file_synced name.now) (D.states dir.old) (D.states dir.new) result }
+    ensures cause { HasCauseOf Failed (D.faults dir.old) (D.faults dir.new) result }
+{
+    if !is_journal(name) {
+        return Ok(());
+    }
+    dir.sync(alloc, name)
+}
+
+/// Removes the files that never got their names.
+fn remove_drafts<D: Dir>(alloc: Global, dir: &mut D, names: &[String]) -> Result<(), DirFault>
+    requires { IfTold (D.states dir.old) (λ disk past. AreThere is_draft removed (map string_bytes names.now) disk) }
+    ensures told { ToldAlike (D.states dir.old) (D.states dir.new) }
+    ensures removed { Reaches (after_turns is_draft removed (map string_bytes names.now)) (D.states dir.old) (D.states dir.new) result }
+    ensures cause { HasCauseOf Failed (D.faults dir.old) (D.faults dir.new) result }
+{
+    let mut rest = names;
+    while let Some((name, others)) = rest.split_first() {
+        remove_if_draft(alloc, dir, name)?;
+        rest = others;
+    }
+    Ok(())
+}
+
+/// Removes a file, if it never got its name.
+fn remove_if_draft<D: Dir>(alloc: Global, dir: &mut D, name: &str) -> Result<(), DirFault>
+    requires { IsThere (D.states dir.old) name.now }
+    ensures told { ToldAlike (D.states dir.old) (D.states dir.new) }
+    ensures removed { Reaches (after_turn is_draft removed name.now) (D.states dir.old) (D.states dir.new) result }
+    ensures cause { HasCauseOf Failed (D.faults dir.old) (D.faults dir.new) result }
+{
+    if !is_draft(name) {
+        return Ok(());
+    }
+    dir.remove(alloc, name)
+}
