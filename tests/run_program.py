@@ -1,11 +1,12 @@
 #!/usr/bin/env python3
-"""Runs the built program on real files and pipes, and prints a line for each check.
+"""Runs the built program on real folders, files and pipes, and prints a line for each check.
 
 It ends with status 0 only where all checks pass. What no proof sees is tried here: the system's
-files and pipes, the words of a command line, the exit statuses and the printed lines.
+folders, files and pipes, the words of a command line, the exit statuses and the printed lines.
 """
 
 import os
+import shutil
 import subprocess
 import sys
 import tempfile
@@ -20,6 +21,23 @@ OUTPUT = (EXAMPLE / "output.bin").read_bytes()
 SEED = "000102030405060708090a0b0c0d0e0f101112131415161718191a1b1c1d1e1f"
 TRACE = ["trace", "DIR"]
 SECONDS = 10
+SCRATCH = Path(tempfile.mkdtemp(prefix="vurandy-"))
+
+FIRST = "00000000000000000000.xlog"
+SECOND = "00000000000000000001.xlog"
+# The instance is the first half of the seed and the replica set the second, as version 4 UUIDs.
+HEADER = (
+    b"XLOG\n0.13\n"
+    b"Instance: 00010203-0405-4607-8809-0a0b0c0d0e0f\n"
+    b"ReplicaSet: 10111213-1415-4617-9819-1a1b1c1d1e1f\n"
+    b"VClock: %s\n\n"
+)
+END = bytes.fromhex("d510aded")
+# The block of the example's commit: replica 1, lsn 1, REPLACE into space 512 of [1, "a"].
+BLOCK = bytes.fromhex("d5ba0babce0000001100cea3d27898a3000000" "83000302010301" "8210cd0200219201a161")
+# A SELECT of key 1 in space 512, with sync 1, and the reply with the tuple that the example put.
+SELECT = bytes.fromhex("00" "00000001" "00000016" "ce00000011" "820001010184" "10cd0200120a14002091" "01")
+FOUND = bytes.fromhex("ce00000022" "8300ce00000000" "01cf0000000000000001" "05ce00000000" "8130dd000000019201a161")
 
 
 def environment(seed):
@@ -30,11 +48,22 @@ def environment(seed):
     return variables
 
 
+def new_folder():
+    """A folder of its own for a check, in which a run makes its directory."""
+    return Path(tempfile.mkdtemp(dir=SCRATCH))
+
+
+def files_in(directory):
+    """The files of a directory, by name."""
+    return {path.name: path.read_bytes() for path in directory.iterdir()}
+
+
 def run(words, given=b"", seed=SEED, **options):
-    """Runs the program to its end on these words and this input."""
+    """Runs the program to its end on these words and this input, in a new folder or in `cwd`."""
     if "stdin" not in options:
         options["input"] = given
     options.setdefault("stdout", subprocess.PIPE)
+    options.setdefault("cwd", new_folder())
     return subprocess.run(
         [PROGRAM, *words],
         stderr=subprocess.PIPE,
@@ -57,11 +86,6 @@ def example_is_answered():
         check_end(run(TRACE, stdin=file), 0, None, OUTPUT)
 
 
-def any_folder_will_do():
-    with tempfile.TemporaryDirectory() as folder:
-        check_end(run(TRACE, INPUT, cwd=folder), 0, None, OUTPUT)
-
-
 def seed_is_read_in_either_case():
     check_end(run(TRACE, INPUT, seed=SEED.upper()), 0, None, OUTPUT)
 
@@ -69,6 +93,102 @@ def seed_is_read_in_either_case():
 def empty_input_has_no_output():
     check_end(run(TRACE), 0, None)
     check_end(run(TRACE, stdin=subprocess.DEVNULL), 0, None)
+
+
+def empty_input_begins_a_journal():
+    folder = new_folder()
+    check_end(run(TRACE, cwd=folder), 0, None)
+    files = files_in(folder / "DIR")
+    assert files == {FIRST: HEADER % b"{}" + END}, f"{files}"
+
+
+def commits_are_found_again():
+    folder = new_folder()
+    check_end(run(TRACE, INPUT, cwd=folder), 0, None, OUTPUT)
+    first = HEADER % b"{}" + BLOCK + END
+    assert files_in(folder / "DIR") == {FIRST: first}, f"{files_in(folder / 'DIR')}"
+    ended = run(TRACE, SELECT, cwd=folder)
+    check_end(ended, 0, None, OUTPUT[:4] + (128 + len(FOUND)).to_bytes(4, "big") + OUTPUT[8:136] + FOUND)
+    second = HEADER % b"{1: 1}" + END
+    assert files_in(folder / "DIR") == {FIRST: first, SECOND: second}, f"{files_in(folder / 'DIR')}"
+
+
+def journals_of_other_seeds_are_one_node():
+    folder = new_folder()
+    check_end(run(TRACE, INPUT, cwd=folder), 0, None, OUTPUT)
+    other = "ff" * 32
+    ended = run(TRACE, INPUT, seed=other, cwd=folder)
+    # The greeting's instance is the directory's, its salt this run's own.
+    assert ended.stdout[8:72] == OUTPUT[8:72], f"{ended.stdout[8:72]}"
+    assert ended.stdout[72:136] != OUTPUT[72:136], "the salt of another run"
+    assert set(files_in(folder / "DIR")) == {FIRST, SECOND}, f"{files_in(folder / 'DIR')}"
+
+
+def damage_is_told():
+    folder = new_folder()
+    check_end(run(TRACE, INPUT, cwd=folder), 0, None, OUTPUT)
+    check_end(run(TRACE, cwd=folder), 0, None)
+    path = folder / "DIR" / FIRST
+    damaged = bytearray(path.read_bytes())
+    damaged[140] ^= 1
+    path.write_bytes(damaged)
+    before = files_in(folder / "DIR")
+    check_end(run(TRACE, INPUT, cwd=folder), 7, f"Damaged {SECOND} 0 gap {{}} {{1: 1}}")
+    assert files_in(folder / "DIR") == before, "a damaged directory was changed"
+
+
+def leftovers_are_removed():
+    folder = new_folder()
+    (folder / "DIR").mkdir()
+    for name in (FIRST + ".inprogress", "00000000000000000007.snap.inprogress", "notes.inprogress", "notes"):
+        (folder / "DIR" / name).write_bytes(b"x")
+    check_end(run(TRACE, cwd=folder), 0, None)
+    assert set(files_in(folder / "DIR")) == {FIRST, "notes.inprogress", "notes"}, f"{files_in(folder / 'DIR')}"
+
+
+def check_not_opened(ended, word):
+    """Checks that the directory which this word names wasn't opened, and that the word is told."""
+    lines = ended.stderr.decode().splitlines()
+    assert ended.returncode == 5, f"status {ended.returncode}, {ended.stderr!r}"
+    assert len(lines) == 2 and lines[0] == "DiskFault", f"standard error {ended.stderr!r}"
+    assert lines[1].startswith(f"{word}: "), f"standard error {ended.stderr!r}"
+    assert ended.stdout == b"", f"{len(ended.stdout)} bytes of output"
+
+
+def folders_that_cannot_be_opened_are_told():
+    folder = new_folder()
+    (folder / "file").write_bytes(b"")
+    for word in ("file", "no/folder"):
+        check_not_opened(run(["trace", word], INPUT, cwd=folder), word)
+    assert [path.name for path in folder.iterdir()] == ["file"]
+
+
+def refused_words_make_no_folder():
+    folder = new_folder()
+    check_end(run(["nodes", "DIR"], INPUT, cwd=folder), 2, "BadWords")
+    assert list(folder.iterdir()) == []
+
+
+def directory_has_one_process():
+    folder = new_folder()
+    first = subprocess.Popen(
+        [PROGRAM, *TRACE],
+        stdin=subprocess.PIPE,
+        stdout=subprocess.PIPE,
+        env=environment(SEED),
+        cwd=folder,
+        bufsize=0,
+    )
+    timer = threading.Timer(SECONDS, first.kill)
+    timer.start()
+    with first:
+        first.stdin.write(INPUT)
+        first.stdout.read(1)
+        check_not_opened(run(TRACE, INPUT, cwd=folder), "DIR")
+        first.stdin.close()
+        first.stdout.read()
+    timer.cancel()
+    assert first.returncode == 0, f"status {first.returncode}"
 
 
 def words_are_refused():
@@ -120,6 +240,7 @@ def unit_is_answered_at_once():
         stdin=subprocess.PIPE,
         stdout=subprocess.PIPE,
         env=environment(SEED),
+        cwd=new_folder(),
         bufsize=0,
     )
     timer = threading.Timer(SECONDS, server.kill)
@@ -139,7 +260,12 @@ def unit_is_answered_at_once():
 def closed_output_is_told():
     shell = ["sh", "-c", 'exec "$@" >&-', "sh", PROGRAM, *TRACE]
     ended = subprocess.run(
-        shell, input=INPUT, stderr=subprocess.PIPE, env=environment(SEED), timeout=SECONDS
+        shell,
+        input=INPUT,
+        stderr=subprocess.PIPE,
+        env=environment(SEED),
+        cwd=new_folder(),
+        timeout=SECONDS,
     )
     check_end(ended, 4, "WriteFault")
 
@@ -167,15 +293,24 @@ def directory_as_input_is_told():
 
 def closed_input_is_told():
     shell = ["sh", "-c", 'exec "$@" <&-', "sh", PROGRAM, *TRACE]
-    ended = subprocess.run(shell, capture_output=True, env=environment(SEED), timeout=SECONDS)
+    ended = subprocess.run(
+        shell, capture_output=True, env=environment(SEED), cwd=new_folder(), timeout=SECONDS
+    )
     check_end(ended, 3, "ReadFault")
 
 
 CHECKS = (
     example_is_answered,
-    any_folder_will_do,
     seed_is_read_in_either_case,
     empty_input_has_no_output,
+    empty_input_begins_a_journal,
+    commits_are_found_again,
+    journals_of_other_seeds_are_one_node,
+    damage_is_told,
+    leftovers_are_removed,
+    folders_that_cannot_be_opened_are_told,
+    refused_words_make_no_folder,
+    directory_has_one_process,
     words_are_refused,
     notices_are_printed,
     bad_input_is_refused,
@@ -210,7 +345,10 @@ def main():
     if built.returncode != 0:
         print("FAILED  the program is not built")
         return 1
-    results = [passes(check) for check in CHECKS]
+    try:
+        results = [passes(check) for check in CHECKS]
+    finally:
+        shutil.rmtree(SCRATCH)
     print(f"{results.count(True)} passed, {results.count(False)} failed")
     return 0 if all(results) else 1
 

@@ -1,7 +1,7 @@
 -- The exit status of each status of a run.
 use Rattle.std.specs.Prelude.{ℕ}
 use Rattle.mx_top.specs.declared.status.Status.{Status}
-use Rattle.mx_top.specs.declared.status.Status.TheVariants.{Ok, BadInput, BadWords, ReadFault, WriteFault, NoMemory}
+use Rattle.mx_top.specs.declared.status.Status.TheVariants.{Ok, BadInput, BadWords, ReadFault, WriteFault, DiskFault, NoMemory, Damaged}
 
 abbrev pub number_of : Status → ℕ
 number_of Ok = 0
@@ -9,4 +9,6 @@ number_of (BadInput _) = 1
 number_of BadWords = 2
 number_of ReadFault = 3
 number_of WriteFault = 4
+number_of DiskFault = 5
 number_of NoMemory = 6
+number_of (Damaged damage) = 7

@@ -6,8 +6,8 @@ ghost use Rattle.mx_program.specs.Exits.{number_of};
 use mx_top::Status;
 
 /// The number that the process ends with.
-pub fn number(status: Status) -> u8
-    ensures { result ≡ number_of status }
+pub fn number(status: &Status) -> u8
+    ensures { result ≡ number_of status.now }
 {
     match status {
         Status::Ok => 0,
@@ -15,6 +15,8 @@ pub fn number(status: Status) -> u8
         Status::BadWords => 2,
         Status::ReadFault => 3,
         Status::WriteFault => 4,
+        Status::DiskFault => 5,
         Status::NoMemory => 6,
+        Status::Damaged(_) => 7,
     }
 }

@@ -50,7 +50,9 @@ Usage:
   vurandy --help       prints this text
   vurandy --version    prints the version
 
-DIR is the directory of the database.
+DIR is the directory of the database. It is made where it isn't there. Each commit is on
+the disk before its answer goes out, and the next run finds it. One process uses a
+directory at a time.
 
 Input is a list of units. Each number in them is big-endian:
   kind         1 byte, 0: a client sent packets
@@ -70,12 +72,15 @@ Exit status:
   2  BadWords    the words are no command, or VURANDY_SEED is malformed
   3  ReadFault   the input or the system's random source failed
   4  WriteFault  the output failed
+  5  DiskFault   the directory failed, or can't be opened
   6  NoMemory    no memory was found
+  7  Damaged     the directory's files stand for nothing: the file, the place in it and
+                 what is wrong there follow
 Each but Ok is named on standard error too.
 
-The variable VURANDY_SEED, 64 hexadecimal digits, sets the 32 bytes that the server's
-UUID and its salts are made of. Without it they are random. Set it to repeat a run byte
-for byte.
+The variable VURANDY_SEED, 64 hexadecimal digits, sets the 32 bytes that the salts and
+a new directory's UUIDs are made of. Without it they are random. Set it to repeat a run
+byte for byte.
 
 Example, a REPLACE of [1, 'a'] into space 512:
   printf '\\0\\0\\0\\0\\1\\0\\0\\0\\24\\316\\0\\0\\0\\17\\202\\0\\3\\1\\1\\202\\20\\315\\2\\0!\\222\\1\\241a' \\

@@ -2,18 +2,21 @@
 #![tactic(auto)]
 
 mod exit;
+mod failure;
 mod help;
 mod seed;
 #[cfg(test)]
 mod tests;
 
-ghost use Rattle.std.specs.Prelude.{◌≢◌, IfErr};
+ghost use Rattle.std.specs.Prelude.{◌≡◌, ◌≢◌, IfOk, IfErr, length};
 
+use failure::Failure;
 use mx_outside::Names;
 use mx_real::{FolderDir, ReaderSource, WriterSink};
-use mx_top::Status;
+use mx_top::{Status, directory_word};
 use std::env;
 use std::env::Env;
+use std::fs::{File, Files};
 use std::io::{ErrorKind, Read, Write};
 use std::process::ExitCode;
 use std::random::RandomSource;
@@ -21,27 +24,28 @@ use std::random::RandomSource;
 fn main(rt: HostRuntime) -> ExitCode {
     match respond(&rt, rt.stdin(), rt.stdout()) {
         Ok(()) => ExitCode::SUCCESS,
-        Err(status) => {
+        Err(failure) => {
             // The exit status tells it too, where standard error takes nothing.
-            let _ = eprintln!(rt; "{status}");
-            ExitCode::from(exit::number(status))
+            let _ = eprintln!(rt; "{failure}");
+            ExitCode::from(exit::number(&failure.status))
         }
     }
 }
 
 /// Does what the words ask for. An `Err` has the status of a run that failed.
-fn respond<R: Env + AllocGlobal + RandomSource, I: Read + Drop, O: Write + Drop>(
-    rt: &R,
-    input: I,
-    mut output: O,
-) -> Result<(), Status>
-    ensures failed { IfErr result (λ status. status ≢ Status.Ok) }
+fn respond<
+    R: Env + AllocGlobal + RandomSource + Files<File = File> + Clone + Drop,
+    I: Read + Drop,
+    O: Write + Drop,
+>(rt: &R, input: I, mut output: O) -> Result<(), Failure>
+    ensures failed { IfErr result (λ failure. failure.status ≢ Status.Ok) }
 {
     let words = words(rt)?;
     match help::asked_for(&words) {
-        Some(notice) => output
-            .write_all(notice.text().as_bytes())
-            .map_err(|_| Status::WriteFault),
+        Some(notice) => match output.write_all(notice.text().as_bytes()) {
+            Ok(()) => Ok(()),
+            Err(_) => Err(Failure::of(Status::WriteFault)),
+        },
         None => run(rt, &words, input, output),
     }
 }
@@ -61,18 +65,19 @@ fn words<R: Env + AllocGlobal>(rt: &R) -> Result<Names, Status>
     }
 }
 
-/// Runs the command that the words name.
-fn run<R: Env + AllocGlobal + RandomSource, I: Read + Drop, O: Write + Drop>(
-    rt: &R,
-    words: &Names,
-    input: I,
-    output: O,
-) -> Result<(), Status>
-    ensures failed { IfErr result (λ status. status ≢ Status.Ok) }
+/// Runs the command that the words name, on its directory, which is made where it isn't there.
+fn run<
+    R: Env + AllocGlobal + RandomSource + Files<File = File> + Clone + Drop,
+    I: Read + Drop,
+    O: Write + Drop,
+>(rt: &R, words: &Names, input: I, output: O) -> Result<(), Failure>
+    ensures failed { IfErr result (λ failure. failure.status ≢ Status.Ok) }
 {
+    let Some(word) = directory_word(words) else {
+        return Err(Failure::of(Status::BadWords));
+    };
     let seed = seed::of_installation(rt)?;
-    // No command touches its directory yet, so none is opened.
-    let mut dirs: Vec<FolderDir<HostRuntime>> = Vec::new(rt.alloc());
+    let mut dirs = opened(rt, word)?;
     let status = mx_top::run(
         rt.alloc(),
         words,
@@ -83,6 +88,23 @@ fn run<R: Env + AllocGlobal + RandomSource, I: Read + Drop, O: Write + Drop>(
     );
     match status {
         Status::Ok => Ok(()),
-        failed => Err(failed),
+        failed => Err(Failure::of(failed)),
     }
+}
+
+/// The one directory that a word names.
+fn opened<R: AllocGlobal + Files<File = File> + Clone + Drop>(
+    rt: &R,
+    word: &str,
+) -> Result<Vec<FolderDir<R>>, Failure>
+    ensures one { IfOk result (λ dirs. length dirs.items ≡ 1) }
+    ensures failed { IfErr result (λ failure. failure.status ≢ Status.Ok) }
+{
+    let alloc = rt.alloc();
+    let mut dirs = Vec::new(alloc);
+    match FolderDir::open(alloc, rt.clone()?, word) {
+        Ok(dir) => dirs.push(dir)?,
+        Err(fault) => return Err(Failure::of_directory(alloc, word, fault)?),
+    }
+    Ok(dirs)
 }

@@ -67,7 +67,7 @@ fn takes_the_variable_before_random_bytes(rt: HostRuntime) -> Result<(), Fail> {
     set[31] = 27;
     assert_eq!(rt; seed_of(rt.alloc(), Some(DIGITS), false)?, set);
     assert_eq!(rt; seed_of(rt.alloc(), None, true)?, [7; 32]);
-    assert_eq!(rt; seed_of(rt.alloc(), None, false), Err(Status::ReadFault));
+    assert!(rt; matches!(seed_of(rt.alloc(), None, false), Err(Status::ReadFault)));
     Ok(())
 }
 
@@ -77,6 +77,6 @@ fn refuses_other_forms(rt: HostRuntime) {
     let spaced = b" 0ff00000000000000000000000000000000000000000000000000000000001b";
     for text in [b"", b"g".as_slice(), &DIGITS[1..], longer, spaced, b"\xff"] {
         let seed = seed_of(rt.alloc(), Some(text), true);
-        assert_eq!(rt; seed, Err(Status::BadWords), "{text:?}");
+        assert!(rt; matches!(seed, Err(Status::BadWords)), "{text:?}");
     }
 }

@@ -1,0 +1,76 @@
+//! A run that failed, as it is told on standard error.
+
+ghost use Rattle.std.specs.Prelude.{◌≡◌, ◌≢◌, IfOk};
+ghost use Rattle.mx_top.specs.declared.status.Status.TheVariants.{NoMemory};
+
+use mx_real::OpenFault;
+use mx_top::Status;
+use std::alloc::{AllocError, AllocFailed, Global};
+use std::fmt;
+use std::fmt::{Display, Formatter};
+
+/// How a run failed, and for a directory that wasn't opened why.
+#[derive(Debug, Drop)]
+pub struct Failure {
+    pub status: Status,
+    cause: Option<String>,
+}
+
+impl Failure {
+    /// A run that ended with this status.
+    pub fn of(status: Status) -> Failure
+        ensures { result.status ≡ status }
+    {
+        Failure {
+            status,
+            cause: None,
+        }
+    }
+
+    /// The directory that the word names wasn't opened.
+    pub fn of_directory(alloc: Global, word: &str, fault: OpenFault) -> Result<Failure, AllocError>
+        ensures { IfOk result (λ failure. failure.status ≢ Status.Ok) }
+    {
+        if matches!(fault, OpenFault::NoMemory) {
+            return Ok(Failure::of(Status::NoMemory));
+        }
+        Ok(Failure {
+            status: Status::DiskFault,
+            cause: Some(format!(in alloc; "{word}: {fault}")?),
+        })
+    }
+}
+
+impl Display for Failure {
+    fn fmt<W: fmt::Write>(&self, f: &mut Formatter<W>) -> fmt::Result {
+        write!(f, "{}", self.status)?;
+        match &self.cause {
+            Some(cause) => write!(f, "\n{cause}"),
+            None => Ok(()),
+        }
+    }
+}
+
+impl From<Status> for Failure {
+    ghost from_gives = { λ status failure. failure.status ≡ status };
+
+    fn from(status: Status) -> Failure {
+        Failure::of(status)
+    }
+}
+
+impl From<AllocError> for Failure {
+    ghost from_gives = { λ _ failure. failure.status ≡ NoMemory };
+
+    fn from(_: AllocError) -> Failure {
+        Failure::of(Status::NoMemory)
+    }
+}
+
+impl<T: Drop> From<AllocFailed<T>> for Failure {
+    ghost from_gives = { λ _ failure. failure.status ≡ NoMemory };
+
+    fn from(_: AllocFailed<T>) -> Failure {
+        Failure::of(Status::NoMemory)
+    }
+}
