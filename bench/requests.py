@@ -116,23 +116,40 @@ def answers(output):
     return found
 
 
-def instructions(given):
-    """How many instructions a run on this input takes, and how many replies it has."""
-    command = ["valgrind", "--tool=callgrind", "--callgrind-out-file=/dev/null"]
+def new_folder():
+    """A folder for a run's directory, in memory where the system has a file system there."""
+    memory = Path("/dev/shm")
+    return tempfile.TemporaryDirectory(dir=memory if memory.is_dir() else None)
+
+
+def traced(tool, given, folder):
+    """Runs the program under a tool on this input, with its directory in this folder."""
     with tempfile.TemporaryFile() as file:
         file.write(given)
         file.seek(0)
-        ended = subprocess.run(
-            [*command, PROGRAM, "trace", "DIR"],
+        return subprocess.run(
+            [*tool, PROGRAM, "trace", "DIR"],
             stdin=file,
             capture_output=True,
+            cwd=folder,
             env={**os.environ, "VURANDY_SEED": SEED},
         )
+
+
+def instructions_in(given, folder):
+    """How many instructions a run on this input takes in a folder, and how many replies it has."""
+    ended = traced(["valgrind", "--tool=callgrind", "--callgrind-out-file=/dev/null"], given, folder)
     told = ended.stderr.decode(errors="replace")
     collected = re.search(r"Collected : (\d+)", told)
     if ended.returncode != 0 or collected is None:
         sys.exit(f"the run ended with status {ended.returncode}:\n{told}")
-    return int(collected.group(1)), answers(ended.stdout)
+    return int(collected.group(1)), answers(ended.stdout) if ended.stdout else 0
+
+
+def instructions(given):
+    """The same in a new folder."""
+    with new_folder() as folder:
+        return instructions_in(given, folder)
 
 
 def measure(shape, sizes, base):
