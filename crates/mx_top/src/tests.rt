@@ -466,73 +466,83 @@ fn a_commit_is_kept_though_its_reply_is_lost(rt: HostRuntime) -> Result<(), Fail
     Ok(())
 }
 
+/// The status of a run without input on a directory that has these two files, or only the first one
+/// where the other has no bytes.
+fn opened(
+    alloc: Global,
+    name: &str,
+    bytes: &[u8],
+    other: &str,
+    more: &[u8],
+) -> Result<String, DirFault> {
+    let mut dir = MemoryDir::new(alloc, Vec::new(alloc));
+    dir.create(alloc, name)?;
+    append(alloc, &mut dir, name, bytes)?;
+    if !more.is_empty() {
+        dir.create(alloc, other)?;
+        append(alloc, &mut dir, other, more)?;
+    }
+    let ran = run_in(alloc, dir, &["trace", "d"], &[], NONE)?;
+    Ok(ran.status)
+}
+
 #[test]
 fn damage_is_told_with_its_place(rt: HostRuntime) -> Result<(), Fail> {
     let alloc = rt.alloc();
-    // A row that takes the lsn 1 again, one without a header, one of another node, one behind a gap.
-    let other_node = b"XLOG\n0.13\nInstance: 00010203-0405-4607-8809-0a0b0c0d0e0e\n\
-        ReplicaSet: 10111213-1415-4617-9819-1a1b1c1d1e1f\nVClock: {1: 1}\n\n";
-    let cases: [(&str, &[&[u8]], &str, &[&[u8]], &str); 7] = [
+    let snapshot = "00000000000000000000.snap";
+    let first = joined(alloc, &[HEADER, BLOCK])?;
+    let lsn_again = joined(alloc, &[HEADER, BLOCK, BLOCK])?;
+    let cut = joined(alloc, &[HEADER, BLOCK, &BLOCK[..35]])?;
+    let mut other_node = NEXT_HEADER.to_vec(alloc)?;
+    other_node[55] = b'e';
+    let cases: [(&str, &[u8], &str, &[u8], &str); 7] = [
         (
             FIRST,
-            &[HEADER, BLOCK, BLOCK],
+            &lsn_again,
             SECOND,
             &[],
             "Damaged 00000000000000000000.xlog 154 row",
         ),
         (
             FIRST,
-            &[&BLOCK[..]],
+            BLOCK,
             SECOND,
             &[],
             "Damaged 00000000000000000000.xlog 0 head",
         ),
         (
             FIRST,
-            &[HEADER, BLOCK],
+            &first,
             SECOND,
-            &[other_node],
+            &other_node,
             "Damaged 00000000000000000001.xlog 0 head",
         ),
         (
             FIRST,
-            &[HEADER],
+            HEADER,
             SECOND,
-            &[NEXT_HEADER],
+            NEXT_HEADER,
             "Damaged 00000000000000000001.xlog 0 gap {} {1: 1}",
         ),
         (
             FIRST,
-            &[NEXT_HEADER],
+            NEXT_HEADER,
             SECOND,
             &[],
             "Damaged 00000000000000000000.xlog 0 head",
         ),
         (
             FIRST,
-            &[HEADER],
-            "00000000000000000000.snap",
-            &[],
+            HEADER,
+            snapshot,
+            BLOCK,
             "Damaged 00000000000000000000.snap 0 head",
         ),
-        (
-            FIRST,
-            &[HEADER, BLOCK, &BLOCK[..35]],
-            SECOND,
-            &[NEXT_HEADER],
-            "Ok",
-        ),
+        (FIRST, &cut, SECOND, NEXT_HEADER, "Ok"),
     ];
-    for (name, parts, other, more, status) in cases {
-        let mut dir = MemoryDir::new(alloc, Vec::new(alloc));
-        dir.create(alloc, name)?;
-        append(alloc, &mut dir, name, &joined(alloc, parts)?)?;
-        if !more.is_empty() || other.ends_with(".snap") {
-            dir.create(alloc, other)?;
-            append(alloc, &mut dir, other, &joined(alloc, more)?)?;
-        }
-        let ran = run_in(alloc, dir, &["trace", "d"], &[], NONE)?;
-        assert_eq!(rt; ran.status.as_str(), status);
+    for (name, bytes, other, more, status) in cases {
+        let told = opened(alloc, name, bytes, other, more)?;
+        assert_eq!(rt; told.as_str(), status);
     }
     Ok(())
 }
