@@ -1,12 +1,14 @@
 -- Bytes that begin with the first lines of a header, and whether they go on with the next one.
-use Rattle.std.proofs.Common.{◌≡◌, ℕ, suc, ◌+◌, ◌<◌, ◌≤◌, Bool, true, false, if◌then◌else◌, ◌==◌, List, [], ◌∷◌, ◌++◌, length, take}
+use Rattle.std.proofs.Common.{◌≡◌, ℕ, suc, ◌+◌, ◌<◌, ◌≤◌, Bool, true, false, if◌then◌else◌, ◌==◌, List, [], ◌∷◌, ◌++◌, length, take, drop, inl, inr}
 use Rattle.std.proofs.Common.{refl, sym, ap, subst, ◌∙◌, append_assoc, arith, length-append}
 use Rattle.std.specs.Prelude.{⊤, codes, decimal}
 use Rattle.std.proofs.Math.Seq.{take-append_seam}
-use Rattle.std.proofs.lemmas.Bool.{eqb-false}
+use Rattle.std.proofs.lemmas.Bool.{eqb-false, cases_lt}
+use Rattle.std.proofs.lemmas.List.{take-append-drop}
+use mathlib.Core.Logic.{◌⊎◌}
 use Rattle.mx_vclock.specs.Text.{text_of}
 use Rattle.mx_xlog.specs.declared.head.Head.{Head}
-use Rattle.mx_xlog.specs.Headers.{ended, header_lines, replica_lines, IsHead, BeginsHeader, IsFaultLine}
+use Rattle.mx_xlog.specs.Headers.{ended, header_lines, replica_lines, IsHead, BeginsHeader, IsHeader, IsFaultLine}
 use Rattle.mx_xlog.specs.Lines.{IsLine, BeginsLine}
 use Rattle.mx_xlog.specs.HeaderParts.{kind_of, BeginsNone}
 use Rattle.mx_xlog.proofs.LineLaws.{ended-append, same_line}
@@ -59,7 +61,7 @@ header_are head fits =
     let set = line-append (codes "ReplicaSet: ") _ (plain_line (codes "ReplicaSet: ") refl) (id_line head.set) in
     (kind_is_line head.snapshot, (plain_line (codes "0.13") refl, (instance, (set, behind))))
 
-ended_first : (line : List ℕ) (lines : List (List ℕ)) (rest : List ℕ) → ended (line ∷ lines) ++ rest ≡ line ++ 10 ∷ (ended lines ++ rest)
+pub ended_first : (line : List ℕ) (lines : List (List ℕ)) (rest : List ℕ) → ended (line ∷ lines) ++ rest ≡ line ++ 10 ∷ (ended lines ++ rest)
 ended_first line lines rest = append_assoc (line ++ 10 ∷ []) (ended lines) rest ∙ append_assoc line (10 ∷ []) (ended lines ++ rest)
 
 -- where the bytes begin with one line more, it is the next one
@@ -90,21 +92,81 @@ none_goes_on Tells known rest none told = λ head line more tail fits are is_lin
     let value = told head line more fits are in
     none value.0 line tail is_line value.1
 
--- the first line that isn't the one of a header
-pub fault_behind : (known others : List (List ℕ)) (head : Head) (rest bytes : List ℕ) (line : ℕ) → IsHead head → header_lines head ≡ known ++ others
-    → bytes ≡ ended known ++ rest → NoneGoesOn known rest → line ≡ suc (length known) → IsFaultLine bytes line
-fault_behind known others head rest bytes line fits are is none place =
-    let counts : length (header_lines head) ≡ length known + length others = ap length are ∙ length-append known others in
-    let front : take (length known) (header_lines head) ≡ known = ap (take (length known)) are ∙ take-append_seam known others in
-    let begins : BeginsHeader (length known) bytes = (head, rest, fits, omega arith, is ∙ ap (λ lines. ended lines ++ rest) (sym front)) in
-    (length known, place, begins, subst (λ n. BeginsHeader n bytes → ⊥) (sym place) refused)
+-- bytes that begin with some lines and with no fewer others begin with a front of the others
+pub front_lines : (lines known : List (List ℕ)) (rest tail : List ℕ) → AreLines lines → AreLines known → length lines ≤ length known
+    → ended lines ++ rest ≡ ended known ++ tail → (more : List (List ℕ)) × (known ≡ lines ++ more)
+front_lines [] known rest tail l k enough is = (known, refl)
+front_lines (line ∷ lines) [] rest tail l k enough is = absurd (omega arith)
+front_lines (line ∷ lines) (first ∷ known) rest tail l k enough is =
+    let same = same_line line first (ended lines ++ rest) (ended known ++ tail) l.0 k.0
+    (sym (ended_first line lines rest) ∙ is ∙ ended_first first known tail) in
+    let others = front_lines lines known rest tail l.1 k.1 (omega arith) same.1 in
+    (others.0, both first line known (lines ++ others.0) (sym same.0) others.1)
   where
+    both : (first line : List ℕ) (known more : List (List ℕ)) → first ≡ line → known ≡ more → first ∷ known ≡ line ∷ more
+    both first line known more same next = cc
+
+pub same_behind_four : (a b c d e f g h : List ℕ) (lines more : List (List ℕ)) → a ∷ b ∷ c ∷ d ∷ lines ≡ e ∷ f ∷ g ∷ h ∷ more → lines ≡ more
+same_behind_four a b c d e f g h lines more is = cc
+
+no_more : (first other : Bool) (mine its : List ℕ) (byte : ℕ) (clock its_clock : List ℕ) (more : List (List ℕ))
+    → (if first then [] else mine ∷ []) ++ (byte ∷ clock) ∷ [] ∷ [] ≡ ((if other then [] else its ∷ []) ++ its_clock ∷ [] ∷ []) ++ more → more ≡ []
+no_more true true mine its byte clock its_clock more is = cc
+no_more true false mine its byte clock its_clock more is = absurd cc
+no_more false true mine its byte clock its_clock more is = absurd cc
+no_more false false mine its byte clock its_clock more is = cc
+
+-- a header's lines are no proper front of another one's
+pub no_longer : (head other : Head) (more : List (List ℕ)) → header_lines head ≡ header_lines other ++ more → more ≡ []
+no_longer head other more is =
+    no_more (head.replica == 1) (other.replica == 1) (codes "Replica: " ++ decimal head.replica) (codes "Replica: " ++ decimal other.replica)
+    86 _ (codes "VClock: " ++ text_of other.clock) more (same_behind_four _ _ _ _ _ _ _ _ _ _ is)
+
+-- bytes that begin with a header begin with its first lines
+begins_front : (count : ℕ) (head : Head) (size : ℕ) (bytes : List ℕ) → IsHeader bytes head size → count ≤ length (header_lines head) → BeginsHeader count bytes
+begins_front count head size bytes header enough =
+    let lines = header_lines head in
+    let split : ended lines ≡ ended (take count lines) ++ ended (drop count lines) =
+    ap ended (sym (take-append-drop count lines)) ∙ ended-append (take count lines) (drop count lines) in (
+      head,
+      ended (drop count lines) ++ header.begins.0,
+      header.fits,
+      enough,
+      header.begins.1
+          ∙ ap (λ l. l ++ header.begins.0) split
+          ∙ append_assoc (ended (take count lines)) (ended (drop count lines)) header.begins.0,
+    )
+
+-- the first line that isn't the one of a header
+pub fault_behind : (known : List (List ℕ)) (next : List ℕ) (others : List (List ℕ)) (head : Head) (rest bytes : List ℕ) (line : ℕ) → IsHead head
+    → header_lines head ≡ known ++ next ∷ others → bytes ≡ ended known ++ rest → NoneGoesOn known rest → line ≡ suc (length known)
+    → IsFaultLine bytes line
+fault_behind known next others head rest bytes line fits are is none place =
+    let counts : length (header_lines head) ≡ length known + length (next ∷ others) = ap length are ∙ length-append known (next ∷ others) in
+    let front : take (length known) (header_lines head) ≡ known = ap (take (length known)) are ∙ take-append_seam known (next ∷ others) in
+    let begins : BeginsHeader (length known) bytes = (head, rest, fits, omega arith, is ∙ ap (λ lines. ended lines ++ rest) (sym front)) in
+    (length known, place, begins, subst (λ n. BeginsHeader n bytes → ⊥) (sym place) refused, no_header)
+  where
+    known_are : AreLines known
+    known_are = are_front known (next ∷ others) (subst AreLines are (header_are head fits))
+
     refused : BeginsHeader (suc (length known)) bytes → ⊥
     refused begins =
-        let known_are = are_front known others (subst AreLines are (header_are head fits)) in
         let all_are = header_are begins.0 begins.2 in
-        let next = next_line known (header_lines begins.0) rest begins.1 known_are all_are begins.3 (sym is ∙ begins.4) in
-        none begins.0 next.0 next.1 begins.1 begins.2 next.2 (are_back known (next.0 ∷ next.1) (subst AreLines next.2 all_are)).0 next.3
+        let found = next_line known (header_lines begins.0) rest begins.1 known_are all_are begins.3 (sym is ∙ begins.4) in
+        none begins.0 found.0 found.1 begins.1 begins.2 found.2 (are_back known (found.0 ∷ found.1) (subst AreLines found.2 all_are)).0 found.3
+
+    no_header : (other : Head) (size : ℕ) → ¬ IsHeader bytes other size
+    no_header other size header = by_order (cases_lt (length known) (length (header_lines other)))
+      where
+        by_order : (length known < length (header_lines other)) ⊎ (length (header_lines other) ≤ length known) → ⊥
+        by_order (inl longer) = refused (begins_front (suc (length known)) other size bytes header longer)
+        by_order (inr shorter) =
+            let found = front_lines (header_lines other) known header.begins.0 rest (header_are other header.fits) known_are shorter (sym header.begins.1 ∙ is) in
+            let whole : header_lines head ≡ header_lines other ++ (found.0 ++ next ∷ others) =
+            are ∙ ap (λ lines. lines ++ next ∷ others) found.1 ∙ append_assoc (header_lines other) found.0 (next ∷ others) in
+            let none_left = ap length (no_longer head other (found.0 ++ next ∷ others) whole) in
+            omega (arith, length-append found.0 (next ∷ others))
 
 -- bytes whose first line tells no value
 pub none_found : {X : Type 0} (Tells : X → List ℕ → Type 0) (line rest bytes : List ℕ) → BeginsLine line rest bytes

@@ -52,7 +52,7 @@ module _ (snapshot : Bool) (instance set : List ℕ) (replica : ℕ) (a b bytes 
   pub no_clock : (line : ℕ) → (replica ≡ 1 → BeginsNone TellsReplica b) → BeginsNone TellsClock b → line ≡ 5 + length (replica_lines replica)
       → IsFaultLine bytes line
   no_clock line other none place =
-      fault_behind replica_known _ (some_head snapshot instance set replica) b bytes line (some_fits snapshot instance set replica small) refl
+      fault_behind replica_known _ _ (some_head snapshot instance set replica) b bytes line (some_fits snapshot instance set replica small) refl
       replica_told
       (λ head next more tail fits are is_line is.
       by_case head next tail fits is_line is
@@ -91,7 +91,7 @@ module _ (snapshot : Bool) (instance set : List ℕ) (replica : ℕ) (a b bytes 
     -- what stands behind the vclock isn't the empty line
     pub no_end : (line : ℕ) → ((rest : List ℕ) → ¬ (c ≡ 10 ∷ rest)) → line ≡ 6 + length (replica_lines replica) → IsFaultLine bytes line
     no_end line none place =
-        fault_behind clock_known _ head c bytes line head_fits lines_told clock_told
+        fault_behind clock_known _ _ head c bytes line head_fits lines_told clock_told
         (λ other next more tail fits are is_line is.
         let last = same_last _ _ _ _ _ _ _ _ _ _ are ∙ append_assoc (replica_lines replica) (clock_text ∷ []) (next ∷ more) in
         let empty = after_clock (other.replica == 1) (replica == 1) _ _ _ clock_text next more

@@ -2,6 +2,7 @@ mod BlockLaws
 mod HeaderLaws
 mod LastLaws
 mod LineLaws
+pub mod OneLaws
 mod PlaceLaws
 mod PlainLaws
 mod RegisterLaws

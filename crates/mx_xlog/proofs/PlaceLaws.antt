@@ -34,7 +34,7 @@ first_fits snapshot instance set = some_fits snapshot instance set 1 (omega arit
 -- what stands first isn't the kind
 pub no_kind : (bytes : List ℕ) → BeginsNone TellsKind bytes → IsFaultLine bytes 1
 no_kind bytes none =
-    fault_behind [] _ (some_head true [] [] 1) bytes bytes 1 (first_fits true [] []) refl refl
+    fault_behind [] _ _ (some_head true [] [] 1) bytes bytes 1 (first_fits true [] []) refl refl
     (none_goes_on TellsKind [] bytes none (λ head line more fits are. (head.snapshot, cc))) refl
 
 -- the bytes begin with a kind, and this is the rest
@@ -48,7 +48,7 @@ module _ (snapshot : Bool) (a bytes : List ℕ) (kind : BeginsWith TellsKind sna
   -- what stands second isn't the version
   pub no_version : ((rest : List ℕ) → ¬ (a ≡ codes "0.13" ++ 10 ∷ rest)) → IsFaultLine bytes 2
   no_version none =
-      fault_behind kind_known _ (some_head snapshot [] [] 1) a bytes 2 (first_fits snapshot [] []) refl kind_told
+      fault_behind kind_known _ _ (some_head snapshot [] [] 1) a bytes 2 (first_fits snapshot [] []) refl kind_told
       (λ head line more tail fits are is_line is.
       let version : line ≡ codes "0.13" = cc in
       none tail (is ∙ ap (λ l. l ++ 10 ∷ tail) version)) refl
@@ -64,7 +64,7 @@ module _ (snapshot : Bool) (a bytes : List ℕ) (kind : BeginsWith TellsKind sna
     -- what stands third isn't the instance
     pub no_instance : BeginsNone (TellsId (codes "Instance: ")) b → IsFaultLine bytes 3
     no_instance none =
-        fault_behind version_known _ (some_head snapshot [] [] 1) b bytes 3 (first_fits snapshot [] []) refl version_told
+        fault_behind version_known _ _ (some_head snapshot [] [] 1) b bytes 3 (first_fits snapshot [] []) refl version_told
         (none_goes_on (TellsId (codes "Instance: ")) version_known b none (λ head line more fits are. (head.instance, cc))) refl
 
     -- then comes the instance, and this is the rest
@@ -78,7 +78,7 @@ module _ (snapshot : Bool) (a bytes : List ℕ) (kind : BeginsWith TellsKind sna
       -- what stands fourth isn't the replica set
       pub no_set : BeginsNone (TellsId (codes "ReplicaSet: ")) c → IsFaultLine bytes 4
       no_set none =
-          fault_behind instance_known _ (some_head snapshot instance [] 1) c bytes 4 (first_fits snapshot instance []) refl instance_told
+          fault_behind instance_known _ _ (some_head snapshot instance [] 1) c bytes 4 (first_fits snapshot instance []) refl instance_told
           (none_goes_on (TellsId (codes "ReplicaSet: ")) instance_known c none (λ head line more fits are. (head.set, cc))) refl
 
       -- all the first four lines

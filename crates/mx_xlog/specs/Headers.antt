@@ -36,12 +36,15 @@ BeginsHeader count bytes =
     (head : Head) × (rest : List ℕ) × IsHead head × (count ≤ length (header_lines head))
     × (bytes ≡ ended (take count (header_lines head)) ++ rest)
 
--- the first line, counted from 1, that isn't the one of a header which has the lines before it
-abbrev pub IsFaultLine : List ℕ → ℕ → Type 0
-IsFaultLine bytes line = (before : ℕ) × (line ≡ suc before) × BeginsHeader before bytes × (BeginsHeader line bytes → ⊥)
-
 -- the bytes begin with the header of this head, which has so many bytes
 pub record IsHeader (bytes : List ℕ) (head : Head) (size : ℕ) : Type 0 where
   pub fits : IsHead head
   pub sized : size ≡ length (header_of head)
   pub begins : (rest : List ℕ) × (bytes ≡ header_of head ++ rest)
+
+-- The bytes begin with no header: this is the first line, counted from 1, that isn't the one of a header which has the
+-- lines before it.
+abbrev pub IsFaultLine : List ℕ → ℕ → Type 0
+IsFaultLine bytes line =
+    (before : ℕ) × (line ≡ suc before) × BeginsHeader before bytes × (BeginsHeader line bytes → ⊥)
+    × ((head : Head) (size : ℕ) → ¬ IsHeader bytes head size)
