@@ -12,3 +12,4 @@ pub mod RowLaws
 pub mod TransactionLaws
 pub mod CommitLaws
 pub mod BlockLaws
+pub mod OnceLaws

@@ -209,3 +209,10 @@ AllFollow state clock [] = ⊤
 AllFollow state clock (tx ∷ txs) =
     IsTransaction tx × (follows clock tx ≡ true) × (takes_rows state tx.rows ≡ true)
     × AllFollow (state_after_rows state tx.rows) (clock_after_one clock tx) txs
+
+-- the same state and vclock, or the same damage
+abbrev pub SameOutcome : Result Reached Damage → Result Reached Damage → Type 0
+SameOutcome (Ok one) (Ok other) = (one.state ≡ other.state) × (one.clock ≡ other.clock)
+SameOutcome (Ok one) (Err damage) = ⊥
+SameOutcome (Err damage) (Ok other) = ⊥
+SameOutcome (Err damage) (Err other) = damage ≡ other

@@ -1,7 +1,9 @@
 //! What the definitions say together.
 
-ghost use Rattle.std.specs.Prelude.{◌≡◌, []};
-ghost use Rattle.mx_model.specs.Files.{AllFollow};
+ghost use Rattle.std.specs.Prelude.{◌≡◌, [], Result};
+ghost use Rattle.mx_outside.specs.Disks.{Files};
+ghost use Rattle.mx_model.specs.declared.damage.Damage.{Damage};
+ghost use Rattle.mx_model.specs.Files.{AllFollow, IsDirectoryState, Reached, SameOutcome};
 ghost use Rattle.mx_model.specs.Histories.{Base, History, IsLegal, HasMemory, asks_in, replied, history_from, journal_of};
 
 /// A law, which does nothing when it is called: the asks of a legal history determine its replies,
@@ -16,4 +18,11 @@ pub fn replies_are_determined()
 pub fn commits_are_sound()
     ensures { (base : Base) (history : History) → IsLegal base history
         → AllFollow base.state base.clock (journal_of base history) }
+{}
+
+/// A law, which does nothing when it is called: what a directory stands for, or its damage, is one
+/// thing only.
+pub fn a_directory_stands_once()
+    ensures { (files : Files) (one other : Result Reached Damage) → IsDirectoryState files one
+        → IsDirectoryState files other → SameOutcome one other }
 {}

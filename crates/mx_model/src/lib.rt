@@ -19,7 +19,7 @@ mod txs;
 pub use damage::{Damage, DamageKind};
 pub use ids::Ids;
 pub use keys::{items_in, key_of, unsigned_in};
-pub use laws::{commits_are_sound, replies_are_determined};
+pub use laws::{a_directory_stands_once, commits_are_sound, replies_are_determined};
 pub use refusal::{Refusal, code_of, text_of};
 pub use reply::Reply;
 pub use request::Request;

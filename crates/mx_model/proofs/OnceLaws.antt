@@ -1,0 +1,362 @@
+-- A directory stands for one thing only, and a vclock tells how many transactions came.
+use Rattle.std.proofs.Common.{◌≡◌, ℕ, zero, suc, ◌+◌, ◌-◌, ◌≤◌, Bool, true, false, not, cond, ◌&&◌, List, [], ◌∷◌, ◌++◌, length, sum, take, drop, refl, sym, ap, ◌∙◌, subst, arith}
+use Rattle.std.specs.Prelude.{⊤, slice_index, ◌==◌, Option, Some, None, is_some, Result, Ok, Err, IfSome, if◌then◌else◌}
+use Rattle.std.specs.List.{filter, last_or, AllByRecursion}
+use Rattle.std.specs.Ordering.{eq_by_cmp}
+use Rattle.std.specs.FinMap as finite
+use Rattle.std.specs.FinMap.{get-entries}
+use Rattle.std.specs.FinMap.Entries.{find}
+use Rattle.std.proofs.lemmas.Map.Text.{is_eq-slice_cmp}
+use Rattle.std.proofs.lemmas.Bool.{eqb-true, leb-true, and_parts}
+use Rattle.std.proofs.Math.ListN.{length-set}
+use Rattle.std.proofs.lemmas.List.Sums.{sum_by-set}
+use Rattle.std.proofs.lemmas.List.Elements.{All-set}
+use Rattle.uuid.specs.Text.{hyphenated_text, lower}
+use Rattle.mx_vclock.specs.Vclocks.{IsVclock, most_lsn}
+use Rattle.mx_xlog.specs.declared.head.Head.{Head}
+use Rattle.mx_xlog.specs.Reading.{blocks_of}
+use Rattle.mx_xlog.proofs.OneLaws.{one_header}
+use Rattle.mx_outside.specs.Disks.{File, Files}
+use Rattle.mx_model.specs.declared.ids.Ids.{Ids}
+use Rattle.mx_model.specs.declared.row.Row.{Row}
+use Rattle.mx_model.specs.declared.damage.Damage.{Damage}
+use Rattle.mx_model.specs.declared.damage.DamageKind.TheVariants.{Gap}
+use Rattle.mx_model.specs.declared.tx.Tx.{Tx}
+use Rattle.mx_model.specs.State.{State}
+use Rattle.mx_model.specs.Answers.{state_after_rows}
+use Rattle.mx_model.specs.Transactions.{last_lsn, clock_after_one, clock_after}
+use Rattle.mx_model.specs.Rows.{IsTransaction, transactions_in}
+use Rattle.mx_model.specs.Files.{FileRead, Named, Reached, ReadsAs, IsDirectoryState, IsEnough, SameOutcome, AllFollow, is_journal, is_snapshot, journal_name, same_bytes, are_its_ids, ids_in, ids_or, head_fits, nothing_yet, follows, takes_rows, after_transaction, then_all, after_transactions, after_read, after_block, block_reached, after_blocks, after_head, after_file, and_then, after_files, without_snapshot, directory_state}
+use Rattle.mx_model.proofs.DirectoryLaws.{by_name, names_in, names_of, same_itself, ReadAll}
+
+-- ---- what is alike but for the bytes of identifiers
+
+abbrev SameText : List ℕ → List ℕ → Type 0
+SameText id other = hyphenated_text lower id ≡ hyphenated_text lower other
+
+abbrev SameIds : Option Ids → Option Ids → Type 0
+SameIds None None = ⊤
+SameIds None (Some ids) = ⊥
+SameIds (Some ids) None = ⊥
+SameIds (Some one) (Some other) = (one.me ≡ other.me) × SameText one.instance other.instance × SameText one.set other.set
+
+record SameHead (one other : Head) : Type 0 where
+  snapshot : one.snapshot ≡ other.snapshot
+  clock : one.clock ≡ other.clock
+  replica : one.replica ≡ other.replica
+  instance : SameText one.instance other.instance
+  set : SameText one.set other.set
+
+record SameFile (one other : FileRead) : Type 0 where
+  head : SameHead one.head other.head
+  size : one.size ≡ other.size
+  blocks : one.blocks ≡ other.blocks
+
+abbrev SameRead : Option FileRead → Option FileRead → Type 0
+SameRead None None = ⊤
+SameRead None (Some file) = ⊥
+SameRead (Some file) None = ⊥
+SameRead (Some one) (Some other) = SameFile one other
+
+record Alike (one other : Reached) : Type 0 where
+  ids : SameIds one.ids other.ids
+  state : one.state ≡ other.state
+  clock : one.clock ≡ other.clock
+
+abbrev MayBeAlike : Option Reached → Option Reached → Type 0
+MayBeAlike None None = ⊤
+MayBeAlike None (Some other) = ⊥
+MayBeAlike (Some one) None = ⊥
+MayBeAlike (Some one) (Some other) = Alike one other
+
+abbrev SameEnd : Result Reached Damage → Result Reached Damage → Type 0
+SameEnd (Ok one) (Ok other) = Alike one other
+SameEnd (Ok one) (Err damage) = ⊥
+SameEnd (Err damage) (Ok other) = ⊥
+SameEnd (Err damage) (Err other) = damage ≡ other
+
+-- ---- two readings of one file
+
+no_header_read : (bytes : List ℕ) (file : FileRead) → ReadsAs bytes None → ¬ ReadsAs bytes (Some file)
+no_header_read bytes file none read = none.1.4 file.head file.size read.0
+
+read_once : (bytes : List ℕ) (one other : Option FileRead) → ReadsAs bytes one → ReadsAs bytes other → SameRead one other
+read_once bytes None None first second = tt
+read_once bytes None (Some file) first second = no_header_read bytes file first second
+read_once bytes (Some file) None first second = no_header_read bytes file second first
+read_once bytes (Some one) (Some other) first second =
+    let same = one_header bytes one.head other.head one.size other.size first.0 second.0 in
+    record {
+      head = record { snapshot = same.1; clock = same.2; replica = same.3; instance = same.4; set = same.5 };
+      size = same.0;
+      blocks = first.1 ∙ ap (λ size. blocks_of (drop size bytes)) same.0 ∙ sym second.1;
+    }
+
+-- the file that is found under a name reads alike
+found_once : (found : Option File) (one other : Option FileRead) → is_some found ≡ true → IfSome found (λ (file : File). ReadsAs file.bytes one)
+    → IfSome found (λ (file : File). ReadsAs file.bytes other) → SameRead one other
+found_once None one other there first second = absurd cc
+found_once (Some file) one other there first second = read_once file.bytes one other first second
+
+-- ---- what alike files make of what was reached
+
+either_way : (test same : Bool) (one other : Reached) → test ≡ same → Alike one other
+    → MayBeAlike (if test then Some one else None) (if same then Some other else None)
+either_way true true one other is alike = alike
+either_way true false one other is alike = absurd cc
+either_way false true one other is alike = absurd cc
+either_way false false one other is alike = tt
+
+transaction_alike : (transaction : Tx) (one other : Reached) → Alike one other
+    → MayBeAlike (after_transaction transaction one) (after_transaction transaction other)
+transaction_alike transaction one other alike =
+    let state = alike.state in
+    let clock = alike.clock in
+    either_way (follows one.clock transaction && takes_rows one.state transaction.rows) (follows other.clock transaction && takes_rows other.state transaction.rows)
+    _ _
+    (λ i. follows (clock i) transaction && takes_rows (state i) transaction.rows)
+    (record {
+      ids = alike.ids;
+      state = ap (λ s. state_after_rows s transaction.rows) state;
+      clock = ap (λ c. clock_after_one c transaction) clock;
+    })
+
+transactions_alike : (transactions : List Tx) (one other : Reached) → Alike one other
+    → MayBeAlike (after_transactions transactions one) (after_transactions transactions other)
+transactions_alike [] one other alike = alike
+transactions_alike (transaction ∷ others) one other alike =
+    by_first (transactions_alike others) (after_transaction transaction one) (after_transaction transaction other) (transaction_alike transaction one other alike)
+  where
+    by_first : ((x y : Reached) → Alike x y → MayBeAlike (after_transactions others x) (after_transactions others y))
+        → (a b : Option Reached) → MayBeAlike a b → MayBeAlike (then_all (after_transactions others) a) (then_all (after_transactions others) b)
+    by_first rest None None same = tt
+    by_first rest None (Some y) same = absurd same
+    by_first rest (Some x) None same = absurd same
+    by_first rest (Some x) (Some y) same = rest x y same
+
+read_alike : (transactions : Option (List Tx)) (one other : Reached) → Alike one other
+    → MayBeAlike (after_read transactions one) (after_read transactions other)
+read_alike None one other alike = tt
+read_alike (Some transactions) one other alike = transactions_alike transactions one other alike
+
+block_alike : (bytes : List ℕ) (one other : Reached) → Alike one other → MayBeAlike (after_block bytes one) (after_block bytes other)
+unfolding after_block
+block_alike bytes one other alike = read_alike (transactions_in bytes) one other alike
+
+blocks_alike : (name : List ℕ) (at : ℕ) (blocks : List (List ℕ)) (one other : Reached) → Alike one other
+    → SameEnd (after_blocks name at blocks one) (after_blocks name at blocks other)
+blocks_alike name at [] one other alike = alike
+blocks_alike name at (bytes ∷ blocks) one other alike =
+    let later = (at + 19) + length bytes in
+    by_block later (blocks_alike name later blocks) (after_block bytes one) (after_block bytes other) (block_alike bytes one other alike)
+  where
+    by_block : (later : ℕ) → ((x y : Reached) → Alike x y → SameEnd (after_blocks name later blocks x) (after_blocks name later blocks y))
+        → (a b : Option Reached) → MayBeAlike a b
+        → SameEnd (block_reached name at (after_blocks name later blocks) a) (block_reached name at (after_blocks name later blocks) b)
+    by_block later rest None None same = refl
+    by_block later rest None (Some y) same = absurd same
+    by_block later rest (Some x) None same = absurd same
+    by_block later rest (Some x) (Some y) same = rest x y same
+
+ids_alike : (one other : Option Ids) (head same : Head) → SameIds one other → SameHead head same → are_its_ids one head ≡ are_its_ids other same
+ids_alike None None head same ids heads = refl
+ids_alike None (Some other) head same ids heads = absurd ids
+ids_alike (Some one) None head same ids heads = absurd ids
+ids_alike (Some one) (Some other) head same ids heads =
+    let me = ids.0 in
+    let instance = ids.1 in
+    let set = ids.2 in
+    let replica = heads.replica in
+    let its_instance = heads.instance in
+    let its_set = heads.set in
+    λ i. (me i == replica i) && same_bytes (instance i) (its_instance i) && same_bytes (set i) (its_set i)
+
+kept_alike : (one other : Option Ids) (head same : Head) → SameIds one other → SameHead head same
+    → SameIds (Some (ids_or (ids_in head) one)) (Some (ids_or (ids_in same) other))
+kept_alike None None head same ids heads = (heads.replica, heads.instance, heads.set)
+kept_alike None (Some other) head same ids heads = absurd ids
+kept_alike (Some one) None head same ids heads = absurd ids
+kept_alike (Some one) (Some other) head same ids heads = ids
+
+three_ways : (fits its_fits meets its_meets : Bool) (misfit gap its_gap : Damage) (after its_after : Result Reached Damage) → fits ≡ its_fits → meets ≡ its_meets
+    → gap ≡ its_gap → SameEnd after its_after
+    → SameEnd (if not fits then Err misfit else if not meets then Err gap else after) (if not its_fits then Err misfit else if not its_meets then Err its_gap else its_after)
+three_ways true true true true misfit gap its_gap after its_after p q gaps afters = afters
+three_ways true true false false misfit gap its_gap after its_after p q gaps afters = gaps
+three_ways true true true false misfit gap its_gap after its_after p q gaps afters = absurd cc
+three_ways true true false true misfit gap its_gap after its_after p q gaps afters = absurd cc
+three_ways false false meets its_meets misfit gap its_gap after its_after p q gaps afters = refl
+three_ways true false meets its_meets misfit gap its_gap after its_after p q gaps afters = absurd cc
+three_ways false true meets its_meets misfit gap its_gap after its_after p q gaps afters = absurd cc
+
+head_alike : (name : List ℕ) (file same : FileRead) (one other : Reached) → SameFile file same → Alike one other
+    → SameEnd (after_head name file one) (after_head name same other)
+head_alike name file same one other files alike =
+    let heads = files.head in
+    let ids = ids_alike one.ids other.ids file.head same.head alike.ids heads in
+    let snapshot = heads.snapshot in
+    let begins = heads.clock in
+    let clock = alike.clock in
+    let size = files.size in
+    let blocks = files.blocks in
+    let begun : Reached → FileRead → Reached = λ reached read. record { ids = Some (ids_or (ids_in read.head) reached.ids); state = reached.state; clock = reached.clock } in
+    let goes_on : Alike (begun one file) (begun other same) = record { ids = kept_alike one.ids other.ids file.head same.head alike.ids heads; state = alike.state; clock = alike.clock } in
+    three_ways (head_fits name file.head one) (head_fits name same.head other) (same_bytes one.clock file.head.clock) (same_bytes other.clock same.head.clock)
+    _ _ _ _ _
+    (λ i. not (snapshot i) && same_bytes name (journal_name (sum (begins i))) && ids i)
+    (λ i. same_bytes (clock i) (begins i))
+    (λ i. record { file = name; at = 0; kind = Gap (clock i) (begins i) })
+    (subst (SameEnd (after_blocks name file.size file.blocks (begun one file)))
+    (λ i. after_blocks name (size i) (blocks i) (begun other same))
+    (blocks_alike name file.size file.blocks (begun one file) (begun other same) goes_on))
+
+file_alike : (name : List ℕ) (file same : Option FileRead) (one other : Reached) → SameRead file same → Alike one other
+    → SameEnd (after_file (name, file) one) (after_file (name, same) other)
+file_alike name None None one other files alike = refl
+file_alike name None (Some same) one other files alike = absurd files
+file_alike name (Some file) None one other files alike = absurd files
+file_alike name (Some file) (Some same) one other files alike = head_alike name file same one other files alike
+
+-- ---- the files of a directory
+
+abbrev IsThere : Files → List ℕ → Type 0
+IsThere files name = is_some (finite.get files name) ≡ true
+
+is_there : (value : File) (same : Bool) (found : Option File) → same ≡ true → is_some (cond same (Some value) found) ≡ true
+is_there value true found is = refl
+is_there value false found is = absurd cc
+
+still_there : (value : File) (same : Bool) (found : Option File) → is_some found ≡ true → is_some (cond same (Some value) found) ≡ true
+still_there value true found is = refl
+still_there value false found is = is
+
+all_still : (e : List ℕ × File) (es : List (List ℕ × File)) (names : List (List ℕ))
+    → AllByRecursion (λ name. is_some (find by_name name es) ≡ true) names → AllByRecursion (λ name. is_some (find by_name name (e ∷ es)) ≡ true) names
+all_still e es [] all = tt
+all_still e es (name ∷ names) all = (still_there e.1 (eq_by_cmp by_name name e.0) (find by_name name es) all.0, all_still e es names all.1)
+
+all_found : (es : List (List ℕ × File)) → AllByRecursion (λ name. is_some (find by_name name es) ≡ true) (names_in es)
+all_found [] = tt
+all_found (e ∷ es) = (
+  is_there e.1 (eq_by_cmp by_name e.0 e.0) (find by_name e.0 es) (is_eq-slice_cmp e.0 e.0 ∙ same_itself e.0),
+  all_still e es (names_in es) (all_found es),
+)
+
+-- what holds of each holds of those that a test lets through
+all_kept : (P : List ℕ → Type 0) (p : List ℕ → Bool) (names : List (List ℕ)) → AllByRecursion P names → AllByRecursion P (filter p names)
+all_kept P p [] all = tt
+all_kept P p (name ∷ names) all = by_test (all_kept P p names all.1) (p name)
+  where
+    by_test : AllByRecursion P (filter p names) → (b : Bool) → AllByRecursion P (cond b (name ∷ filter p names) (filter p names))
+    by_test others true = (all.0, others)
+    by_test others false = others
+
+all_like : (P Q : List ℕ → Type 0) → ((name : List ℕ) → P name → Q name) → (names : List (List ℕ)) → AllByRecursion P names → AllByRecursion Q names
+all_like P Q like [] all = tt
+all_like P Q like (name ∷ names) all = (like name all.0, all_like P Q like names all.1)
+
+all_there : (files : Files) (p : List ℕ → Bool) → AllByRecursion (IsThere files) (filter p (finite.keys files))
+all_there files p =
+    all_kept (IsThere files) p (finite.keys files)
+    (all_like (λ name. is_some (find by_name name (finite.entries files)) ≡ true) (IsThere files) (λ name found. ap is_some (get-entries files name) ∙ found)
+    (finite.keys files) (all_found (finite.entries files)))
+
+same_parts : (x y : List ℕ) (xs ys : List (List ℕ)) → x ∷ xs ≡ y ∷ ys → (x ≡ y) × (xs ≡ ys)
+same_parts x y xs ys is = (cc, cc)
+
+not_none : (name : List ℕ) (names unread : List (List ℕ)) → unread ≡ name ∷ names → unread ≡ [] → ⊥
+not_none name names unread is none = cc
+
+-- journals that were read from the same files, as many as tell the outcome
+journals_alike : (files : Files) (journals others : List Named) (unread beyond : List (List ℕ)) (one other : Reached)
+    → names_of journals ++ unread ≡ names_of others ++ beyond → AllByRecursion (IsThere files) (names_of journals ++ unread)
+    → ReadAll files journals → ReadAll files others → IsEnough unread (after_files journals one) → IsEnough beyond (after_files others other) → Alike one other
+    → SameEnd (after_files journals one) (after_files others other)
+journals_alike files [] [] unread beyond one other names there reads its_reads enough its_enough alike = alike
+journals_alike files [] (next ∷ others) unread beyond one other names there reads its_reads enough its_enough alike =
+    absurd (not_none next.0 (names_of others ++ beyond) unread names enough)
+journals_alike files (journal ∷ journals) [] unread beyond one other names there reads its_reads enough its_enough alike =
+    absurd (not_none journal.0 (names_of journals ++ unread) beyond (sym names) its_enough)
+journals_alike files ((name, read) ∷ journals) ((again, same) ∷ others) unread beyond one other names there reads its_reads enough its_enough alike =
+    let parts = same_parts name again (names_of journals ++ unread) (names_of others ++ beyond) names in
+    let its_read = subst (λ n. IfSome (finite.get files n) (λ (file : File). ReadsAs file.bytes same)) (sym parts.0) its_reads.0 in
+    let reads_same = found_once (finite.get files name) read same there.0 reads.0 its_read in
+    let first : SameEnd (after_file (name, read) one) (after_file (again, same) other) =
+    subst (λ n. SameEnd (after_file (name, read) one) (after_file (n, same) other)) parts.0 (file_alike name read same one other reads_same alike) in
+    by_first
+    (λ x y alike enough its_enough. journals_alike files journals others unread beyond x y parts.1 there.1 reads.1 its_reads.1 enough its_enough alike)
+    (after_file (name, read) one) (after_file (again, same) other) first enough its_enough
+  where
+    by_first : ((x y : Reached) → Alike x y → IsEnough unread (after_files journals x) → IsEnough beyond (after_files others y)
+        → SameEnd (after_files journals x) (after_files others y))
+        → (a b : Result Reached Damage) → SameEnd a b → IsEnough unread (and_then (after_files journals) a) → IsEnough beyond (and_then (after_files others) b)
+        → SameEnd (and_then (after_files journals) a) (and_then (after_files others) b)
+    by_first rest (Ok x) (Ok y) first enough its_enough = rest x y first enough its_enough
+    by_first rest (Ok x) (Err damage) first enough its_enough = absurd first
+    by_first rest (Err damage) (Ok y) first enough its_enough = absurd first
+    by_first rest (Err damage) (Err same) first enough its_enough = first
+
+same_outcome : (one other : Result Reached Damage) → SameEnd one other → SameOutcome one other
+same_outcome (Ok one) (Ok other) same = (same.state, same.clock)
+same_outcome (Ok one) (Err damage) same = same
+same_outcome (Err damage) (Ok other) same = same
+same_outcome (Err damage) (Err other) same = same
+
+-- a directory stands for one thing only
+pub stands_once : (files : Files) (one other : Result Reached Damage) → IsDirectoryState files one → IsDirectoryState files other → SameOutcome one other
+stands_once files one other (journals, unread, reads, enough, is) (others, beyond, its_reads, its_enough, its) =
+    let ends = by_snapshot (last_or None (filter is_snapshot (finite.keys files))) (subst (IsEnough unread) is enough) (subst (IsEnough beyond) its its_enough) in
+    same_outcome one other (subst (λ o. SameEnd o other) (sym is) (subst (SameEnd (directory_state (filter is_snapshot (finite.keys files)) journals)) (sym its) ends))
+  where
+    by_snapshot : (snapshot : Option (List ℕ)) → IsEnough unread (without_snapshot snapshot journals) → IsEnough beyond (without_snapshot snapshot others)
+        → SameEnd (without_snapshot snapshot journals) (without_snapshot snapshot others)
+    by_snapshot None enough its_enough =
+        journals_alike files journals others unread beyond nothing_yet nothing_yet (reads.names ∙ sym its_reads.names)
+        (subst (AllByRecursion (IsThere files)) (sym reads.names) (all_there files is_journal))
+        reads.each its_reads.each enough its_enough (record { ids = tt; state = refl; clock = refl })
+    by_snapshot (Some name) enough its_enough = refl
+
+-- where it stands for a state and a vclock, they are the only ones
+pub one_state : (files : Files) (one other : Reached) → IsDirectoryState files (Ok one) → IsDirectoryState files (Ok other)
+    → (one.state ≡ other.state) × (one.clock ≡ other.clock)
+one_state files one other first second = stands_once files (Ok one) (Ok other) first second
+
+-- ---- how many transactions came
+
+-- a transaction that follows raises the sum of the lsns by 1
+one_came : (clock : List ℕ) (transaction : Tx) → IsVclock clock → IsTransaction transaction → follows clock transaction ≡ true
+    → IsVclock (clock_after_one clock transaction) × (sum (clock_after_one clock transaction) ≡ suc (sum clock))
+one_came clock transaction sound is follow =
+    let tests = and_parts _ _ follow in
+    let first : transaction.first ≡ suc (slice_index clock transaction.replica) = eqb-true _ _ tests.0 in
+    let most : last_lsn transaction ≤ most_lsn = leb-true _ _ tests.1 in
+    let whole = sound.whole in
+    let low = is.replica.1 in
+    let last : last_lsn transaction ≡ transaction.first = ap (λ (rows : List Row). (transaction.first + length rows) - 1) is.row.1 ∙ omega arith in
+    let sums : sum (clock_after_one clock transaction) + slice_index clock transaction.replica ≡ sum clock + last_lsn transaction =
+    sum_by-set (λ x. x) clock transaction.replica (last_lsn transaction) 0 (omega arith) in (
+      record {
+        whole = length-set clock transaction.replica (last_lsn transaction) ∙ whole;
+        bounded = All-set (λ lsn. lsn ≤ most_lsn) clock transaction.replica (last_lsn transaction) most sound.bounded;
+      },
+      omega arith,
+    )
+
+so_many_came : (now : State) (clock : List ℕ) (transactions : List Tx) (count : ℕ) → IsVclock clock → AllFollow now clock transactions
+    → count ≤ length transactions → sum (clock_after clock (take count transactions)) ≡ sum clock + count
+so_many_came now clock transactions zero sound all enough = omega arith
+so_many_came now clock [] (suc count) sound all enough = absurd (omega arith)
+so_many_came now clock (transaction ∷ others) (suc count) sound all enough =
+    let one = one_came clock transaction sound all.0 all.1 in
+    let rest = so_many_came (state_after_rows now transaction.rows) (clock_after_one clock transaction) others count one.0 all.3 (omega arith) in
+    rest ∙ omega (arith, one.1)
+
+-- the vclock tells how many transactions came
+pub count_once : (now : State) (clock : List ℕ) (transactions : List Tx) (m n : ℕ) → IsVclock clock → AllFollow now clock transactions
+    → m ≤ length transactions → n ≤ length transactions
+    → clock_after clock (take m transactions) ≡ clock_after clock (take n transactions) → m ≡ n
+count_once now clock transactions m n sound all first second same =
+    let one = so_many_came now clock transactions m sound all first in
+    let other = so_many_came now clock transactions n sound all second in
+    let sums = ap sum same in
+    omega arith
