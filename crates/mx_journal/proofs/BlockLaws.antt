@@ -2,11 +2,11 @@
 use Rattle.std.proofs.Common.{◌≡◌, ℕ, ◌+◌, Bool, true, false, List, [], ◌∷◌, ◌++◌, map, refl, sym, ap, ◌∙◌, arith}
 use Rattle.std.proofs.lemmas.List.{append-nil, map-append, length_push}
 use Rattle.std.proofs.lemmas.List.Folds.{concat-append}
-use Rattle.std.specs.List.{concat}
+use Rattle.std.specs.List.{concat, AllByRecursion}
 use mathlib.Core.Bool.{true≢false}
 use Rattle.mx_xlog.specs.Blocks.{block_of}
 use Rattle.mx_model.specs.declared.tx.Tx.{Tx}
-use Rattle.mx_model.specs.Rows.{transaction_text}
+use Rattle.mx_model.specs.Rows.{IsTransaction, transaction_text}
 use Rattle.mx_model.specs.Transactions.{clock_after, clock_after_one}
 use Rattle.mx_model.proofs.HistoryLaws.{clock_after-append}
 use Rattle.mx_journal.specs.declared.journal.Journal.{Journal}
@@ -29,13 +29,19 @@ pub nothing_waits : (xs : List Tx) → [] ≡ blocks_text xs → xs ≡ []
 nothing_waits [] none = refl
 nothing_waits (x ∷ xs) none = absurd (true≢false (ap is_none none))
 
+-- transactions, and others behind them
+pub all_joined : (xs ys : List Tx) → AllByRecursion IsTransaction xs → AllByRecursion IsTransaction ys → AllByRecursion IsTransaction (xs ++ ys)
+all_joined [] ys first second = second
+all_joined (x ∷ xs) ys (is, first) second = (is, all_joined xs ys first second)
+
 -- one more waits
-pub waits_pushed : (before after : Journal) (waits : List Tx) (tx : Tx) → Waits before waits
+pub waits_pushed : (before after : Journal) (waits : List Tx) (tx : Tx) → Waits before waits → IsTransaction tx
     → after.waiting ≡ before.waiting ++ block_of (transaction_text tx) → after.next ≡ clock_after_one before.next tx
     → after.pushed ≡ before.pushed + 1 → after.clock ≡ before.clock → after.synced ≡ before.synced → Waits after (waits ++ tx ∷ [])
-waits_pushed before after waits tx waiting bytes next pushed clock synced = record {
+waits_pushed before after waits tx waiting is bytes next pushed clock synced = record {
   bytes = bytes ∙ ap (λ text. text ++ block_of (transaction_text tx)) waiting.bytes ∙ sym (blocks_text-push waits tx);
   next = next ∙ ap (λ c. clock_after_one c tx) waiting.next ∙ sym (clock_after-append before.clock waits (tx ∷ []))
       ∙ ap (λ c. clock_after c (waits ++ tx ∷ [])) (sym clock);
   pushed = let l = length_push waits tx in omega (arith, waiting.pushed);
+  sound = all_joined waits (tx ∷ []) waiting.sound (is, tt);
 }

@@ -19,11 +19,11 @@ pub get_inserted : (files : Files) (name : List ℕ) (file : File) (other : List
 get_inserted files name file other =
     get-insert nat_list_cmp_total files name file other ∙ ap (λ same. cond same (Some file) (finite.get files other)) (is_eq-slice_cmp other name)
 
-get_removed : (files : Files) (name other : List ℕ) → finite.get (finite.remove files name) other ≡ cond (same_bytes other name) None (finite.get files other)
+pub get_removed : (files : Files) (name other : List ℕ) → finite.get (finite.remove files name) other ≡ cond (same_bytes other name) None (finite.get files other)
 get_removed files name other =
     get-remove nat_list_cmp_total files name other ∙ ap (λ same. cond same None (finite.get files other)) (is_eq-slice_cmp other name)
 
-get_changed : (change : File → File) (name : List ℕ) (files : Files) (file : File) (other : List ℕ) → finite.get files name ≡ Some file
+pub get_changed : (change : File → File) (name : List ℕ) (files : Files) (file : File) (other : List ℕ) → finite.get files name ≡ Some file
     → finite.get (change_file change name files) other ≡ cond (same_bytes other name) (Some (change file)) (finite.get files other)
 get_changed change name files file other is = rw is (get_inserted files name (change file) other)
 
@@ -31,7 +31,7 @@ cond_twice : {A : Type 0} (test : Bool) (a b c : A) → cond test a (cond test b
 cond_twice true a b c = refl
 cond_twice false a b c = refl
 
-at_itself : (name : List ℕ) (file rest : Option File) → cond (same_bytes name name) file rest ≡ file
+pub at_itself : (name : List ℕ) (file rest : Option File) → cond (same_bytes name name) file rest ≡ file
 at_itself name file rest = ap (λ same. cond same file rest) (same_self name)
 
 -- a file that was made longer, and synced
@@ -46,7 +46,7 @@ get_extended name more disk file other is =
     ∙ cond_twice (same_bytes other name) (Some (on_disk (file.bytes ++ more))) (Some longer) (finite.get disk.now other)
 
 -- a file that was made
-get_drafted : (name bytes : List ℕ) (disk : Disk) (other : List ℕ)
+pub get_drafted : (name bytes : List ℕ) (disk : Disk) (other : List ℕ)
     → finite.get (drafted name bytes disk).now other ≡ cond (same_bytes other name) (Some (on_disk bytes)) (finite.get disk.now other)
 get_drafted name bytes disk other =
     let there : finite.get (created name disk).now name ≡ Some (on_disk []) =
@@ -56,7 +56,7 @@ get_drafted name bytes disk other =
     ∙ cond_twice (same_bytes other name) (Some (on_disk bytes)) (Some (on_disk [])) (finite.get disk.now other)
 
 -- a file under its other name
-get_moved : (from to : List ℕ) (files : Files) (file : File) (other : List ℕ) → finite.get files from ≡ Some file
+pub get_moved : (from to : List ℕ) (files : Files) (file : File) (other : List ℕ) → finite.get files from ≡ Some file
     → finite.get (moved from to files) other ≡ cond (same_bytes other to) (Some file) (cond (same_bytes other from) None (finite.get files other))
 get_moved from to files file other is =
     rw is (get_inserted (finite.remove files from) to file other ∙ ap (cond (same_bytes other to) (Some file)) (get_removed files from other))

@@ -21,7 +21,7 @@ use Rattle.mx_journal.specs.declared.journal.Journal.{Journal}
 use Rattle.mx_journal.specs.Counting.{SameButPushed, caught_up}
 use Rattle.mx_journal.specs.Making.{Changed, drafted, extended, settled}
 use Rattle.mx_journal.specs.Written.{IsNow, IsWritten, Waits, IsNewest, SameOthers, Created, file_text, name_of, draft_name_of, blocks_text}
-use Rattle.mx_journal.proofs.BlockLaws.{blocks_text-append, nothing_waits}
+use Rattle.mx_journal.proofs.BlockLaws.{all_joined, blocks_text-append, nothing_waits}
 use Rattle.mx_journal.proofs.DiskLaws.{same_self, same_name, get_extended, get_made}
 use Rattle.mx_journal.proofs.ToldLaws.{told_both, told_weaker, where_told, now_changed}
 
@@ -87,6 +87,7 @@ begun_written journal disk fits kind named clock long synced newest =
         clock = clock;
         long = long ∙ ap length (sym all);
         synced = synced;
+        sound = tt;
       },
       record {
         files = get_made draft name header disk;
@@ -141,6 +142,7 @@ wrote_written journal long disk txs waits sum written waiting =
         clock = waiting.next ∙ ap (λ clock. clock_after clock waits) written.clock ∙ sym (clock_after-append journal.head.clock txs waits);
         long = sum ∙ ap (λ n. n + length journal.waiting) written.long ∙ sym (length-append (file_text journal.head txs) journal.waiting) ∙ ap length all;
         synced = waiting.pushed ∙ ap (λ n. n + length waits) written.synced ∙ sym (length-append txs waits);
+        sound = all_joined txs waits written.sound waiting.sound;
       },
       others_extended name journal.waiting disk (on_disk (file_text journal.head txs)) written.file,
     )
@@ -161,6 +163,7 @@ caught_up_written journal disk txs waits none written waiting =
         clock = waiting.next ∙ ap (clock_after journal.clock) nothing ∙ written.clock ∙ ap (clock_after journal.head.clock) (sym same);
         long = written.long ∙ ap (λ all. length (file_text journal.head all)) (sym same);
         synced = waiting.pushed ∙ ap (λ more. journal.synced + length more) nothing ∙ omega arith ∙ written.synced ∙ ap length (sym same);
+        sound = all_joined txs waits written.sound waiting.sound;
       },
       record { files = λ other differs. refl; older = refl },
     )
@@ -181,7 +184,7 @@ ended journal disk txs written = (
 -- ---- the same of a directory's newest state
 
 -- a change of a file whose name and bytes are these
-extended_as : (name wanted bytes more : List ℕ) (disk : Disk) → name ≡ wanted → bytes ≡ more → extended name bytes disk ≡ extended wanted more disk
+pub extended_as : (name wanted bytes more : List ℕ) (disk : Disk) → name ≡ wanted → bytes ≡ more → extended name bytes disk ≡ extended wanted more disk
 extended_as name wanted bytes more disk named same = ap (λ n. extended n bytes disk) named ∙ ap (λ b. extended wanted b disk) same
 
 pub begun_now : (journal : Journal) (name bytes : List ℕ) (before after : Option (List Disk)) → IsHead journal.head → journal.head.snapshot ≡ false
@@ -246,4 +249,5 @@ pushed_written journal after waiting disk txs same written = record {
   clock = rw (same.clock, same.head) written.clock;
   long = rw (same.length, same.head) written.long;
   synced = rw same.synced written.synced;
+  sound = written.sound;
 }

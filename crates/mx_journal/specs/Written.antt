@@ -1,6 +1,6 @@
 -- What a journal has written.
 use Rattle.std.specs.Prelude.{◌≡◌, ◌⊎◌, ℕ, ◌+◌, true, false, List, ◌∷◌, ◌++◌, length, map, take, sum, Any, Option, Some, None, IsSome, if◌then◌else◌, string_bytes}
-use Rattle.std.specs.List.{concat}
+use Rattle.std.specs.List.{concat, AllByRecursion}
 use Rattle.std.specs.Ordering.{nat_cmp}
 use Rattle.std.specs.Cmp.Lexicographic.{slice_cmp}
 use Rattle.std.specs.declared.cmp.Ordering.TheVariants.{Greater}
@@ -11,7 +11,7 @@ use Rattle.mx_xlog.specs.Blocks.{block_of}
 use Rattle.mx_outside.specs.Disks.{Disk, on_disk, outcomes}
 use Rattle.mx_model.specs.declared.tx.Tx.{Tx}
 use Rattle.mx_model.specs.Transactions.{clock_after}
-use Rattle.mx_model.specs.Rows.{transaction_text}
+use Rattle.mx_model.specs.Rows.{IsTransaction, transaction_text}
 use Rattle.mx_model.specs.Files.{journal_name, draft_ending, is_journal, is_snapshot, same_bytes}
 use Rattle.mx_journal.specs.declared.journal.Journal.{Journal}
 
@@ -47,12 +47,14 @@ pub record IsWritten (journal : Journal) (disk : Disk) (transactions : List Tx) 
   pub clock : journal.clock ≡ clock_after journal.head.clock transactions
   pub long : journal.length ≡ length (file_text journal.head transactions)
   pub synced : journal.synced ≡ length transactions
+  pub sound : AllByRecursion IsTransaction transactions
 
 -- these transactions wait to be written
 pub record Waits (journal : Journal) (transactions : List Tx) : Type 0 where
   pub bytes : journal.waiting ≡ blocks_text transactions
   pub next : journal.next ≡ clock_after journal.clock transactions
   pub pushed : journal.pushed ≡ journal.synced + length transactions
+  pub sound : AllByRecursion IsTransaction transactions
 
 -- the newest state has this
 abbrev pub IsNow : Option (List Disk) → (Disk → Type 0) → Type 0

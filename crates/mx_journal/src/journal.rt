@@ -1,9 +1,10 @@
 //! The journal.
 
-ghost use Rattle.std.specs.Prelude.{◌≡◌, ◌+◌, ◌++◌, ◌∷◌, [], false, true, List, Some, IfOk, OnOk};
+ghost use Rattle.std.specs.Prelude.{◌≡◌, ◌+◌, ◌++◌, ◌∷◌, [], false, true, List, length, Some, IfOk, OnOk};
 ghost use Rattle.std.specs.FinMap as finite;
 ghost use Rattle.mx_outside.specs.Causes.{HasCauseOf};
-ghost use Rattle.mx_outside.specs.Disks.{Disk, IfTold, ToldAlike, on_disk};
+ghost use Rattle.mx_outside.specs.Disks.{Disk, Files, IfTold, ToldAlike, on_disk};
+ghost use Rattle.mx_outside.specs.Moments.{Moments};
 ghost use Rattle.mx_xlog.specs.Headers.{IsHead};
 ghost use Rattle.mx_xlog.specs.Blocks.{end_marker};
 ghost use Rattle.mx_model.specs.declared.tx.Tx.{Tx};
@@ -12,6 +13,8 @@ ghost use Rattle.mx_model.specs.Files.{follows};
 ghost use Rattle.mx_model.specs.Transactions.{clock_after_one};
 ghost use Rattle.mx_journal.specs.Counting.{SameButPushed, caught_up};
 ghost use Rattle.mx_journal.specs.declared.fault.JournalFault.TheVariants.{Failed};
+ghost use Rattle.mx_journal.specs.Fair.{IsFair};
+ghost use Rattle.mx_journal.specs.Crashes.{HasAtLeast, HasBegun, MayBegin, NoFewer};
 ghost use Rattle.mx_journal.specs.Written.{IsWritten, Waits, IsNow, IsNewest, SameOthers, Created, file_text, name_of};
 
 use crate::fault::JournalFault;
@@ -45,6 +48,9 @@ impl Journal {
     /// Begins a journal: a file that has a header and no block. It gets its name once it is on the
     /// disk, in the place of the file that has this name.
     ///
+    /// Whatever a crash leaves meanwhile, it might have left before, but for this file; at `Ok` it
+    /// leaves this file too.
+    ///
     /// # Errors
     /// The disk failed, or memory ran out.
     pub fn create<D: Dir>(alloc: Global, dir: &mut D, head: Head) -> Result<Journal, JournalFault>
@@ -54,6 +60,9 @@ impl Journal {
         ensures told { ToldAlike (D.states dir.old) (D.states dir.new) }
         ensures created { IfTold (D.states dir.old) (λ disk past. IfOk result (λ journal.
             IsNow (D.states dir.new) (λ now. IsWritten journal now [] × Created head disk now))) }
+        ensures moments { IfTold (D.states dir.old) (λ disk past. Moments (MayBegin head disk) (MayBegin head) (D.states dir.new) disk past) }
+        ensures there { IfTold (D.states dir.old) (λ disk past. IfOk result (λ journal.
+            IsNow (D.states dir.new) (λ now. (image : Files) → IsFair now image → HasBegun head disk image))) }
         ensures begins { IfOk result (λ journal. (journal.head ≡ head) × (journal.clock ≡ head.clock) × Waits journal []) }
         ensures cause { HasCauseOf Failed (D.faults dir.old) (D.faults dir.new) result }
     {
@@ -113,6 +122,9 @@ impl Journal {
 
     /// Writes what waits, and syncs it. Says how many transactions the journal has on the disk.
     ///
+    /// Whatever a crash leaves meanwhile, the journal's file has those that it had, and perhaps the
+    /// first ones of those that wait; no other file changes.
+    ///
     /// # Errors
     /// The disk failed, or memory ran out. The journal is of no use then.
     pub fn write_out<D: Dir>(&mut self, alloc: Global, dir: &mut D) -> Result<u64, JournalFault>
@@ -120,6 +132,11 @@ impl Journal {
         ensures told { ToldAlike (D.states dir.old) (D.states dir.new) }
         ensures written { (txs waits : List Tx) → IfTold (D.states dir.old) (λ disk past. IsWritten self.old disk txs → Waits self.old waits
             → OnOk result (IsNow (D.states dir.new) (λ now. IsWritten self.new now (txs ++ waits) × SameOthers (name_of self.old.head) disk now))) }
+        ensures moments { (txs waits : List Tx) → IfTold (D.states dir.old) (λ disk past. IsWritten self.old disk txs → Waits self.old waits
+            → Moments (λ now. SameOthers (name_of self.old.head) disk now × HasAtLeast self.old.head (txs ++ waits) (length txs) now)
+            (NoFewer self.old.head (txs ++ waits)) (D.states dir.new) disk past) }
+        ensures synced { (txs waits : List Tx) → IfTold (D.states dir.old) (λ disk past. IsWritten self.old disk txs → Waits self.old waits
+            → IfOk result (λ count. (count ≡ length (txs ++ waits)) × IsNow (D.states dir.new) (HasAtLeast self.old.head (txs ++ waits) count))) }
         ensures none { IfOk result (λ count. Waits self.new [] × (count ≡ self.old.pushed) × (self.new.clock ≡ self.old.next)) }
         ensures head { self.new.head ≡ self.old.head }
         ensures cause { HasCauseOf Failed (D.faults dir.old) (D.faults dir.new) result }
@@ -147,6 +164,7 @@ impl Journal {
     }
 
     /// Ends the journal in order: puts the marker of its file's end behind the blocks, and syncs it.
+    /// Whatever a crash leaves meanwhile, the file has all of its transactions.
     ///
     /// # Errors
     /// The disk failed, or memory ran out.
@@ -157,6 +175,9 @@ impl Journal {
         ensures ended { (txs : List Tx) → IfTold (D.states dir.old) (λ disk past. IsWritten self disk txs
             → OnOk result (IsNow (D.states dir.new) (λ now. (finite.get now.now (name_of self.head) ≡ Some (on_disk (file_text self.head txs ++ end_marker)))
             × SameOthers (name_of self.head) disk now))) }
+        ensures moments { (txs : List Tx) → IfTold (D.states dir.old) (λ disk past. IsWritten self disk txs
+            → Moments (λ now. SameOthers (name_of self.head) disk now × HasAtLeast self.head txs (length txs) now)
+            (NoFewer self.head txs) (D.states dir.new) disk past) }
         ensures cause { HasCauseOf Failed (D.faults dir.old) (D.faults dir.new) result }
     {
         let mut marker = Bytes::new(alloc);

@@ -1,11 +1,14 @@
 //! Files that are made and made longer, all of which is on the disk at the end of a call.
 
-ghost use Rattle.std.specs.Prelude.{◌++◌, OnOk};
+ghost use Rattle.std.specs.Prelude.{◌≡◌, ◌++◌, true, false, List, OnOk};
 ghost use Rattle.mx_outside.specs.Causes.{HasCauseOf};
-ghost use Rattle.mx_outside.specs.Disks.{IsThere, ToldAlike};
+ghost use Rattle.mx_outside.specs.Disks.{Files, IfTold, IsThere, ToldAlike};
+ghost use Rattle.mx_outside.specs.Moments.{Moments};
 ghost use Rattle.mx_model.specs.Files.{draft_ending};
 ghost use Rattle.mx_journal.specs.declared.fault.JournalFault.TheVariants.{Failed};
-ghost use Rattle.mx_journal.specs.Making.{Changed, drafted, extended, settled};
+ghost use Rattle.mx_journal.specs.Fair.{IsFair, counts};
+ghost use Rattle.mx_journal.specs.Written.{IsNow};
+ghost use Rattle.mx_journal.specs.Making.{AppendsSynced, Changed, CountsSame, HasMade, MayMakeFile, Settles, drafted, extended, settled};
 
 use crate::fault::JournalFault;
 use crate::names::draft_name;
@@ -27,6 +30,10 @@ pub(crate) fn make_file<D: Dir>(
     ensures made { OnOk result (Changed
         (λ disk. settled (name.now ++ draft_ending) name.now (drafted (name.now ++ draft_ending) bytes.now disk))
         (D.states dir.old) (D.states dir.new)) }
+    ensures moments { IfTold (D.states dir.old) (λ disk past.
+        Moments (MayMakeFile name.now bytes.now disk) (MayMakeFile name.now bytes.now) (D.states dir.new) disk past) }
+    ensures there { counts name.now ≡ true → IfTold (D.states dir.old) (λ disk past. OnOk result (IsNow (D.states dir.new) (λ now.
+        (image : Files) → IsFair now image → HasMade name.now bytes.now disk image))) }
     ensures cause { HasCauseOf Failed (D.faults dir.old) (D.faults dir.new) result }
 {
     let draft = draft_name(alloc, name)?;
@@ -35,15 +42,17 @@ pub(crate) fn make_file<D: Dir>(
     Ok(())
 }
 
-/// Makes a file of these bytes, and syncs it.
+/// Makes a file of these bytes, and syncs it. It is no journal yet.
 fn write_draft<D: Dir>(
     alloc: Global,
     dir: &mut D,
     name: &str,
     bytes: &[u8],
 ) -> Result<(), JournalFault>
+    requires { counts name.now ≡ false }
     ensures told { ToldAlike (D.states dir.old) (D.states dir.new) }
     ensures made { OnOk result (Changed (drafted name.now bytes.now) (D.states dir.old) (D.states dir.new)) }
+    ensures moments { IfTold (D.states dir.old) (λ disk past. Moments (CountsSame disk) CountsSame (D.states dir.new) disk past) }
     ensures there { OnOk result (IsThere (D.states dir.new) name.now) }
     ensures cause { HasCauseOf Failed (D.faults dir.old) (D.faults dir.new) result }
 {
@@ -65,6 +74,7 @@ pub(crate) fn append_synced<D: Dir>(
     requires { IsThere (D.states dir.old) name.now }
     ensures told { ToldAlike (D.states dir.old) (D.states dir.new) }
     ensures made { OnOk result (Changed (extended name.now bytes.now) (D.states dir.old) (D.states dir.new)) }
+    ensures states { AppendsSynced name.now bytes.now (D.states dir.old) (D.states dir.new) result }
     ensures there { OnOk result (IsThere (D.states dir.new) name.now) }
     ensures cause { HasCauseOf Failed (D.faults dir.old) (D.faults dir.new) result }
 {
@@ -78,6 +88,7 @@ fn settle<D: Dir>(alloc: Global, dir: &mut D, from: &str, to: &str) -> Result<()
     requires { IsThere (D.states dir.old) from.now }
     ensures told { ToldAlike (D.states dir.old) (D.states dir.new) }
     ensures made { OnOk result (Changed (settled from.now to.now) (D.states dir.old) (D.states dir.new)) }
+    ensures states { Settles from.now to.now (D.states dir.old) (D.states dir.new) result }
     ensures cause { HasCauseOf Failed (D.faults dir.old) (D.faults dir.new) result }
 {
     dir.rename(alloc, from, to)?;

@@ -1,6 +1,7 @@
 use Rattle.mx_outside.specs.Disks.{created}
 use Rattle.mx_journal.specs.Making.{extended}
 use Rattle.mx_journal.proofs.ToldLaws.{became_changed, then_changed, told_after, told_nothing}
+use Rattle.mx_journal.proofs.CallLaws.{drafting_begun, drafting_done, drafting_failed}
 use Rattle.mx_journal.proofs.DiskLaws.{has, there_created}
 use Rattle.mx_journal.proofs.making.write_draft.Goals as goal
 
@@ -15,3 +16,17 @@ returns-clause-made g c =
     let name = c.args.name.now in
     then_changed (created name) (extended name c.args.bytes.now) (g.D.Dir.states c.args.dir.now) (g.D.Dir.states c.create.new.self) (g.D.Dir.states c.append_synced.new.dir)
     (became_changed (created name) _ _ c.in_ok-create.ensures.made) c.in_ok-append_synced.ensures.made
+
+pub returns-in_err-create-clause-moments : goal.returns-in_err-create-clause-moments
+returns-in_err-create-clause-moments g c =
+    drafting_begun c.args.name.now (g.D.Dir.states c.args.dir.now) (g.D.Dir.states c.create.new.self) c.requires c.in_err-create.ensures.made
+
+pub returns-in_err-append_synced-clause-moments : goal.returns-in_err-append_synced-clause-moments
+returns-in_err-append_synced-clause-moments g c =
+    drafting_failed c.args.name.now c.args.bytes.now (g.D.Dir.states c.args.dir.now) (g.D.Dir.states c.create.new.self) (g.D.Dir.states c.append_synced.new.dir)
+    c.requires c.in_ok-create.ensures.made c.in_err-append_synced.ensures.states
+
+pub returns-clause-moments : goal.returns-clause-moments
+returns-clause-moments g c =
+    drafting_done c.args.name.now c.args.bytes.now (g.D.Dir.states c.args.dir.now) (g.D.Dir.states c.create.new.self) (g.D.Dir.states c.append_synced.new.dir)
+    c.requires c.in_ok-create.ensures.made c.in_ok-append_synced.ensures.states

@@ -2,7 +2,9 @@ use Rattle.std.proofs.Common.{◌≡◌, ◌++◌, length, string_bytes, refl, a
 use Rattle.mx_xlog.specs.Headers.{header_of}
 use Rattle.mx_model.specs.Files.{journal_name}
 use Rattle.mx_journal.specs.declared.journal.Journal.{Journal}
+use Rattle.mx_journal.specs.Fair.{counts}
 use Rattle.mx_journal.specs.Written.{name_of}
+use Rattle.mx_journal.proofs.BegunLaws.{name_counts, begins_moments, begun_there}
 use Rattle.mx_journal.proofs.WrittenLaws.{begun_now}
 use Rattle.mx_journal.proofs.journal.Journal.create.Goals as goal
 
@@ -24,3 +26,23 @@ returns-clause-created g c =
     begun_now journal c.as_str.result.now c.as_slice.result.now (g.D.Dir.states c.args.dir.now) (g.D.Dir.states c.make_file.new.dir)
     c.requires.fits c.requires.kind named refl (c.len.ensures ∙ ap length header) refl (c.as_str.ensures.value ∙ named) (c.as_slice.ensures ∙ header)
     c.in_ok-make_file.ensures.made c.requires.newest
+
+pub returns-in_err-make_file-clause-moments : goal.returns-in_err-make_file-clause-moments
+returns-in_err-make_file-clause-moments g c =
+    begins_moments c.args.head c.as_str.result.now c.as_slice.result.now (g.D.Dir.states c.args.dir.now) (g.D.Dir.states c.make_file.new.dir) c.requires.fits
+    (c.as_str.ensures.value ∙ c.in_ok-name.ensures ∙ ap journal_name c.signature.ensures)
+    (c.as_slice.ensures ∙ c.in_ok-write_header.ensures ∙ ap (λ front. front ++ header_of c.args.head) c.new-header.ensures) c.in_err-make_file.ensures.moments
+
+pub returns-clause-moments : goal.returns-clause-moments
+returns-clause-moments g c =
+    begins_moments c.args.head c.as_str.result.now c.as_slice.result.now (g.D.Dir.states c.args.dir.now) (g.D.Dir.states c.make_file.new.dir) c.requires.fits
+    (c.as_str.ensures.value ∙ c.in_ok-name.ensures ∙ ap journal_name c.signature.ensures)
+    (c.as_slice.ensures ∙ c.in_ok-write_header.ensures ∙ ap (λ front. front ++ header_of c.args.head) c.new-header.ensures) c.in_ok-make_file.ensures.moments
+
+pub returns-clause-there : goal.returns-clause-there
+returns-clause-there g c =
+    begun_there c.args.head c.as_str.result.now c.as_slice.result.now (g.D.Dir.states c.args.dir.now) (g.D.Dir.states c.make_file.new.dir) c.requires.fits
+    (c.as_str.ensures.value ∙ c.in_ok-name.ensures ∙ ap journal_name c.signature.ensures)
+    (c.as_slice.ensures ∙ c.in_ok-write_header.ensures ∙ ap (λ front. front ++ header_of c.args.head) c.new-header.ensures)
+    (c.in_ok-make_file.ensures.there
+    (ap counts (c.as_str.ensures.value ∙ c.in_ok-name.ensures ∙ ap journal_name c.signature.ensures) ∙ name_counts c.args.head))

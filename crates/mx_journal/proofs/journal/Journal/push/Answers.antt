@@ -16,7 +16,7 @@ pub returns-clause-waits : goal.returns-clause-waits
 returns-clause-waits c = λ waits waiting.
     let rows = c.as_slice.ensures ∙ c.in_ok-write_tx.ensures ∙ ap (λ front. front ++ transaction_text c.args.tx.now) c.new-rows.ensures in
     let others = c.in_ok-note_pushed.ensures.others in
-    waits_pushed c.args.self.now c.note_pushed.new.self waits c.args.tx.now waiting
+    waits_pushed c.args.self.now c.note_pushed.new.self waits c.args.tx.now waiting c.requires.sound
     (others.waiting ∙ c.in_ok-write_block.ensures ∙ ap (λ rows. c.args.self.now.waiting ++ block_of rows) rows)
     c.in_ok-note_pushed.ensures.next c.in_ok-note_pushed.ensures.pushed others.clock others.synced
 

@@ -1,5 +1,6 @@
 use Rattle.std.proofs.Common.{◌≡◌, ◌+◌, length, ap, ◌∙◌, arith}
 use Rattle.mx_journal.specs.Counting.{caught_up}
+use Rattle.mx_journal.proofs.CrashLaws.{caught_up_synced, wrote_moments, wrote_synced}
 use Rattle.mx_journal.proofs.WrittenLaws.{caught_up_now, wrote_now}
 use Rattle.mx_journal.proofs.journal.Journal.write_out.Goals as goal
 
@@ -15,3 +16,23 @@ returns-clause-written g c = λ txs waits.
     (g.D.Dir.states c.args.dir.now) (g.D.Dir.states c.append_synced.new.dir) txs waits
     (c.note_written-2.ensures.journal ∙ ap (λ none. caught_up (record c.args.self.now { length = long; waiting = none })) c.new.ensures)
     sum c.as_str.ensures.value c.as_slice.ensures c.in_ok-append_synced.ensures.made
+
+pub returns-then-is_empty-clause-synced : goal.returns-then-is_empty-clause-synced
+returns-then-is_empty-clause-synced g c = λ txs waits.
+    caught_up_synced c.args.self.now (g.D.Dir.states c.args.dir.now) c.note_written.result txs waits
+    (c.is_empty.ensures.0 c.if-is_empty.true) c.note_written.ensures.count
+
+pub returns-in_err-append_synced-clause-moments : goal.returns-in_err-append_synced-clause-moments
+returns-in_err-append_synced-clause-moments g c = λ txs waits.
+    wrote_moments c.args.self.now c.as_str.result.now c.as_slice.result.now (g.D.Dir.states c.args.dir.now) (g.D.Dir.states c.append_synced.new.dir)
+    c.append_synced.result txs waits c.as_str.ensures.value c.as_slice.ensures c.append_synced.ensures.states
+
+pub returns-clause-moments : goal.returns-clause-moments
+returns-clause-moments g c = λ txs waits.
+    wrote_moments c.args.self.now c.as_str.result.now c.as_slice.result.now (g.D.Dir.states c.args.dir.now) (g.D.Dir.states c.append_synced.new.dir)
+    c.append_synced.result txs waits c.as_str.ensures.value c.as_slice.ensures c.append_synced.ensures.states
+
+pub returns-clause-synced : goal.returns-clause-synced
+returns-clause-synced g c = λ txs waits.
+    wrote_synced c.args.self.now c.as_str.result.now c.as_slice.result.now (g.D.Dir.states c.args.dir.now) (g.D.Dir.states c.append_synced.new.dir)
+    c.note_written-2.result txs waits c.as_str.ensures.value c.as_slice.ensures c.note_written-2.ensures.count c.in_ok-append_synced.ensures.made

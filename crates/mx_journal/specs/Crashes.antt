@@ -1,0 +1,42 @@
+-- What a crash leaves of a journal's file, and of the journals and snapshots beside it.
+use Rattle.std.specs.Prelude.{◌≡◌, ◌⊎◌, ℕ, ◌≤◌, true, false, List, [], length, map, take, Some}
+use Rattle.std.specs.FinMap as finite
+use Rattle.mx_outside.specs.Disks.{Disk, File, Files}
+use Rattle.mx_xlog.specs.declared.head.Head.{Head}
+use Rattle.mx_xlog.specs.Headers.{header_of}
+use Rattle.mx_model.specs.declared.tx.Tx.{Tx}
+use Rattle.mx_model.specs.Rows.{transaction_text}
+use Rattle.mx_model.specs.Files.{FileRead, ReadsAs, same_bytes}
+use Rattle.mx_journal.specs.Fair.{counts, IsFair}
+use Rattle.mx_journal.specs.Written.{name_of}
+
+-- a journal's file of these transactions, a block each, as it reads
+abbrev pub read_of : Head → List Tx → FileRead
+read_of head transactions = record { head = head; size = length (header_of head); blocks = map transaction_text transactions }
+
+-- the journal's file is there, and has these transactions
+abbrev pub HasFile : Head → List Tx → Files → Type 0
+HasFile head transactions files =
+    (file : File) × (finite.get files (name_of head) ≡ Some file) × ReadsAs file.bytes (Some (read_of head transactions))
+
+-- Whatever a crash leaves, the journal's file has the first ones of these transactions, and so many at least.
+abbrev pub HasAtLeast : Head → List Tx → ℕ → Disk → Type 0
+HasAtLeast head transactions least disk =
+    (image : Files) → IsFair disk image → (count : ℕ) × (least ≤ count) × (count ≤ length transactions) × HasFile head (take count transactions) image
+
+-- it has no fewer than before: each bound that held still holds
+abbrev pub NoFewer : Head → List Tx → Disk → Disk → Type 0
+NoFewer head transactions older newer = (least : ℕ) → HasAtLeast head transactions least older → HasAtLeast head transactions least newer
+
+-- the journals and snapshots but the one of this name are the same
+abbrev pub SameBut : List ℕ → Files → Files → Type 0
+SameBut name one other =
+    (q : List ℕ) → counts q ≡ true → same_bytes q name ≡ false → finite.get other q ≡ finite.get one q
+
+-- a crash might have left these files, but for the journal's file, which has no transaction
+abbrev pub HasBegun : Head → Disk → Files → Type 0
+HasBegun head disk image = (was : Files) × IsFair disk was × SameBut (name_of head) was image × HasFile head [] image
+
+-- whatever a crash leaves now, it might have left before, but for the journal's file, which may have been begun
+abbrev pub MayBegin : Head → Disk → Disk → Type 0
+MayBegin head older newer = (image : Files) → IsFair newer image → IsFair older image ⊎ HasBegun head older image
