@@ -1,5 +1,5 @@
 -- What a directory tells of its newest state, where it tells its states.
-use Rattle.std.proofs.Common.{List, [], ◌∷◌, refl, sym, subst}
+use Rattle.std.proofs.Common.{◌≡◌, List, [], ◌∷◌, refl, sym, subst}
 use Rattle.std.specs.Prelude.{Option, Some, None}
 use Rattle.mx_outside.specs.Disks.{Disk, IfTold, IsTold, ToldAlike}
 use Rattle.mx_journal.specs.Written.{IsNow}
@@ -18,7 +18,7 @@ told_both None P Q R both p q = tt
 told_both (Some []) P Q R both p q = tt
 told_both (Some (disk ∷ past)) P Q R both p q = both disk past p q
 
-told_nothing : (states : Option (List Disk)) (P : Disk → List Disk → Type 0) → ¬ IsTold states → IfTold states P
+pub told_nothing : (states : Option (List Disk)) (P : Disk → List Disk → Type 0) → ¬ IsTold states → IfTold states P
 told_nothing None P none = tt
 told_nothing (Some []) P none = tt
 told_nothing (Some (disk ∷ past)) P none = absurd (none (disk, past, refl))
@@ -35,3 +35,7 @@ told_after (Some []) after P alike now = told_nothing after (λ disk past. P dis
     untold : ¬ IsTold (Some [])
     untold (disk, past, is) = absurd cc
 told_after (Some (disk ∷ past)) after P alike (next, states, is, holds) = subst (λ s. IfTold s (λ disk past. P disk)) (sym is) holds
+
+-- a directory that is as it was tells as before
+pub told_same : (before after : Option (List Disk)) → after ≡ before → ToldAlike before after
+told_same before after same = subst (ToldAlike before) (sym same) (λ told. told, λ told. told)

@@ -79,7 +79,7 @@ ended_keeps : (base : Base) (history : History) (engine : Engine) (journal : Jou
     → IsEnded journal (taken_of base history) before now → Keeps base history now
 ended_keeps base history engine journal before now past follow ready ended =
     let behind = ready.behind in
-    let (written, continues, synced) = behind.written in
+    let (written, continues, synced, settled) = behind.written in
     let taken = taken_of base history in
     let all_taken : taken ≡ journal_of base history =
     ap (λ n. take n (journal_of base history)) ready.taken ∙ take_all (length (journal_of base history)) (journal_of base history) (omega arith) in

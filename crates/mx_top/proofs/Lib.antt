@@ -20,4 +20,12 @@ mod TurnLaws
 mod SettlingLaws
 mod ReplayLaws
 mod FileLaws
+mod CountLaws
 mod OpenLaws
+mod LeavingLaws
+mod RecoveryLaws
+mod LastingLaws
+mod ServingLaws
+mod KeepLaws
+mod BreakLaws
+mod RunLaws

@@ -194,7 +194,9 @@ ready seed memory found before after engine journal head s stands alike made its
         clock = clock ∙ starts;
         waits = waits;
         written = told_now before after
-            (λ disk. IsWritten journal disk [] × Continues (base_of seed found) (name_of journal.head) disk.now × AllOnDisk disk) alike
+            (λ disk. IsWritten journal disk [] × Continues (base_of seed found) (name_of journal.head) disk.now × AllOnDisk disk
+            × (disk.older ≡ finite.empty))
+            alike
             (told_both before
             (λ disk past told now. (
               now.0,
@@ -205,6 +207,7 @@ ready seed memory found before after engine journal head s stands alike made its
                 subst (λ h. Continues (base_of seed found) (name_of h) now.0.now) (sym its)
                     (begun_continues seed head disk now.0 found s.stands.sound starts told.0 now.3.1),
                 created_on_disk head disk now.0 now.3.1 told.1,
+                now.3.1.older,
               ),
             ))
             s.told made);

@@ -18,6 +18,7 @@ use Rattle.mx_top.specs.TraceOutput.{replies_on, sent_on, once_opened, output_un
 use Rattle.mx_top.specs.Starts.{Start, greeting_of}
 use Rattle.mx_top.specs.Ready.{AnswersAll}
 use Rattle.mx_top.specs.Serving.{Serves, Took, is_opened}
+use Rattle.mx_top.proofs.LastingLaws.{lasts_none}
 use Rattle.mx_top.proofs.StepLaws.{reply_packets-append, reply_packets-enough, where_one}
 use Rattle.mx_top.proofs.UnitLaws.{replies_on-replied, gained-append, jobs_parts, bytes_on-push, jobs_on-prefix, jobs_on-push, whole-append, asks_from-push, output_from-push}
 
@@ -78,7 +79,7 @@ cond_none false = refl
 
 -- a unit without bytes changes nothing
 pub took_nothing : (start : Start) (server : Server) (units : List InputUnit) (history : History) (states : Option (List Disk))
-    → Serves start server units history states → Took start server units history [] [] states
+    → Serves start server units history states → Took start server units history [] [] states states
 took_nothing start server units history states serves =
     let same : (on : ℕ) → bytes_on on (units ++ Bytes 1 [] ∷ []) ≡ bytes_on on units = λ on.
     bytes_on-push on 1 [] units ∙ ap (λ l. bytes_on on units ++ l) (cond_none (1 == on)) ∙ append-nil (bytes_on on units) in
@@ -87,6 +88,8 @@ took_nothing start server units history states serves =
     ap (λ b. once_opened b (greeting_of start ++ reply_packets schema_version (map sync_of (filter_map job_in (packets_of b))) (replies_on 1 history))) (same 1) in
     record {
       history = history;
+      since = ([], refl);
+      lasts = lasts_none start.base history states;
       serves = record {
         greeting = serves.greeting;
         ready = serves.ready;
@@ -159,15 +162,17 @@ pub took_more : (start : Start) (old new : Server) (units : List InputUnit) (ear
     (begun finish output : List ℕ)
     (states now : Option (List Disk)) → Serves start old units earlier states → jobs_in (byte ∷ bytes) ≡ Some jobs
     → new.greeting.items ≡ greeting_of start → new.opened ≡ true
-    → (answers : AnswersAll start.base earlier new.engine new.journal now jobs begun finish)
+    → (answers : AnswersAll start.base earlier new.engine new.journal states now jobs begun finish)
     → output ≡ output_unit 1 (unit_body start old.opened jobs answers.replies)
-    → Took start new units earlier (byte ∷ bytes) output now
+    → Took start new units earlier (byte ∷ bytes) output states now
 took_more start old new units earlier byte bytes jobs begun finish output states now serves found greeting opened answers written =
     let content = byte ∷ bytes in
     let p = jobs_parts content jobs found in
     let more = jobs_on-push content units jobs serves.whole found in
     record {
       history = answers.history;
+      since = answers.since;
+      lasts = answers.lasts;
       serves = record {
         greeting = greeting;
         ready = answers.ready;
@@ -202,9 +207,9 @@ pub took_answered : (start : Start) (old new : Server) (units : List InputUnit) 
     (states now : Option (List Disk)) → Serves start old units earlier states → nat_eq (length content) 0 ≡ false → Some jobs ≡ jobs_in content
     → new.greeting.items ≡ old.greeting.items → new.opened ≡ true
     → begun ≡ unit_head 1 → greeted ≡ begun ++ (if old.opened then [] else old.greeting.items)
-    → AnswersAll start.base earlier new.engine new.journal now jobs greeted finish
+    → AnswersAll start.base earlier new.engine new.journal states now jobs greeted finish
     → ((connection : ℕ) (body : List ℕ) → finish ≡ unit_head connection ++ body → output ≡ output_unit connection body)
-    → Took start new units earlier content output now
+    → Took start new units earlier content output states now
 took_answered start old new units earlier [] jobs begun greeted finish output states now serves some found greeting opened head greets answers finished = absurd cc
 took_answered start old new units earlier (byte ∷ bytes) jobs begun greeted finish output states now serves some found greeting opened head greets answers finished =
     let packets = reply_packets schema_version (map sync_of jobs) answers.replies in
@@ -218,8 +223,8 @@ took_answered start old new units earlier (byte ∷ bytes) jobs begun greeted fi
 pub took_empty : (start : Start) (server : Server) (units : List InputUnit) (history : History) (content output : List ℕ)
     (states : Option (List Disk))
     → Serves start server units history states → nat_eq (length content) 0 ≡ true → output ≡ []
-    → Took start server units history content output states
+    → Took start server units history content output states states
 took_empty start server units history [] output states serves none nothing =
-    subst (λ l. Took start server units history [] l states) (sym nothing) (took_nothing start server units history states serves)
+    subst (λ l. Took start server units history [] l states states) (sym nothing) (took_nothing start server units history states serves)
 took_empty start server units history (byte ∷ bytes) output states serves none nothing =
     let zero_long : length (byte ∷ bytes) ≡ 0 = eqb-true (length (byte ∷ bytes)) 0 none in absurd (omega arith)

@@ -28,9 +28,10 @@ use Rattle.mx_top.specs.Starts.{AllOnDisk}
 use Rattle.mx_top.specs.Ready.{Behind, Ready, Replied, AllComeNext, step_of, taken_of}
 use Rattle.mx_top.proofs.DiskLaws.{told_both, told_after}
 
--- a journal's file has these transactions, behind the files that stand for the base; all journals are on the disk
+-- a journal's file has these transactions, behind the files that stand for the base; all journals and names are on the disk
 abbrev pub IsOnDisk : Base → Journal → List Tx → Disk → Type 0
-IsOnDisk base journal txs disk = IsWritten journal disk txs × Continues base (name_of journal.head) disk.now × AllOnDisk disk
+IsOnDisk base journal txs disk =
+    IsWritten journal disk txs × Continues base (name_of journal.head) disk.now × AllOnDisk disk × (disk.older ≡ finite.empty)
 
 -- ---- transactions that come next
 
@@ -125,9 +126,9 @@ all_on_disk journal txs before after all written same name file kind there = by_
 
 -- what was written to the journal's file
 written_now : (base : Base) (journal : Journal) (name : List ℕ) (txs : List Tx) (file : File) (before after : Disk) → name ≡ name_of journal.head
-    → finite.get before.now name ≡ Some file → Continues base name before.now → AllOnDisk before → IsWritten journal after txs
-    → SameOthers name before after → IsOnDisk base journal txs after
-written_now base journal name txs file before after named there continues all written same =
+    → finite.get before.now name ≡ Some file → Continues base name before.now → AllOnDisk before → before.older ≡ finite.empty
+    → IsWritten journal after txs → SameOthers name before after → IsOnDisk base journal txs after
+written_now base journal name txs file before after named there continues all settled written same =
     let own = name_of journal.head in
     let others : SameOthers own before after = subst (λ n. SameOthers n before after) named same in
     let was : is_some (finite.get before.now own) ≡ true = ap (λ n. is_some (finite.get before.now n)) (sym named) ∙ ap is_some there in
@@ -135,6 +136,7 @@ written_now base journal name txs file before after named there continues all wr
       written,
       continues_same base own before.now after.now (subst (λ n. Continues base n before.now) named continues) others.files was is,
       all_on_disk journal txs before after all written others,
+      same.older ∙ settled,
     )
 
 -- what the journal's calls made of it: these transactions were pushed, and then written out
@@ -163,7 +165,7 @@ module _ (base : Base) (old pushed written : Journal) (before after : Option (Li
       = subst (λ h. Continues base (name_of h) disk.now) (sym wrote_out.pushed_head) was.1 in
       let named : name_of pushed.head ≡ name_of written.head = ap name_of (sym wrote_out.head) in
       let stands = written_now base written (name_of pushed.head) (done ++ txs) (on_disk (file_text pushed.head done)) disk now.0 named kept.file
-      continues was.2 now.3.0 now.3.1 in
+      continues was.2 was.3 now.3.0 now.3.1 in
       (now.0, now.1, now.2, stands)
 
   pub wrote_told : IfTold before (λ disk past. IsOnDisk base old done disk) → IfTold after (λ now past. IsOnDisk base written (done ++ txs) now)

@@ -2,10 +2,12 @@
 use Rattle.std.proofs.Common.{◌≡◌, ℕ, zero, suc, ◌+◌, ◌<◌, ◌≤◌, Bool, true, false, cond, List, [], ◌∷◌, ◌++◌, length, map, take, drop, get_or, refl, sym, ap, ◌∙◌, subst, arith, add-one, length-append}
 use Rattle.std.specs.Prelude.{◌==◌, Option, if◌then◌else◌}
 use Rattle.std.specs.List.{AllByRecursion}
-use Rattle.std.proofs.lemmas.List.{append-nil, append_assoc, map_push, length-map, take_more}
+use Rattle.std.proofs.lemmas.List.{append-nil, append_assoc, map_push, map-append, length-map, take_more, take-append-drop}
+use mathlib.Core.List.{IsPrefix}
 use Rattle.mx_outside.specs.Disks.{Disk}
 use Rattle.mx_model.specs.declared.reply.Reply.{Reply}
-use Rattle.mx_model.specs.Histories.{Base, History, Asked, asks_in}
+use Rattle.mx_model.specs.declared.txn_name.TxnName.{TxnName}
+use Rattle.mx_model.specs.Histories.{Base, History, Asked, Took, Confirmed, asks_in}
 use Rattle.mx_model.specs.Requests.{Ask}
 use Rattle.mx_model.specs.ReplyStream.{reply_packet, reply_packets}
 use Rattle.mx_engine.specs.declared.engine.Engine.{Engine}
@@ -17,6 +19,8 @@ use Rattle.mx_top.specs.TraceOutput.{replies_on, schema_version}
 use Rattle.mx_top.specs.declared.jobs.Job as coded
 use Rattle.mx_top.specs.Views.{job_view}
 use Rattle.mx_top.specs.Ready.{IsJob, Ready, Replied, Answers, AnswersAll, steps_of}
+use Rattle.mx_top.specs.Crashes.{Lasts, BreaksOff}
+use Rattle.mx_top.proofs.LastingLaws.{lasts_none, lasts_on, breaks_on, breaks_among}
 
 -- the packets of two runs of replies, where the first has one for each sync
 pub reply_packets-append : (version : ℕ) (syncs more : List ℕ) (replies others : List Reply) → length syncs ≡ length replies
@@ -50,11 +54,13 @@ sync_of job = job.sync
 
 -- no job
 pub answered_none : (base : Base) (earlier : History) (engine : Engine) (journal : Journal) (states : Option (List Disk)) (out : List ℕ)
-    → Ready base earlier engine journal states → AnswersAll base earlier engine journal states [] out out
+    → Ready base earlier engine journal states → AnswersAll base earlier engine journal states states [] out out
 answered_none base earlier engine journal states out ready = record {
   history = earlier;
   replies = [];
   ready = ready;
+  since = ([], refl);
+  lasts = lasts_none base earlier states;
   asks = sym (append-nil (asks_in earlier));
   told = λ on. sym (append-nil (replies_on on earlier)) ∙ ap (λ l. replies_on on earlier ++ l) (none (1 == on));
   each = refl;
@@ -65,15 +71,21 @@ answered_none base earlier engine journal states out ready = record {
     none true = refl
     none false = refl
 
-module _ (base : Base) (earlier : History) (old new : Engine) (begun written : Journal) (before_states states : Option (List Disk))
+module _ (base : Base) (earlier : History) (old new : Engine) (begun written : Journal) (first before_states states : Option (List Disk))
     (before middle after : List ℕ) where
   -- one job more
-  pub answered_more : (jobs : List Job) (job : Job) (so_far : AnswersAll base earlier old begun before_states jobs before middle)
-      → Answers base so_far.history new written states job middle after → AnswersAll base earlier new written states (jobs ++ job ∷ []) before after
+  pub answered_more : (jobs : List Job) (job : Job) (so_far : AnswersAll base earlier old begun first before_states jobs before middle)
+      → Answers base so_far.history new written before_states states job middle after
+      → AnswersAll base earlier new written first states (jobs ++ job ∷ []) before after
   answered_more jobs job so_far step = record {
     history = steps_of job step.reply step.transactions step.upto so_far.history;
     replies = so_far.replies ++ step.reply ∷ [];
     ready = step.ready;
+    since = (
+      steps_of job step.reply step.transactions step.upto so_far.since.0,
+      ap (steps_of job step.reply step.transactions step.upto) so_far.since.1,
+    );
+    lasts = lasts_on base (steps_of job step.reply step.transactions step.upto []) so_far.history first before_states states so_far.lasts step.lasts;
     asks = append-nil _ ∙ append-nil _ ∙ ap (λ l. l ++ named 1 job ∷ []) so_far.asks
         ∙ append_assoc (asks_in earlier) (map (named 1) jobs) (named 1 job ∷ [])
         ∙ ap (λ l. asks_in earlier ++ l) (sym (map_push (named 1) jobs job));
@@ -95,13 +107,47 @@ module _ (base : Base) (earlier : History) (old new : Engine) (begun written : J
 
   -- one job more of a list
   pub answered_at : (jobs : List coded.Job) (index : ℕ) (other : coded.Job) → index < length jobs
-      → (so_far : AnswersAll base earlier old begun before_states (map job_view (take index jobs)) before middle)
-      → Answers base so_far.history new written states (job_view (get_or jobs index other)) middle after
-      → AnswersAll base earlier new written states (map job_view (take (index + 1) jobs)) before after
+      → (so_far : AnswersAll base earlier old begun first before_states (map job_view (take index jobs)) before middle)
+      → Answers base so_far.history new written before_states states (job_view (get_or jobs index other)) middle after
+      → AnswersAll base earlier new written first states (map job_view (take (index + 1) jobs)) before after
   answered_at jobs index other within so_far step =
       let more = ap (λ l. map job_view l) (take_more jobs index other within) ∙ map_push job_view (take index jobs) (get_or jobs index other) in
-      subst (λ l. AnswersAll base earlier new written states l before after) (sym more)
+      subst (λ l. AnswersAll base earlier new written first states l before after) (sym more)
       (answered_more (map job_view (take index jobs)) (job_view (get_or jobs index other)) so_far step)
+
+-- the requests of the first jobs begin those of all jobs
+first_asks : (earlier : List (TxnName × Ask)) (jobs : List coded.Job) (count : ℕ)
+    → IsPrefix (earlier ++ map (named 1) (map job_view (take count jobs))) (earlier ++ map (named 1) (map job_view jobs))
+first_asks earlier jobs count =
+    let first = map (named 1) (map job_view (take count jobs)) in
+    let rest = map (named 1) (map job_view (drop count jobs)) in (
+      rest,
+      append_assoc earlier first rest
+          ∙ ap (λ l. earlier ++ l) (
+          sym (map-append (named 1) (map job_view (take count jobs)) (map job_view (drop count jobs)))
+          ∙ ap (map (named 1)) (sym (map-append job_view (take count jobs) (drop count jobs)) ∙ ap (map job_view) (take-append-drop count jobs))),
+    )
+
+-- the run broke off at one of the jobs
+pub breaks_at : (base : Base) (earlier : History) (old : Engine) (begun : Journal) (first before_states states : Option (List Disk))
+    (before middle : List ℕ) (jobs : List coded.Job) (index : ℕ) (other : coded.Job) → index < length jobs
+    → (so_far : AnswersAll base earlier old begun first before_states (map job_view (take index jobs)) before middle)
+    → BreaksOff base so_far.history (asks_in so_far.history ++ named 1 (job_view (get_or jobs index other)) ∷ []) before_states states
+    → BreaksOff base earlier (asks_in earlier ++ map (named 1) (map job_view jobs)) first states
+breaks_at base earlier old begun first before_states states before middle jobs index other within so_far breaks =
+    let job = job_view (get_or jobs index other) in
+    let more = ap (λ l. map job_view l) (take_more jobs index other within) ∙ map_push job_view (take index jobs) (get_or jobs index other) in
+    let asks : asks_in so_far.history ++ named 1 job ∷ [] ≡ asks_in earlier ++ map (named 1) (map job_view (take (index + 1) jobs)) =
+    ap (λ l. l ++ named 1 job ∷ []) so_far.asks
+    ∙ append_assoc (asks_in earlier) (map (named 1) (map job_view (take index jobs))) (named 1 job ∷ [])
+    ∙ ap (λ l. asks_in earlier ++ l) (sym (ap (map (named 1)) more ∙ map_push (named 1) (map job_view (take index jobs)) job)) in
+    let since = so_far.since in
+    let among : IsPrefix (asks_in so_far.history ++ named 1 job ∷ []) (asks_in earlier ++ map (named 1) (map job_view jobs)) =
+    subst (λ l. IsPrefix l (asks_in earlier ++ map (named 1) (map job_view jobs))) (sym asks) (first_asks (asks_in earlier) jobs (index + 1)) in
+    breaks_on base since.0 earlier (asks_in earlier ++ map (named 1) (map job_view jobs)) first before_states states
+    (subst (λ h. Lasts base h first before_states) since.1 so_far.lasts)
+    (subst (λ h. BreaksOff base h (asks_in earlier ++ map (named 1) (map job_view jobs)) before_states states) since.1
+    (breaks_among base so_far.history (asks_in so_far.history ++ named 1 job ∷ []) (asks_in earlier ++ map (named 1) (map job_view jobs)) before_states states among breaks))
 
 -- the jobs after the first of them
 sound_after : (jobs : List coded.Job) (index : ℕ) → AllByRecursion IsJob (map job_view (drop index jobs))

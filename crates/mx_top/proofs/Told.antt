@@ -11,8 +11,10 @@ use Rattle.mx_top.specs.Serving.{Serves}
 use Rattle.mx_top.specs.Starts.{Start}
 use Rattle.mx_top.specs.declared.status.Status.{Status}
 use Rattle.mx_top.specs.declared.status.Status.TheVariants as status
-use Rattle.mx_top.specs.Runs.{BeginsTrace, PlaceSeen, fault_place, status_by}
-use Rattle.mx_top.specs.Progress.{ReadTo, Wrote, GoesOn}
+use Rattle.mx_top.specs.Runs.{PlaceSeen, fault_place, status_by}
+use Rattle.mx_top.specs.Progress.{ReadTo, Wrote, BrokeOff, GoesOn}
+use Rattle.mx_top.proofs.LastingLaws.{lasts_none}
+use Rattle.mx_top.proofs.BreakLaws.{untouched_among}
 
 -- The input was read up to this place; and where the server had served nothing first, all of the output for the units read
 -- was written.
@@ -22,7 +24,7 @@ pub record HasRead (input : List ℕ) (left : Option (List ℕ)) (waiting : List
   pub left_is : left ≡ Some rest
   pub units : List InputUnit
   pub read : ReadTo input (waiting ++ rest) place units
-  pub wrote : (start : Start) (before : List ℕ) → Serves start first [] [] states → old ≡ Some before → Wrote start server units before new now
+  pub wrote : (start : Start) (before : List ℕ) → Serves start first [] [] states → old ≡ Some before → Wrote start server units before new states now
 
 -- nothing was read or written yet
 pub has_read_nothing : (input waiting : List ℕ) (left : Option (List ℕ)) (server : Server) (old : Option (List ℕ)) (states : Option (List Disk))
@@ -36,7 +38,12 @@ has_read_nothing input waiting left server old states told none =
       left_is = told;
       units = [];
       read = subst (λ r. ReadTo input r 0 []) (sym all) (record { all = refl; at = omega arith });
-      wrote = λ start before serves was. record { history = []; serves = serves; written = was ∙ ap (λ l. Some l) (sym (append-nil before)) };
+      wrote = λ start before serves was. record {
+        history = [];
+        serves = serves;
+        written = was ∙ ap (λ l. Some l) (sym (append-nil before));
+        lasts = lasts_none start.base [] states;
+      };
     }
 
 -- one unit more
@@ -44,29 +51,33 @@ pub has_read_more : (input waiting rest : List ℕ) (left : Option (List ℕ)) (
     (old middle new : Option (List ℕ))
     (states between now : Option (List Disk))
     → left ≡ Some rest → GoesOn input (waiting ++ rest) next server after units middle new between now
-    → ((start : Start) (before : List ℕ) → Serves start first [] [] states → old ≡ Some before → Wrote start server units before middle between)
+    → ((start : Start) (before : List ℕ) → Serves start first [] [] states → old ≡ Some before → Wrote start server units before middle states between)
     → HasRead input left waiting next first after old new states now
 has_read_more input waiting rest left next first server after units old middle new states between now told on wrote = record {
   rest = rest;
   left_is = told;
   units = units ++ on.unit ∷ [];
   read = on.read;
-  wrote = λ start before serves was. on.wrote start before (wrote start before serves was);
+  wrote = λ start before serves was. on.wrote start before states (wrote start before serves was);
 }
 
--- nothing was written, of which much begins with it
-pub begins_nothing : (start : Start) (input before : List ℕ) (old : Option (List ℕ)) → old ≡ Some before
-    → IsSomeAnd old (λ written. BeginsTrace start input before written)
-begins_nothing start input before old was = subst (λ o. IsSomeAnd o (λ written. BeginsTrace start input before written)) (sym was) (record {
-  units = [];
-  begun = ((units_of input).0, refl);
-  history = [];
-  legal = tt;
-  asks = ([], refl);
-  written = [];
-  part = ([], refl);
-  output = sym (append-nil before);
-})
+-- nothing was written or done
+pub begins_nothing : (start : Start) (input before : List ℕ) (server : Server) (old : Option (List ℕ)) (states : Option (List Disk))
+    → Serves start server [] [] states → old ≡ Some before → IsSomeAnd old (λ written. BrokeOff start input before written states states)
+begins_nothing start input before server old states serves was =
+    subst (λ o. IsSomeAnd o (λ written. BrokeOff start input before written states states)) (sym was) (record {
+      trace = record {
+        units = [];
+        begun = ((units_of input).0, refl);
+        history = [];
+        legal = tt;
+        asks = ([], refl);
+        written = [];
+        part = ([], refl);
+        output = sym (append-nil before);
+      };
+      breaks = untouched_among start server [] (units_of input).0 [] states ((units_of input).0, refl) serves;
+    })
 
 -- a run that no fault ended has the status that its input demands, or memory was missing, or the directory stands for nothing
 pub completes : (ended : Status) (input : List ℕ) (left : Option (List ℕ)) → PlaceSeen ended input left → (ended ≡ status.BadWords → ⊥)
@@ -89,3 +100,7 @@ only_one items before after found new was here is =
     let changed : new ∷ [] ≡ after ∷ [] = ap (λ l. slice_set l 0 new) (sym was) ∙ is in
     let same : new ≡ after = cc in
     (here ∙ ap (λ l. get_or l 0 found) was, same)
+
+-- the only one of a list is one
+pub same_one : {X : Type 0} (items : List X) (one other : X) → items ≡ one ∷ [] → items ≡ other ∷ [] → one ≡ other
+same_one items one other first second = cc

@@ -4,13 +4,14 @@ use Rattle.std.specs.Prelude.{◌==◌, if◌then◌else◌, Some}
 use Rattle.std.specs.List.{filter_map}
 use Rattle.std.proofs.lemmas.List.Elements.{filter_map-append}
 use Rattle.std.proofs.lemmas.List.{append-nil, append_assoc, drop_at}
+use mathlib.Core.List.{IsPrefix}
 use Rattle.mx_msgpack.specs.Readers.{◌>>=◌, all_from}
 use Rattle.mx_msgpack.proofs.Options.{bind_some, same_some}
 use Rattle.mx_msgpack.proofs.ReaderLaws.{all_from-append}
 use Rattle.mx_model.specs.Histories.{History, Asked, Left, Took, Confirmed, replied}
 use Rattle.mx_top.specs.Packets.{packet_at, packets_of}
 use Rattle.mx_top.specs.Asks.{Job, job_in}
-use Rattle.mx_top.specs.Units.{InputUnit, Bytes, jobs_for, only_whole, jobs_in, bytes_on, jobs_on, named, gained, asks_from}
+use Rattle.mx_top.specs.Units.{InputUnit, Bytes, jobs_for, only_whole, jobs_in, bytes_on, jobs_on, named, gained, asks_from, asks_of}
 use Rattle.mx_top.specs.Starts.{Start}
 use Rattle.mx_top.specs.TraceOutput.{reply_on, replies_on, sent_on, output_unit, output_from}
 use Rattle.mx_top.proofs.PacketLaws.{packet_at-Advances, packet_at-IsStable}
@@ -122,3 +123,24 @@ replies_on-replied on (Asked name ask reply ∷ earlier) = ap (λ l. l ++ reply_
 replies_on-replied on (Left other ∷ earlier) = replies_on-replied on earlier ∙ sym (append-nil (replies_on on earlier))
 replies_on-replied on (Took transactions upto ∷ earlier) = replies_on-replied on earlier ∙ sym (append-nil (replies_on on earlier))
 replies_on-replied on (Confirmed upto ∷ earlier) = replies_on-replied on earlier ∙ sym (append-nil (replies_on on earlier))
+
+asks_from-append : (earlier units more : List InputUnit) → asks_from earlier (units ++ more) ≡ asks_from earlier units ++ asks_from (earlier ++ units) more
+asks_from-append earlier [] more = ap (λ l. asks_from l more) (sym (append-nil earlier))
+asks_from-append earlier (Bytes on bytes ∷ units) more =
+    let front = map (named on) (gained (jobs_on on earlier) (jobs_on on (earlier ++ Bytes on bytes ∷ []))) in
+    let later = earlier ++ Bytes on bytes ∷ [] in
+    ap (λ l. front ++ l) (asks_from-append later units more)
+    ∙ sym (append_assoc front (asks_from later units) (asks_from (later ++ units) more))
+    ∙ ap (λ l. (front ++ asks_from later units) ++ asks_from l more) (append_assoc earlier (Bytes on bytes ∷ []) units)
+
+-- the requests of units that begin others begin theirs
+pub asks_begin : (units all : List InputUnit) → IsPrefix units all → IsPrefix (asks_of units) (asks_of all)
+asks_begin units all (rest, is) = (asks_from units rest, sym (asks_from-append [] units rest) ∙ ap asks_of is)
+
+-- the requests of one unit more
+pub asks_of-push : (units : List InputUnit) (content : List ℕ) (jobs : List Job) → (all_from packet_at (bytes_on 1 units)).1 ≡ [] → jobs_in content ≡ Some jobs
+    → asks_of (units ++ Bytes 1 content ∷ []) ≡ asks_of units ++ map (named 1) jobs
+asks_of-push units content jobs whole found =
+    asks_from-push [] units 1 content
+    ∙ ap (λ l. asks_of units ++ map (named 1) l)
+    (ap (gained (jobs_on 1 units)) (jobs_on-push content units jobs whole found) ∙ gained-append (jobs_on 1 units) jobs)

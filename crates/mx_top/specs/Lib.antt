@@ -1,4 +1,5 @@
 pub mod Asks
+pub mod Crashes
 pub mod Greeting
 pub mod Loading
 pub mod OpeningFaults

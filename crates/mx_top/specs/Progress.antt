@@ -8,11 +8,12 @@ use Rattle.mx_top.specs.declared.status.Status.{Status}
 use Rattle.mx_top.specs.declared.status.Status.TheVariants as status
 use Rattle.mx_top.specs.declared.stop.Stop.{Stop}
 use Rattle.mx_top.specs.declared.stop.Stop.TheVariants.{BadInput, ReadFault, WriteFault, DiskFault, NoMemory}
-use Rattle.mx_top.specs.Units.{InputUnit, content_at, unit_at, units_of}
+use Rattle.mx_top.specs.Units.{InputUnit, content_at, unit_at, units_of, asks_of}
 use Rattle.mx_top.specs.TraceOutput.{trace_output}
 use Rattle.mx_top.specs.Serving.{Serves}
 use Rattle.mx_top.specs.Ready.{Ready}
 use Rattle.mx_top.specs.Starts.{Start}
+use Rattle.mx_top.specs.Crashes.{Lasts, BreaksOff}
 use Rattle.mx_top.specs.Runs.{IsTrace, BeginsTrace, Keeps, PlaceSeen}
 
 -- what stops a run where a unit stands at this place in the bytes that are left
@@ -44,26 +45,33 @@ abbrev pub status_of : Result (Unit {0}) Stop → Status
 status_of (Ok done) = status.Ok
 status_of (Err stop) = status_of_stop stop
 
--- these units were answered, and all of the output for them was written
-pub record Wrote (start : Start) (server : Server) (units : List InputUnit) (before : List ℕ) (contents : Option (List ℕ)) (states : Option (List Disk)) : Type 0 where
+-- these units were answered, and all of the output for them was written, since the directory had its first states
+pub record Wrote (start : Start) (server : Server) (units : List InputUnit) (before : List ℕ) (contents : Option (List ℕ)) (first states : Option (List Disk)) : Type 0 where
   pub history : History
   pub serves : Serves start server units history states
   pub written : contents ≡ Some (before ++ trace_output start units history)
+  pub lasts : Lasts start.base history first states
 
 -- all of the input's units were answered, and all of the output was written
-pub record Finished (start : Start) (input before after : List ℕ) (server : Server) (states : Option (List Disk)) : Type 0 where
+pub record Finished (start : Start) (input before after : List ℕ) (server : Server) (first states : Option (List Disk)) : Type 0 where
   pub history : History
   pub trace : IsTrace start history input before after
   pub ready : Ready start.base history server.engine server.journal states
+  pub lasts : Lasts start.base history first states
 
--- what the end of the units, or the cause that stopped the run among them, says of the output
-abbrev pub EndSeen : Result (Unit {0}) Stop → (start : Start) → (input before after : List ℕ) → (server : Server) → (states : Option (List Disk)) → Type 0
-EndSeen (Ok done) start input before after server states = Finished start input before after server states
-EndSeen (Err (BadInput at)) start input before after server states = Finished start input before after server states
-EndSeen (Err ReadFault) start input before after server states = BeginsTrace start input before after
-EndSeen (Err WriteFault) start input before after server states = BeginsTrace start input before after
-EndSeen (Err DiskFault) start input before after server states = BeginsTrace start input before after
-EndSeen (Err NoMemory) start input before after server states = BeginsTrace start input before after
+-- the run broke off: what was written, and what the directory keeps
+pub record BrokeOff (start : Start) (input before after : List ℕ) (first states : Option (List Disk)) : Type 0 where
+  pub trace : BeginsTrace start input before after
+  pub breaks : BreaksOff start.base trace.history (asks_of (units_of input).0) first states
+
+-- what the end of the units, or the cause that stopped the run among them, says of the output and of the directory
+abbrev pub EndSeen : Result (Unit {0}) Stop → (start : Start) → (input before after : List ℕ) → (server : Server) → (first states : Option (List Disk)) → Type 0
+EndSeen (Ok done) start input before after server first states = Finished start input before after server first states
+EndSeen (Err (BadInput at)) start input before after server first states = Finished start input before after server first states
+EndSeen (Err ReadFault) start input before after server first states = BrokeOff start input before after first states
+EndSeen (Err WriteFault) start input before after server first states = BrokeOff start input before after first states
+EndSeen (Err DiskFault) start input before after server first states = BrokeOff start input before after first states
+EndSeen (Err NoMemory) start input before after server first states = BrokeOff start input before after first states
 
 -- all of the input's units were answered, all of the output was written, and the directory keeps what was committed
 pub record Completed (start : Start) (input before after : List ℕ) (states : Option (List Disk)) : Type 0 where
@@ -84,13 +92,13 @@ RunSeen (Err NoMemory) start input before after states = BeginsTrace start input
 pub record Ends (ended : Result (Unit {0}) Stop) (input : List ℕ) (left : Option (List ℕ)) (server after : Server) (units : List InputUnit)
     (old new : Option (List ℕ)) (states now : Option (List Disk)) : Type 0 where
   pub place : PlaceSeen (status_of ended) input left
-  pub output : (start : Start) (before : List ℕ) → Wrote start server units before old states
-      → IsSomeAnd new (λ written. EndSeen ended start input before written after now)
+  pub output : (start : Start) (before : List ℕ) (first : Option (List Disk)) → Wrote start server units before old first states
+      → IsSomeAnd new (λ written. EndSeen ended start input before written after first now)
 
 -- one unit more was read and answered
 pub record GoesOn (input rest : List ℕ) (place : ℕ) (server after : Server) (units : List InputUnit)
     (old new : Option (List ℕ)) (states now : Option (List Disk)) : Type 0 where
   pub unit : InputUnit
   pub read : ReadTo input rest place (units ++ unit ∷ [])
-  pub wrote : (start : Start) (before : List ℕ) → Wrote start server units before old states
-      → Wrote start after (units ++ unit ∷ []) before new now
+  pub wrote : (start : Start) (before : List ℕ) (first : Option (List Disk)) → Wrote start server units before old first states
+      → Wrote start after (units ++ unit ∷ []) before new first now

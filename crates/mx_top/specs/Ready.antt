@@ -1,5 +1,6 @@
 -- How engine, journal and directory stand together between two requests.
 use Rattle.std.specs.Prelude.{◌≡◌, ⊤, ℕ, true, List, [], ◌∷◌, ◌++◌, length, take, map, Option, ◌==◌, if◌then◌else◌}
+use Rattle.std.specs.FinMap as finite
 use Rattle.mx_outside.specs.Disks.{Disk, IfTold}
 use Rattle.mx_model.specs.declared.reply.Reply.{Reply}
 use Rattle.mx_model.specs.declared.tx.Tx.{Tx}
@@ -16,6 +17,7 @@ use Rattle.mx_journal.specs.Written.{IsWritten, Waits, name_of}
 use Rattle.mx_top.specs.Asks.{Job}
 use Rattle.mx_top.specs.Units.{named}
 use Rattle.mx_top.specs.Starts.{AllOnDisk}
+use Rattle.mx_top.specs.Crashes.{Lasts}
 use Rattle.mx_top.specs.TraceOutput.{replies_on, schema_version}
 
 -- the commits that were taken to be written
@@ -31,7 +33,7 @@ pub record Behind (base : Base) (history : History) (engine : Engine) (journal :
   pub clock : journal.clock ≡ clock_after base.clock (taken_of base history)
   pub waits : Waits journal []
   pub written : IfTold states (λ disk past. IsWritten journal disk (taken_of base history)
-      × Continues base (name_of journal.head) disk.now × AllOnDisk disk)
+      × Continues base (name_of journal.head) disk.now × AllOnDisk disk × (disk.older ≡ finite.empty))
 
 -- the same, and all commits were taken
 pub record Ready (base : Base) (history : History) (engine : Engine) (journal : Journal) (states : Option (List Disk)) : Type 0 where
@@ -73,18 +75,21 @@ abbrev pub steps_of : Job → Reply → List Tx → ℕ → History → History
 steps_of job reply transactions upto history = Confirmed upto ∷ Took transactions upto ∷ step_of job reply ∷ history
 
 -- the request of a job was answered, what it committed is on the disk, and its reply was added to the output
-pub record Answers (base : Base) (earlier : History) (engine : Engine) (journal : Journal) (states : Option (List Disk)) (job : Job) (before after : List ℕ) : Type 0 where
+pub record Answers (base : Base) (earlier : History) (engine : Engine) (journal : Journal) (old states : Option (List Disk)) (job : Job) (before after : List ℕ) : Type 0 where
   pub reply : Reply
   pub transactions : List Tx
   pub upto : ℕ
   pub ready : Ready base (steps_of job reply transactions upto earlier) engine journal states
+  pub lasts : Lasts base (steps_of job reply transactions upto earlier) old states
   pub output : after ≡ before ++ reply_packet schema_version job.sync reply
 
 -- the same for these jobs, in order
-pub record AnswersAll (base : Base) (earlier : History) (engine : Engine) (journal : Journal) (states : Option (List Disk)) (jobs : List Job) (before after : List ℕ) : Type 0 where
+pub record AnswersAll (base : Base) (earlier : History) (engine : Engine) (journal : Journal) (old states : Option (List Disk)) (jobs : List Job) (before after : List ℕ) : Type 0 where
   pub history : History
   pub replies : List Reply
   pub ready : Ready base history engine journal states
+  pub since : (more : History) × (history ≡ more ++ earlier)
+  pub lasts : Lasts base history old states
   pub asks : asks_in history ≡ asks_in earlier ++ map (named 1) jobs
   pub told : (on : ℕ) → replies_on on history ≡ replies_on on earlier ++ (if 1 == on then replies else [])
   pub each : length replies ≡ length jobs

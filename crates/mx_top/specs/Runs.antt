@@ -1,14 +1,17 @@
 -- What a run of the program does, seen from outside.
-use Rattle.std.specs.Prelude.{◌≡◌, ◌⊎◌, ⊤, ℕ, ◌-◌, List, [], ◌∷◌, ◌++◌, length, Option, Some, None, Ok, Err}
+use Rattle.std.specs.Prelude.{◌≡◌, ◌⊎◌, ⊤, ℕ, ◌-◌, ◌≤◌, List, [], ◌∷◌, ◌++◌, length, Option, Some, None, Ok, Err}
 use mathlib.Core.List.{IsPrefix}
 use Rattle.mx_outside.specs.Disks.{Disk, IfTold}
+use Rattle.mx_outside.specs.Moments.{Moments}
+use Rattle.mx_model.specs.declared.tx.Tx.{Tx}
 use Rattle.mx_model.specs.Files.{Reached, IsDirectoryState}
-use Rattle.mx_model.specs.Histories.{Base, History, IsLegal, HasMemory, asks_in, history_from, state_of, clock_of}
+use Rattle.mx_model.specs.Histories.{Base, History, IsLegal, HasMemory, asks_in, history_from, journal_of, ledger_of, state_of, clock_of}
 use Rattle.mx_top.specs.declared.status.Status.{Status}
 use Rattle.mx_top.specs.declared.status.Status.TheVariants as status
 use Rattle.mx_top.specs.Units.{InputUnit, units_of, asks_of}
 use Rattle.mx_top.specs.TraceOutput.{trace_output}
 use Rattle.mx_top.specs.Starts.{Start, Begins, AllOnDisk}
+use Rattle.mx_top.specs.Crashes.{Survive, NoFewerSurvive}
 
 abbrev pub place_before : List ℕ → List ℕ → Option ℕ
 place_before input [] = None
@@ -102,6 +105,36 @@ DamageSeen status.WriteFault old = ⊤
 DamageSeen status.DiskFault old = ⊤
 DamageSeen status.NoMemory old = ⊤
 DamageSeen (status.Damaged damage) old = IfTold old (λ disk past. IsDirectoryState disk.now (Err damage))
+
+-- At each moment of the run, whatever a crash left stood for the first ones of these transactions: those that the directory
+-- stood for, and those that a history of the input's requests committed. It never stood for fewer than before.
+pub record CrashSeen (seed input : List ℕ) (earlier : List Tx) (old new : Option (List Disk)) : Type 0 where
+  pub start : Start
+  pub begins : Begins start seed old
+  pub history : History
+  pub legal : IsLegal start.base history
+  pub asks : IsPrefix (asks_in history) (asks_of (units_of input).0)
+  pub transactions : List Tx
+  pub all : transactions ≡ earlier ++ journal_of start.base history
+  pub moments : IfTold old (λ disk past. Moments (Survive transactions 0) (NoFewerSurvive transactions) new disk past)
+
+-- The replies that stand in the output are those of a history. Whatever a crash leaves has all that was committed in it and,
+-- beyond it, in each step that was confirmed; what a later step committed may be there too.
+pub record Gated (seed input before after : List ℕ) (earlier : List Tx) (old new : Option (List Disk)) : Type 0 where
+  pub start : Start
+  pub begins : Begins start seed old
+  pub trace : BeginsTrace start input before after
+  pub more : History
+  pub later : History
+  pub legal : IsLegal start.base (later ++ (more ++ trace.history))
+  pub asks : IsPrefix (asks_in (later ++ (more ++ trace.history))) (asks_of (units_of input).0)
+  pub confirmed : (ledger_of start.base (later ++ (more ++ trace.history))).durable ≤ length (more ++ trace.history)
+  pub keep : IfTold new (λ disk past. Survive (earlier ++ journal_of start.base (later ++ (more ++ trace.history)))
+      (length (earlier ++ journal_of start.base (more ++ trace.history))) disk)
+
+-- no reply went out before all that it saw was on the disk
+abbrev pub GateSeen : (seed input before after : List ℕ) → List Tx → (old new : Option (List Disk)) → Type 0
+GateSeen seed input before after earlier old new = (after ≡ before) ⊎ Gated seed input before after earlier old new
 
 -- the status of a run that no fault ended
 abbrev pub status_by : Option ℕ → Status

@@ -9,6 +9,7 @@ use Rattle.mx_top.specs.Units.{InputUnit, Bytes, bytes_on, jobs_on, asks_of}
 use Rattle.mx_top.specs.Starts.{Start, greeting_of}
 use Rattle.mx_top.specs.TraceOutput.{replies_on, trace_output}
 use Rattle.mx_top.specs.Ready.{Ready}
+use Rattle.mx_top.specs.Crashes.{Lasts}
 
 -- whether a byte came
 abbrev pub is_opened : List ℕ → Bool
@@ -25,7 +26,9 @@ pub record Serves (start : Start) (server : Server) (units : List InputUnit) (hi
   pub opened : server.opened ≡ is_opened (bytes_on 1 units)
 
 -- one unit more was answered, by this output
-pub record Took (start : Start) (server : Server) (units : List InputUnit) (earlier : History) (content output : List ℕ) (states : Option (List Disk)) : Type 0 where
+pub record Took (start : Start) (server : Server) (units : List InputUnit) (earlier : History) (content output : List ℕ) (old states : Option (List Disk)) : Type 0 where
   pub history : History
+  pub since : (more : History) × (history ≡ more ++ earlier)
+  pub lasts : Lasts start.base history old states
   pub serves : Serves start server (units ++ Bytes 1 content ∷ []) history states
   pub grows : trace_output start (units ++ Bytes 1 content ∷ []) history ≡ trace_output start units earlier ++ output

@@ -81,6 +81,14 @@ jobs_on connection units = filter_map job_in (packets_of (bytes_on connection un
 abbrev pub named : ℕ → Job → TxnName × Ask
 named connection job = (record { conn = connection; stream = 0 }, job.ask)
 
+-- the requests of a unit that brings these bytes; none where they aren't whole packets, each with a job
+abbrev pub asks_by : Option (List Job) → List (TxnName × Ask)
+asks_by None = []
+asks_by (Some jobs) = map (named 1) jobs
+
+abbrev pub asks_in_unit : List ℕ → List (TxnName × Ask)
+asks_in_unit content = asks_by (jobs_in content)
+
 -- what a list has gained at its end
 abbrev pub gained : {X : Type 0} → List X → List X → List X
 gained before after = drop (length before) after

@@ -1,16 +1,18 @@
 //! What the jobs of a unit are answered, and how what they commit is written.
 
-ghost use Rattle.std.specs.Prelude.{◌≡◌, ◌+◌, ◌<◌, ◌≤◌, ◌^◌, ◌-◌, ◌++◌, ◌∷◌, ℕ, List, Err, map, OnOk, IfErr};
+ghost use Rattle.std.specs.Prelude.{◌≡◌, ◌+◌, ◌<◌, ◌≤◌, ◌^◌, ◌-◌, ◌++◌, ◌∷◌, [], ℕ, List, Err, map, OnOk, OnErr, IfErr};
 ghost use Rattle.std.specs.List.{AllByRecursion};
 ghost use Rattle.mx_outside.specs.Causes.{Rose};
 ghost use Rattle.mx_outside.specs.Disks.{Disk};
 ghost use Rattle.mx_model.specs.declared.tx.Tx.{Tx};
-ghost use Rattle.mx_model.specs.Histories.{Base, History, Took, Confirmed};
+ghost use Rattle.mx_model.specs.Histories.{Base, History, Took, Confirmed, asks_in};
 ghost use Rattle.mx_engine.specs.Standing.{EngineStandsFor};
 ghost use Rattle.mx_journal.specs.Written.{IsWritten, Waits};
 ghost use Rattle.mx_top.specs.declared.stop.Stop.TheVariants.{DiskFault};
 ghost use Rattle.mx_top.specs.Stops.{IsDiskStop};
 ghost use Rattle.mx_top.specs.Views.{job_view};
+ghost use Rattle.mx_top.specs.Units.{named};
+ghost use Rattle.mx_top.specs.Crashes.{BreaksOff, Lasts};
 ghost use Rattle.mx_top.specs.Ready.{IsJob, Behind, IsBehind, Ready, IsReady, AllComeNext, Replied, Answers, AnswersAll};
 
 use crate::jobs::{Ask, Job};
@@ -41,7 +43,9 @@ pub(crate) fn answer_all<D: Dir>(
     requires ready { IsReady engine.old journal.old (D.states dir.old) }
     requires sound { AllByRecursion IsJob (map job_view jobs.now) }
     ensures answers { (base : Base) (history : History) → Ready base history engine.old journal.old (D.states dir.old)
-        → OnOk result (AnswersAll base history engine.new journal.new (D.states dir.new) (map job_view jobs.now) out.old.items out.new.items) }
+        → OnOk result (AnswersAll base history engine.new journal.new (D.states dir.old) (D.states dir.new) (map job_view jobs.now) out.old.items out.new.items) }
+    ensures breaks { (base : Base) (history : History) → Ready base history engine.old journal.old (D.states dir.old)
+        → OnErr result (BreaksOff base history (asks_in history ++ map (named 1) (map job_view jobs.now)) (D.states dir.old) (D.states dir.new)) }
     ensures later { D.faults dir.old ≤ D.faults dir.new }
     ensures fault { result ≡ Err DiskFault → Rose (D.faults dir.old) (D.faults dir.new) }
     ensures stops { IfErr result IsDiskStop }
@@ -64,7 +68,9 @@ fn answer<D: Dir>(
     requires ready { IsReady engine.old journal.old (D.states dir.old) }
     requires sound { IsJob (job_view job.now) }
     ensures answers { (base : Base) (history : History) → Ready base history engine.old journal.old (D.states dir.old)
-        → OnOk result (Answers base history engine.new journal.new (D.states dir.new) (job_view job.now) out.old.items out.new.items) }
+        → OnOk result (Answers base history engine.new journal.new (D.states dir.old) (D.states dir.new) (job_view job.now) out.old.items out.new.items) }
+    ensures breaks { (base : Base) (history : History) → Ready base history engine.old journal.old (D.states dir.old)
+        → OnErr result (BreaksOff base history (asks_in history ++ named 1 (job_view job.now) ∷ []) (D.states dir.old) (D.states dir.new)) }
     ensures later { D.faults dir.old ≤ D.faults dir.new }
     ensures fault { result ≡ Err DiskFault → Rose (D.faults dir.old) (D.faults dir.new) }
     ensures stops { IfErr result IsDiskStop }
@@ -111,6 +117,8 @@ fn write_out<D: Dir>(
     requires behind { IsBehind engine.old journal.old (D.states dir.old) }
     ensures ready { (base : Base) (history : History) → Behind base history engine.old journal.old (D.states dir.old)
         → OnOk result ((txs : List Tx) × (upto : ℕ) × Ready base (Confirmed upto ∷ Took txs upto ∷ history) engine.new journal.new (D.states dir.new)) }
+    ensures lasts { (base : Base) (history : History) → Behind base history engine.old journal.old (D.states dir.old)
+        → Lasts base history (D.states dir.old) (D.states dir.new) }
     ensures later { D.faults dir.old ≤ D.faults dir.new }
     ensures fault { result ≡ Err DiskFault → Rose (D.faults dir.old) (D.faults dir.new) }
     ensures stops { IfErr result IsDiskStop }

@@ -4,13 +4,17 @@ ghost use Rattle.std.specs.Prelude.{◌≡◌, ◌≤◌, [], List, length, Ok, 
 ghost use Rattle.std.specs.List.{filter};
 ghost use Rattle.std.specs.FinMap as finite;
 ghost use Rattle.mx_outside.specs.Causes.{Rose};
-ghost use Rattle.mx_outside.specs.Disks.{IfTold, IsThere};
+ghost use Rattle.mx_outside.specs.Disks.{IfTold, IsThere, ToldAlike};
+ghost use mathlib.Core.List.{IsPrefix};
+ghost use Rattle.mx_outside.specs.Moments.{Moments};
 ghost use Rattle.mx_model.specs.declared.damage.Damage.{Damage};
+ghost use Rattle.mx_model.specs.declared.tx.Tx.{Tx};
 ghost use Rattle.mx_model.specs.Files as files;
 ghost use Rattle.mx_model.specs.Files.{Named, IsDirectoryState, directory_state, is_snapshot};
 ghost use Rattle.mx_top.specs.declared.opening_fault.OpeningFault.TheVariants.{Damaged, Failed};
 ghost use Rattle.mx_top.specs.Starts.{Start, Begins, base_of, first_ids, made_random};
 ghost use Rattle.mx_top.specs.Ready.{Ready};
+ghost use Rattle.mx_top.specs.Crashes.{Recovers, StandsAfter, FollowFromNew, Survive, NoFewerSurvive};
 ghost use Rattle.mx_top.specs.Replaying.{StandsFor};
 ghost use Rattle.mx_top.specs.Replayed.{Passes, IsSettledAt};
 
@@ -48,6 +52,9 @@ pub(crate) fn open<D: Dir>(
 ) -> Result<Opened, OpeningFault>
     ensures opened { IfOk result (λ opened. (start : Start) × Begins start seed.now (D.states dir.old)
         × Ready start.base [] opened.engine opened.journal (D.states dir.new)) }
+    ensures told { ToldAlike (D.states dir.old) (D.states dir.new) }
+    ensures moments { (earlier transactions : List Tx) → Recovers earlier (D.states dir.old) → IsPrefix earlier transactions → FollowFromNew transactions
+        → IfTold (D.states dir.old) (λ disk past. Moments (Survive transactions 0) (NoFewerSurvive transactions) (D.states dir.new) disk past) }
     ensures damaged { (damage : Damage) → result ≡ Err (Damaged damage)
         → IfTold (D.states dir.old) (λ disk past. IsDirectoryState disk.now (Err damage)) × (D.states dir.new ≡ D.states dir.old) }
     ensures later { D.faults dir.old ≤ D.faults dir.new }
@@ -118,7 +125,8 @@ fn replay_name<D: Dir>(
     reached.take_file(alloc, name, &bytes)
 }
 
-/// Begins a journal, and an engine, that go on from what the files stand for.
+/// Begins a journal, and an engine, that go on from what the files stand for. Whatever a crash leaves
+/// meanwhile stands for all of it.
 fn begin<D: Dir>(
     alloc: Global,
     dir: &mut D,
@@ -128,6 +136,10 @@ fn begin<D: Dir>(
     requires { (found : files.Reached) × IsSettledAt reached found (D.states dir.old) }
     ensures ready { (found : files.Reached) → IsSettledAt reached found (D.states dir.old)
         → IfOk result (λ opened. Ready (base_of seed.now found) [] opened.engine opened.journal (D.states dir.new)) }
+    ensures told { ToldAlike (D.states dir.old) (D.states dir.new) }
+    ensures moments { (found : files.Reached) (earlier transactions : List Tx) → IsSettledAt reached found (D.states dir.old)
+        → IfTold (D.states dir.old) (λ disk past. StandsAfter earlier disk.now) → IsPrefix earlier transactions → FollowFromNew transactions
+        → IfTold (D.states dir.old) (λ disk past. Moments (Survive transactions (length earlier)) (NoFewerSurvive transactions) (D.states dir.new) disk past) }
     ensures no_damage { (damage : Damage) → result ≡ Err (Damaged damage) → ⊥ }
     ensures later { D.faults dir.old ≤ D.faults dir.new }
     ensures fault { result ≡ Err Failed → Rose (D.faults dir.old) (D.faults dir.new) }

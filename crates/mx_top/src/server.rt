@@ -1,6 +1,6 @@
 //! The server of one connection: its engine and journal, and what the connection is sent.
 
-ghost use Rattle.std.specs.Prelude.{◌≡◌, ◌≤◌, ◌++◌, [], Err, IfOk, OnOk, IfErr, if◌then◌else◌, is_some, true};
+ghost use Rattle.std.specs.Prelude.{◌≡◌, ◌≤◌, ◌++◌, [], Err, IfOk, OnOk, OnErr, IfErr, if◌then◌else◌, is_some, true};
 ghost use Rattle.mx_outside.specs.Causes.{Rose};
 ghost use Rattle.mx_top.specs.declared.stop.Stop.TheVariants.{DiskFault};
 ghost use Rattle.mx_top.specs.Stops.{IsDiskStop};
@@ -33,9 +33,10 @@ impl Server {
     ghost use Rattle.std.specs.Prelude.{ℕ, List, Option, MatchBool};
     ghost use Rattle.mx_outside.specs.Disks.{Disk, IfTold};
     ghost use Rattle.mx_model.specs.Histories.{Base, History};
-    ghost use Rattle.mx_top.specs.Units.{InputUnit, jobs_in};
+    ghost use Rattle.mx_top.specs.Units.{InputUnit, asks_in_unit, asks_of, jobs_in};
     ghost use Rattle.mx_top.specs.Starts.{Start};
     ghost use Rattle.mx_top.specs.Ready.{Ready, IsReady};
+    ghost use Rattle.mx_top.specs.Crashes.{BreaksOff, Lasts};
     ghost use Rattle.mx_top.specs.Runs.{Keeps};
     ghost use Rattle.mx_top.specs.Serving.{Serves, Took};
 
@@ -66,8 +67,10 @@ impl Server {
         requires { IsReady self.old.engine self.old.journal (D.states dir.old) }
         ensures taken { IfOk result (λ taken. taken ≡ is_some (jobs_in content.now)) }
         ensures took { (start : Start) (units : List InputUnit) (history : History) → Serves start self.old units history (D.states dir.old)
-            → IfOk result (λ taken. MatchBool taken (Took start self.new units history content.now out.new.items (D.states dir.new))
-            (Serves start self.new units history (D.states dir.new))) }
+            → IfOk result (λ taken. MatchBool taken (Took start self.new units history content.now out.new.items (D.states dir.old) (D.states dir.new))
+            (Serves start self.new units history (D.states dir.new) × Lasts start.base history (D.states dir.old) (D.states dir.new))) }
+        ensures breaks { (start : Start) (units : List InputUnit) (history : History) → Serves start self.old units history (D.states dir.old)
+            → OnErr result (BreaksOff start.base history (asks_of units ++ asks_in_unit content.now) (D.states dir.old) (D.states dir.new)) }
         ensures ready { OnOk result (IsReady self.new.engine self.new.journal (D.states dir.new)) }
         ensures later { D.faults dir.old ≤ D.faults dir.new }
         ensures fault { result ≡ Err DiskFault → Rose (D.faults dir.old) (D.faults dir.new) }
@@ -99,6 +102,8 @@ impl Server {
         requires { IsReady self.engine self.journal (D.states dir.old) }
         ensures keeps { (base : Base) (history : History) → Ready base history self.engine self.journal (D.states dir.old)
             → OnOk result (IfTold (D.states dir.new) (λ disk past. Keeps base history disk)) }
+        ensures lasts { (base : Base) (history : History) → Ready base history self.engine self.journal (D.states dir.old)
+            → Lasts base history (D.states dir.old) (D.states dir.new) }
         ensures later { D.faults dir.old ≤ D.faults dir.new }
         ensures fault { result ≡ Err DiskFault → Rose (D.faults dir.old) (D.faults dir.new) }
         ensures stops { IfErr result IsDiskStop }

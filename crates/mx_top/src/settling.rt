@@ -8,7 +8,8 @@ ghost use Rattle.mx_outside.specs.Disks.{IfTold, ToldAlike, IsThere, file_synced
 ghost use Rattle.mx_outside.specs.declared.dir.DirFault.TheVariants.{Failed};
 ghost use Rattle.mx_model.specs.Files.{is_journal, is_draft};
 ghost use Rattle.mx_journal.specs.Written.{IsNow};
-ghost use Rattle.mx_top.specs.Settled.{Settled};
+ghost use Rattle.mx_outside.specs.Moments.{Moments};
+ghost use Rattle.mx_top.specs.Settled.{Settled, LeavesNoOther};
 ghost use Rattle.mx_top.specs.Passing.{after_turn, after_turns, AreThere, Reaches};
 
 use crate::file_names::{is_draft, is_journal};
@@ -21,6 +22,7 @@ pub(crate) fn settle<D: Dir>(alloc: Global, dir: &mut D, names: &[String]) -> Re
     requires { IfTold (D.states dir.old) (λ disk past. map string_bytes names.now ≡ finite.keys disk.now) }
     ensures told { ToldAlike (D.states dir.old) (D.states dir.new) }
     ensures settled { IfTold (D.states dir.old) (λ disk past. OnOk result (IsNow (D.states dir.new) (Settled disk))) }
+    ensures moments { IfTold (D.states dir.old) (λ disk past. Moments (LeavesNoOther disk) LeavesNoOther (D.states dir.new) disk past) }
     ensures cause { HasCauseOf Failed (D.faults dir.old) (D.faults dir.new) result }
 {
     sync_journals(alloc, dir, names)?;
@@ -33,6 +35,7 @@ fn sync_journals<D: Dir>(alloc: Global, dir: &mut D, names: &[String]) -> Result
     requires { IfTold (D.states dir.old) (λ disk past. AreThere is_journal file_synced (map string_bytes names.now) disk) }
     ensures told { ToldAlike (D.states dir.old) (D.states dir.new) }
     ensures synced { Reaches (after_turns is_journal file_synced (map string_bytes names.now)) (D.states dir.old) (D.states dir.new) result }
+    ensures moments { IfTold (D.states dir.old) (λ disk past. Moments (LeavesNoOther disk) LeavesNoOther (D.states dir.new) disk past) }
     ensures cause { HasCauseOf Failed (D.faults dir.old) (D.faults dir.new) result }
 {
     let mut rest = names;
@@ -48,6 +51,7 @@ fn sync_if_journal<D: Dir>(alloc: Global, dir: &mut D, name: &str) -> Result<(),
     requires { IsThere (D.states dir.old) name.now }
     ensures told { ToldAlike (D.states dir.old) (D.states dir.new) }
     ensures synced { Reaches (after_turn is_journal file_synced name.now) (D.states dir.old) (D.states dir.new) result }
+    ensures moments { IfTold (D.states dir.old) (λ disk past. Moments (LeavesNoOther disk) LeavesNoOther (D.states dir.new) disk past) }
     ensures cause { HasCauseOf Failed (D.faults dir.old) (D.faults dir.new) result }
 {
     if !is_journal(name) {
@@ -61,6 +65,7 @@ fn remove_drafts<D: Dir>(alloc: Global, dir: &mut D, names: &[String]) -> Result
     requires { IfTold (D.states dir.old) (λ disk past. AreThere is_draft removed (map string_bytes names.now) disk) }
     ensures told { ToldAlike (D.states dir.old) (D.states dir.new) }
     ensures removed { Reaches (after_turns is_draft removed (map string_bytes names.now)) (D.states dir.old) (D.states dir.new) result }
+    ensures moments { IfTold (D.states dir.old) (λ disk past. Moments (LeavesNoOther disk) LeavesNoOther (D.states dir.new) disk past) }
     ensures cause { HasCauseOf Failed (D.faults dir.old) (D.faults dir.new) result }
 {
     let mut rest = names;
@@ -76,6 +81,7 @@ fn remove_if_draft<D: Dir>(alloc: Global, dir: &mut D, name: &str) -> Result<(),
     requires { IsThere (D.states dir.old) name.now }
     ensures told { ToldAlike (D.states dir.old) (D.states dir.new) }
     ensures removed { Reaches (after_turn is_draft removed name.now) (D.states dir.old) (D.states dir.new) result }
+    ensures moments { IfTold (D.states dir.old) (λ disk past. Moments (LeavesNoOther disk) LeavesNoOther (D.states dir.new) disk past) }
     ensures cause { HasCauseOf Failed (D.faults dir.old) (D.faults dir.new) result }
 {
     if !is_draft(name) {

@@ -5,7 +5,9 @@ ghost use Rattle.mx_outside.specs.Causes.{Rose};
 ghost use Rattle.mx_model.specs.declared.damage.Damage.{Damage};
 ghost use Rattle.mx_top.specs.declared.status.Status.TheVariants as status;
 ghost use Rattle.mx_top.specs.Words.{is_command};
-ghost use Rattle.mx_top.specs.Runs.{PlaceSeen, OutputSeen, DamageSeen, fault_place, status_by};
+ghost use Rattle.mx_model.specs.declared.tx.Tx.{Tx};
+ghost use Rattle.mx_top.specs.Crashes.{Recovers};
+ghost use Rattle.mx_top.specs.Runs.{PlaceSeen, OutputSeen, DamageSeen, CrashSeen, GateSeen, fault_place, status_by};
 
 use crate::status::Status;
 use crate::trace::trace;
@@ -51,6 +53,17 @@ pub fn run<D: Dir, S: Source, K: Sink>(
     ensures output { (bytes before : List ℕ) (old new : D) → S.left input.old ≡ Some bytes → K.contents output.old ≡ Some before
         → dirs.old.items ≡ old ∷ [] → dirs.new.items ≡ new ∷ []
         → IsSomeAnd (K.contents output.new) (λ written. OutputSeen result seed.now bytes before written (D.states old) (D.states new)) }
+
+    // At every moment, whatever a crash left of the directory stood for a front of the commits, and never for fewer of them
+    // than before, where that was so at the beginning.
+    ensures crash { (bytes before : List ℕ) (old new : D) (earlier : List Tx) → S.left input.old ≡ Some bytes → K.contents output.old ≡ Some before
+        → dirs.old.items ≡ old ∷ [] → dirs.new.items ≡ new ∷ [] → Recovers earlier (D.states old)
+        → CrashSeen seed.now bytes earlier (D.states old) (D.states new) }
+
+    // Whatever a crash leaves of the directory has all that the replies in the output saw, their own commits included.
+    ensures gate { (bytes before : List ℕ) (old new : D) (earlier : List Tx) → S.left input.old ≡ Some bytes → K.contents output.old ≡ Some before
+        → dirs.old.items ≡ old ∷ [] → dirs.new.items ≡ new ∷ [] → Recovers earlier (D.states old)
+        → IsSomeAnd (K.contents output.new) (λ written. GateSeen seed.now bytes before written earlier (D.states old) (D.states new)) }
 
     // The run of a command that no fault ended has the status that its input demands, unless the directory is damaged or
     // memory was missing.

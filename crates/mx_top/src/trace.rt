@@ -9,8 +9,10 @@ ghost use Rattle.mx_top.specs.Units.{InputUnit, last_place};
 ghost use Rattle.mx_top.specs.Starts.{Start};
 ghost use Rattle.mx_top.specs.Ready.{IsReady};
 ghost use Rattle.mx_top.specs.Serving.{Serves};
-ghost use Rattle.mx_top.specs.Runs.{PlaceSeen, OutputSeen, DamageSeen};
-ghost use Rattle.mx_top.specs.Progress.{ReadTo, Ends, EndSeen, RunSeen, GoesOn, status_of};
+ghost use Rattle.mx_model.specs.declared.tx.Tx.{Tx};
+ghost use Rattle.mx_top.specs.Crashes.{Recovers};
+ghost use Rattle.mx_top.specs.Runs.{PlaceSeen, OutputSeen, DamageSeen, CrashSeen, GateSeen};
+ghost use Rattle.mx_top.specs.Progress.{ReadTo, Ends, EndSeen, BrokeOff, RunSeen, GoesOn, status_of};
 
 use crate::delivery::deliver;
 use crate::intake::Intake;
@@ -37,6 +39,11 @@ pub(crate) fn trace<D: Dir, S: Source, K: Sink>(
     ensures output { (bytes before : List ℕ) → S.left input.old ≡ Some bytes → K.contents output.old ≡ Some before
         → IsSomeAnd (K.contents output.new) (λ written. OutputSeen result seed.now bytes before written (D.states dir.old) (D.states dir.new)) }
     ensures damage { DamageSeen result (D.states dir.old) }
+    ensures crash { (bytes before : List ℕ) (earlier : List Tx) → S.left input.old ≡ Some bytes → K.contents output.old ≡ Some before
+        → Recovers earlier (D.states dir.old) → CrashSeen seed.now bytes earlier (D.states dir.old) (D.states dir.new) }
+    ensures gate { (bytes before : List ℕ) (earlier : List Tx) → S.left input.old ≡ Some bytes → K.contents output.old ≡ Some before
+        → Recovers earlier (D.states dir.old)
+        → IsSomeAnd (K.contents output.new) (λ written. GateSeen seed.now bytes before written earlier (D.states dir.old) (D.states dir.new)) }
     ensures reads { S.faults input.old ≤ S.faults input.new }
     ensures read_fault { result ≡ status.ReadFault → Rose (S.faults input.old) (S.faults input.new) }
     ensures writes { K.faults output.old ≤ K.faults output.new }
@@ -67,6 +74,8 @@ fn run_units<D: Dir, S: Source, K: Sink>(
     ensures place { (bytes : List ℕ) → S.left input.old ≡ Some bytes → PlaceSeen (status_of result) bytes (S.left input.new) }
     ensures output { (start : Start) (bytes before : List ℕ) → Serves start server [] [] (D.states dir.old) → S.left input.old ≡ Some bytes → K.contents output.old ≡ Some before
         → IsSomeAnd (K.contents output.new) (λ written. RunSeen result start bytes before written (D.states dir.new)) }
+    ensures breaks { (start : Start) (bytes before : List ℕ) → Serves start server [] [] (D.states dir.old) → S.left input.old ≡ Some bytes → K.contents output.old ≡ Some before
+        → IsSomeAnd (K.contents output.new) (λ written. BrokeOff start bytes before written (D.states dir.old) (D.states dir.new)) }
     ensures reads { S.faults input.old ≤ S.faults input.new }
     ensures read_fault { result ≡ Err ReadFault → Rose (S.faults input.old) (S.faults input.new) }
     ensures writes { K.faults output.old ≤ K.faults output.new }
@@ -100,7 +109,7 @@ fn answer_units<D: Dir, S: Source, K: Sink>(
     ensures place { (bytes : List ℕ) → S.left input.old ≡ Some bytes → PlaceSeen (status_of result) bytes (S.left input.new) }
     ensures output { (start : Start) (bytes before : List ℕ) → Serves start server.old [] [] (D.states dir.old)
         → S.left input.old ≡ Some bytes → K.contents output.old ≡ Some before
-        → IsSomeAnd (K.contents output.new) (λ written. EndSeen result start bytes before written server.new (D.states dir.new)) }
+        → IsSomeAnd (K.contents output.new) (λ written. EndSeen result start bytes before written server.new (D.states dir.old) (D.states dir.new)) }
     ensures ready { MatchResult result (λ _. IsReady server.new.engine server.new.journal (D.states dir.new))
         (λ stop. AtBadInput stop (IsReady server.new.engine server.new.journal (D.states dir.new))) }
     ensures reads { S.faults input.old ≤ S.faults input.new }

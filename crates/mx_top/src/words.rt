@@ -1,8 +1,9 @@
 //! The words of a command line.
 
 ghost use Rattle.std.specs.Prelude.{◌≡◌, ◌↔◌, true, map, IsSome};
+ghost use Rattle.std.specs.Option.{option_map};
 ghost use Rattle.std.specs.String.{string_bytes};
-ghost use Rattle.mx_top.specs.Words.{is_command, is_directory_word};
+ghost use Rattle.mx_top.specs.Words.{directory_word, is_command, is_directory_word};
 
 use mx_outside::Names;
 
@@ -20,7 +21,8 @@ pub(crate) fn is_command(words: &[String]) -> bool
 
 /// The word that names the directory of a command; `None` where the words are no command.
 pub fn directory_word(words: &Names) -> Option<&str>
-    ensures { IsSome result ↔ (is_command words.now ≡ true) }
+    ensures word { option_map (λ word. word.now) result ≡ directory_word words.now }
+    ensures some { IsSome result ↔ (is_command words.now ≡ true) }
 {
     let words = words.as_slice();
     if !is_command(words) {

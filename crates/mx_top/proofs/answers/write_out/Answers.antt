@@ -4,6 +4,7 @@ use Rattle.mx_journal.specs.Written.{Waits}
 use Rattle.mx_top.specs.Ready.{AllComeNext}
 use Rattle.mx_top.proofs.DiskLaws.{told_weaker}
 use Rattle.mx_top.proofs.ReadyLaws.{pending_come_next, ready_again}
+use Rattle.mx_top.proofs.ServingLaws.{write_out_lasts}
 use Rattle.mx_top.proofs.answers.write_out.Goals as goal
 
 pub push_all-requires : goal.push_all-requires
@@ -43,3 +44,21 @@ returns-clause-ready g c = λ base history behind.
             wrote = written.written;
           }),
     )
+
+pub returns-in_err-write_out-clause-lasts : goal.returns-in_err-write_out-clause-lasts
+returns-in_err-write_out-clause-lasts g c = λ base history behind.
+    let pending = c.take_pending-pending in
+    let txs = pending.result.txs in
+    let pushed = c.in_ok-push_all.ensures in
+    write_out_lasts base history c.args.engine.now c.args.journal.now c.push_all.new.journal (g.D.Dir.states c.args.dir.now)
+    (g.D.Dir.states c.write_out.new.dir) txs pending.result.upto behind c.write_out.ensures.told (pending.ensures base history behind.stands).legal
+    (subst (Waits c.push_all.new.journal) c.as_slice.ensures (pushed.waits [] behind.waits)) pushed.written pushed.head c.write_out.ensures.moments
+
+pub returns-clause-lasts : goal.returns-clause-lasts
+returns-clause-lasts g c = λ base history behind.
+    let pending = c.take_pending-pending in
+    let txs = pending.result.txs in
+    let pushed = c.in_ok-push_all.ensures in
+    write_out_lasts base history c.args.engine.now c.args.journal.now c.push_all.new.journal (g.D.Dir.states c.args.dir.now)
+    (g.D.Dir.states c.write_out.new.dir) txs pending.result.upto behind c.write_out.ensures.told (pending.ensures base history behind.stands).legal
+    (subst (Waits c.push_all.new.journal) c.as_slice.ensures (pushed.waits [] behind.waits)) pushed.written pushed.head c.write_out.ensures.moments

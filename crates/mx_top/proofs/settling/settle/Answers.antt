@@ -1,4 +1,6 @@
+use Rattle.mx_outside.specs.Disks.{names_synced}
 use Rattle.mx_top.proofs.SettlingLaws.{journals_come, drafts_come, settles}
+use Rattle.mx_top.proofs.LeavingLaws.{left_then, makes_leaves, names_leave}
 use Rattle.mx_top.proofs.settling.settle.Goals as goal
 
 pub sync_journals-requires : goal.sync_journals-requires
@@ -10,3 +12,11 @@ remove_drafts-requires g c = drafts_come _ _ c.requires _ c.sync_journals.ensure
 pub returns-clause-settled : goal.returns-clause-settled
 returns-clause-settled g c =
     settles _ _ c.requires _ _ _ c.sync_names.result c.in_ok-sync_journals.ensures.synced c.in_ok-remove_drafts.ensures.removed c.sync_names.ensures.synced
+
+pub returns-in_err-remove_drafts-clause-moments : goal.returns-in_err-remove_drafts-clause-moments
+returns-in_err-remove_drafts-clause-moments g c = left_then _ _ _ c.sync_journals.ensures.moments c.remove_drafts.ensures.moments
+
+pub returns-clause-moments : goal.returns-clause-moments
+returns-clause-moments g c =
+    left_then _ _ _ c.sync_journals.ensures.moments
+    (left_then _ _ _ c.remove_drafts.ensures.moments (makes_leaves names_synced names_leave _ _ c.sync_names.result c.sync_names.ensures.synced))

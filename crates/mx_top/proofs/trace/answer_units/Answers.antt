@@ -8,7 +8,7 @@ use Rattle.mx_top.proofs.trace.answer_units.Goals as goal
 pub returns-in_err-intake-clause-output : goal.returns-in_err-intake-clause-output
 returns-in_err-intake-clause-output g c = λ start bytes before serves told was.
     let p = err_from_is_err_and c.from_residual.result c.from_residual.ensures.1 in
-    rw (p.1, p.2) (begins_nothing start bytes before (g.K.Sink.contents c.args.output.now) was)
+    rw (p.1, p.2) (begins_nothing start bytes before c.args.server.now (g.K.Sink.contents c.args.output.now) (g.D.Dir.states c.args.dir.now) serves was)
 
 pub units-init : goal.units-init
 units-init g c = record {
@@ -33,7 +33,7 @@ returns-in_err-next-clause-output g c = λ start bytes before serves told was.
     let p = err_from_is_err_and c.from_residual-in_err-next.result c.from_residual-in_err-next.ensures.1 in
     let so_far = c.units.invariant.told bytes told in
     let t = c.in_err-next.ensures.told bytes so_far.rest so_far.units so_far.left_is so_far.read in
-    rw (p.1, p.2) (t.2.output start before (so_far.wrote start before serves was))
+    rw (p.1, p.2) (t.2.output start before (g.D.Dir.states c.args.dir.now) (so_far.wrote start before serves was))
 
 pub units-preserved : goal.units-preserved
 units-preserved g c = record {
@@ -63,4 +63,4 @@ returns-clause-output g c = λ start bytes before serves told was.
     let so_far = c.units.invariant.told bytes told in
     let t = c.in_ok-next.ensures.told bytes so_far.rest so_far.units so_far.left_is so_far.read in
     let ends = rw c.in_default.is at t.2 in
-    ends.output start before (so_far.wrote start before serves was)
+    ends.output start before (g.D.Dir.states c.args.dir.now) (so_far.wrote start before serves was)

@@ -31,11 +31,19 @@ pub returns-in_err-take-clause-told : goal.returns-in_err-take-clause-told
 returns-in_err-take-clause-told g c = λ bytes left units told read.
     let t = c.in_ok-size.ensures.told left told in
     let p = err_from_is_err_and c.from_residual-in_err-take.result c.from_residual-in_err-take.ensures.1 in
+    let waiting = c.next_unit.new.intake in
+    let size = c.in-Some.size in
+    let found = rw c.in-Some.is at t.3 in
+    let content : c.split_at-2.result.0.now ≡ take size (drop 9 waiting) =
+    c.split_at-2.ensures.front ∙ ap (λ (l : List ℕ). take size l) (c.split_at.ensures.back ∙ ap (λ (l : List ℕ). drop 9 l) c.as_slice.ensures) in
     rw (p.1, p.2) (
       t.0,
       t.1,
-      ends_unanswered bytes (c.args.intake.now ++ left) (Some t.0) c.args.place c.args.server.now c.take.new.self units
-          (g.K.Sink.contents c.args.output.now) (g.D.Dir.states c.args.dir.now) (g.D.Dir.states c.take.new.dir) c.in_err-take.field-0.0 read c.in_err-take.ensures.stops,
+      ends_unanswered bytes (c.args.intake.now ++ left) waiting t.0 c.split_at-2.result.0.now (drop size (drop 9 waiting) ++ t.0) c.args.place
+          c.args.server.now c.take.new.self units
+          (g.K.Sink.contents c.args.output.now) (g.D.Dir.states c.args.dir.now) (g.D.Dir.states c.take.new.dir) c.in_err-take.field-0.0 read t.2
+          (found ∙ ap (λ (l : List ℕ). Some (l, drop size (drop 9 waiting) ++ t.0)) (sym content))
+          c.in_err-take.ensures.stops (λ start history serves. c.in_err-take.ensures.breaks start units history serves),
     )
 
 pub returns-then-not-branch-clause-told : goal.returns-then-not-branch-clause-told

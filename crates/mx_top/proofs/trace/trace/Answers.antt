@@ -1,4 +1,5 @@
 use Rattle.std.proofs.Common.{[], Err, ap, ◌∙◌}
+use Rattle.mx_top.proofs.RunLaws.{opening_seen, crash_seen, gate_seen}
 use Rattle.mx_top.proofs.SeenLaws.{output_seen, damage_seen}
 use Rattle.mx_top.proofs.trace.trace.Goals as goal
 
@@ -19,3 +20,39 @@ pub returns-in-Err-Damaged-clause-output : goal.returns-in-Err-Damaged-clause-ou
 returns-in-Err-Damaged-clause-output g c = λ bytes before told was.
     damage_seen c.in-Err-Damaged.damage c.args.seed.now bytes before (g.K.Sink.contents c.args.output.now)
     (g.D.Dir.states c.args.dir.now) (g.D.Dir.states c.open.new.dir) was (c.open.ensures.damaged c.in-Err-Damaged.damage (c.in-Err-Damaged.is ∙ ap (λ e. Err e) c.in-Err-Damaged.field-0-is)).1
+
+pub returns-in-Ok-new-clause-crash : goal.returns-in-Ok-new-clause-crash
+returns-in-Ok-new-clause-crash g c = λ bytes before earlier told was recovers.
+    let (start, begins, ready) = c.in-Ok.ensures.opened in
+    let serves = c.in-Ok-new.ensures start (g.D.Dir.states c.open.new.dir) begins.seeded ready in
+    crash_seen start c.args.seed.now bytes before (g.K.Sink.contents c.run_units.new.output) earlier
+    (g.D.Dir.states c.args.dir.now) (g.D.Dir.states c.open.new.dir) (g.D.Dir.states c.run_units.new.dir) begins recovers
+    (λ transactions. c.open.ensures.moments earlier transactions recovers) (c.run_units.ensures.breaks start bytes before serves told was)
+
+pub returns-in-Ok-new-clause-gate : goal.returns-in-Ok-new-clause-gate
+returns-in-Ok-new-clause-gate g c = λ bytes before earlier told was recovers.
+    let (start, begins, ready) = c.in-Ok.ensures.opened in
+    let serves = c.in-Ok-new.ensures start (g.D.Dir.states c.open.new.dir) begins.seeded ready in
+    gate_seen start c.args.seed.now bytes before (g.K.Sink.contents c.run_units.new.output) earlier
+    (g.D.Dir.states c.args.dir.now) (g.D.Dir.states c.open.new.dir) (g.D.Dir.states c.run_units.new.dir) begins recovers c.open.ensures.told
+    (c.run_units.ensures.breaks start bytes before serves told was)
+
+pub returns-in-Err-clause-crash : goal.returns-in-Err-clause-crash
+returns-in-Err-clause-crash g c = λ bytes before earlier told was recovers.
+    opening_seen c.args.seed.now bytes earlier (g.D.Dir.states c.args.dir.now) (g.D.Dir.states c.open.new.dir) recovers
+    (λ transactions. c.open.ensures.moments earlier transactions recovers)
+
+pub returns-in-Err-Damaged-clause-crash : goal.returns-in-Err-Damaged-clause-crash
+returns-in-Err-Damaged-clause-crash g c = λ bytes before earlier told was recovers.
+    opening_seen c.args.seed.now bytes earlier (g.D.Dir.states c.args.dir.now) (g.D.Dir.states c.open.new.dir) recovers
+    (λ transactions. c.open.ensures.moments earlier transactions recovers)
+
+pub returns-in-Err-Failed-clause-crash : goal.returns-in-Err-Failed-clause-crash
+returns-in-Err-Failed-clause-crash g c = λ bytes before earlier told was recovers.
+    opening_seen c.args.seed.now bytes earlier (g.D.Dir.states c.args.dir.now) (g.D.Dir.states c.open.new.dir) recovers
+    (λ transactions. c.open.ensures.moments earlier transactions recovers)
+
+pub returns-in-Err-NoMemory-clause-crash : goal.returns-in-Err-NoMemory-clause-crash
+returns-in-Err-NoMemory-clause-crash g c = λ bytes before earlier told was recovers.
+    opening_seen c.args.seed.now bytes earlier (g.D.Dir.states c.args.dir.now) (g.D.Dir.states c.open.new.dir) recovers
+    (λ transactions. c.open.ensures.moments earlier transactions recovers)

@@ -1,7 +1,11 @@
 use Rattle.std.proofs.Common.{map, Some, sym, ap, ◌∙◌, subst}
 use Rattle.mx_top.specs.Ready.{Ready}
 use Rattle.mx_top.specs.Views.{job_view}
+use Rattle.mx_top.specs.Units.{asks_in_unit}
+use Rattle.mx_top.proofs.KeepLaws.{ready_keeps}
+use Rattle.mx_top.proofs.LastingLaws.{where_err}
 use Rattle.mx_top.proofs.OutputLaws.{took_empty, took_answered}
+use Rattle.mx_top.proofs.BreakLaws.{unit_untouched, unit_broken, unit_done}
 use Rattle.mx_top.proofs.SoundLaws.{jobs_sound}
 use Rattle.mx_top.proofs.server.Server.take.Goals as goal
 
@@ -50,3 +54,40 @@ returns-clause-ready g c =
     let answers = c.in_ok-answer_all.ensures.answers base history
     (subst (λ s. Ready base history s.engine s.journal (g.D.Dir.states c.args.dir.now)) (sym c.in_ok-greet.ensures.opened) ready) in
     (base, answers.history, answers.ready)
+
+pub returns-in_err-jobs-clause-breaks : goal.returns-in_err-jobs-clause-breaks
+returns-in_err-jobs-clause-breaks g c = λ start units history serves.
+    where_err c.from_residual.result
+    (unit_untouched start c.args.self.now units history (asks_in_unit c.args.content.now) (g.D.Dir.states c.args.dir.now) serves)
+
+pub returns-in_err-begin_unit-clause-breaks : goal.returns-in_err-begin_unit-clause-breaks
+returns-in_err-begin_unit-clause-breaks g c = λ start units history serves.
+    where_err c.from_residual-in_err-begin_unit.result
+    (unit_untouched start c.args.self.now units history (asks_in_unit c.args.content.now) (g.D.Dir.states c.args.dir.now) serves)
+
+pub returns-in_err-greet-clause-breaks : goal.returns-in_err-greet-clause-breaks
+returns-in_err-greet-clause-breaks g c = λ start units history serves.
+    where_err c.from_residual-in_err-greet.result
+    (unit_untouched start c.args.self.now units history (asks_in_unit c.args.content.now) (g.D.Dir.states c.args.dir.now) serves)
+
+pub returns-in_err-answer_all-clause-breaks : goal.returns-in_err-answer_all-clause-breaks
+returns-in_err-answer_all-clause-breaks g c = λ start units history serves.
+    let greeted = c.in_ok-greet.ensures.opened in
+    let ready : Ready start.base history c.greet.new.self.engine c.greet.new.self.journal (g.D.Dir.states c.args.dir.now) =
+    subst (λ s. Ready start.base history s.engine s.journal (g.D.Dir.states c.args.dir.now)) (sym greeted) serves.ready in
+    let jobs = rw c.in-Some.is at c.in_ok-jobs.ensures in
+    where_err c.from_residual-in_err-answer_all.result
+    (unit_broken start c.args.self.now units history c.args.content.now (map job_view c.deref.result.now) (g.D.Dir.states c.args.dir.now)
+    (g.D.Dir.states c.answer_all.new.dir) serves (ap (λ l. Some (map job_view l)) c.deref.ensures.value ∙ jobs)
+    (c.in_err-answer_all.ensures.breaks start.base history ready))
+
+pub returns-in_err-finish_unit-clause-breaks : goal.returns-in_err-finish_unit-clause-breaks
+returns-in_err-finish_unit-clause-breaks g c = λ start units history serves.
+    let greeted = c.in_ok-greet.ensures.opened in
+    let ready : Ready start.base history c.greet.new.self.engine c.greet.new.self.journal (g.D.Dir.states c.args.dir.now) =
+    subst (λ s. Ready start.base history s.engine s.journal (g.D.Dir.states c.args.dir.now)) (sym greeted) serves.ready in
+    let jobs = rw c.in-Some.is at c.in_ok-jobs.ensures in
+    where_err c.from_residual-in_err-finish_unit.result
+    (unit_done start c.args.self.now units history c.args.content.now (map job_view c.deref.result.now) c.answer_all.new.engine c.answer_all.new.journal
+    (g.D.Dir.states c.args.dir.now) (g.D.Dir.states c.answer_all.new.dir) c.greet.new.out.items c.answer_all.new.out.items serves
+    (ap (λ l. Some (map job_view l)) c.deref.ensures.value ∙ jobs) (c.in_ok-answer_all.ensures.answers start.base history ready))

@@ -1,0 +1,334 @@
+-- What a crash leaves of a directory that was settled, and of one in which a journal is being begun.
+use Rattle.std.proofs.Common.{◌≡◌, ℕ, zero, suc, ◌+◌, ◌≤◌, Bool, true, false, ◌||◌, List, [], ◌∷◌, ◌++◌, length, sum, take, drop, Any, Option, Some, None, is_some, Result, Ok, Err, refl, sym, ap, ◌∙◌, subst, ◌⊎◌, inl, inr, append_assoc, arith}
+use Rattle.std.specs.Prelude.{IfSome, if◌then◌else◌}
+use Rattle.std.specs.List.{filter, AllByRecursion}
+use Rattle.std.proofs.lemmas.List.{append-nil, take_all, drop-append-le, length-take, length-append}
+use Rattle.std.specs.Option.{unwrap_or}
+use Rattle.std.specs.Ordering.{nat_cmp}
+use Rattle.std.specs.Cmp.Lexicographic.{slice_cmp, bytes_decides}
+use Rattle.std.specs.FinMap as finite
+use Rattle.std.specs.FinMap.{get-empty}
+use mathlib.Core.List.{IsPrefix}
+use Rattle.mx_msgpack.proofs.ReaderLaws.{all_from-append}
+use Rattle.mx_outside.specs.Disks.{Disk, File, Files, IfTold, ToldAlike, Leaves, or_none}
+use Rattle.mx_outside.specs.Moments.{Moments, Each, newest}
+use Rattle.mx_xlog.specs.declared.head.Head.{Head}
+use Rattle.mx_xlog.specs.Headers.{header_of}
+use Rattle.mx_xlog.specs.Reading.{block_at, blocks_of}
+use Rattle.mx_xlog.proofs.ReadingLaws.{block_at-Advances, block_at-IsStable}
+use Rattle.mx_model.specs.declared.ids.Ids.{Ids}
+use Rattle.mx_model.specs.declared.damage.Damage.{Damage}
+use Rattle.mx_model.specs.declared.tx.Tx.{Tx}
+use Rattle.mx_model.specs.State.{first_state}
+use Rattle.mx_model.specs.Transactions.{state_after, clock_after}
+use Rattle.mx_model.specs.Histories.{Base}
+use Rattle.mx_model.specs.Files.{FileRead, Named, Reached, ReadsAs, IsDirectoryState, is_journal, is_snapshot, journal_name, same_bytes, ids_in, ids_or, nothing_yet, after_head, after_files, and_then, directory_state}
+use Rattle.mx_model.proofs.NameLaws.{journal_name-is_journal}
+use Rattle.mx_model.proofs.DirectoryLaws.{ReadAll, names_same, names_of, stands_after}
+use Rattle.mx_model.proofs.WalkLaws.{Passed}
+use Rattle.mx_model.proofs.BeginLaws.{sound, begins_again, reached_is_sound}
+use Rattle.mx_model.proofs.OnceLaws.{one_state}
+use Rattle.mx_journal.specs.Fair.{IsFair, IsFairEnd, counts}
+use Rattle.mx_journal.specs.Crashes.{HasBegun, MayBegin, SameBut}
+use Rattle.mx_journal.specs.Written.{name_of}
+use Rattle.mx_journal.proofs.ToldLaws.{told_both, where_told, told_weaker}
+use Rattle.mx_journal.proofs.MomentLaws.{no_moments, weaker}
+use Rattle.mx_top.specs.declared.replaying.Reached as memory
+use Rattle.mx_top.specs.Starts.{AllOnDisk}
+use Rattle.mx_top.specs.Replayed.{IsSettledAt}
+use Rattle.mx_top.specs.Settled.{LeavesNoOther}
+use Rattle.mx_top.specs.Crashes.{StandsAfter, Survive, NoFewerSurvive, FollowFromNew, Recovers}
+use Rattle.mx_top.proofs.CountLaws.{counted_once, front_longer, survive_longer}
+use Rattle.mx_top.proofs.LeavingLaws.{LeaveNoOther}
+use Rattle.mx_top.proofs.OpenLaws.{kept_ids}
+
+-- ---- a file's blocks, where more bytes follow
+
+-- a front of a list that has all of it, and perhaps more, is the list
+no_shorter : {X : Type 0} (count : ℕ) (xs ys : List X) → xs ++ ys ≡ take count xs → take count xs ≡ xs
+no_shorter count xs ys is =
+    let long = length-take count xs in
+    let both : length xs + length ys ≡ length (take count xs) = sym (length-append xs ys) ∙ ap length is in
+    take_all count xs (omega arith)
+
+blocks_again : (size count : ℕ) (bytes end : List ℕ) → size ≤ length bytes
+    → blocks_of (drop size (bytes ++ end)) ≡ take count (blocks_of (drop size bytes))
+    → blocks_of (drop size (bytes ++ end)) ≡ blocks_of (drop size bytes)
+blocks_again size count bytes end fits front =
+    let back = drop size bytes in
+    let parts : blocks_of (back ++ end) ≡ blocks_of back ++ _ =
+    ap (λ (found : List (List ℕ) × List ℕ). found.0) (all_from-append block_at block_at-Advances block_at-IsStable back end) in
+    front ∙ no_shorter count (blocks_of back) _ (sym parts ∙ ap blocks_of (sym (drop-append-le size bytes end fits)) ∙ front)
+
+-- a whole file reads as it did, whatever a crash may leave behind its bytes
+reads_again : (file : File) (read : FileRead) (end : List ℕ) → file.synced ≡ length file.bytes → ReadsAs file.bytes (Some read) → IsFairEnd file end
+    → ReadsAs (take file.synced file.bytes ++ end) (Some read)
+reads_again file read end whole (header, blocks) fair =
+    let all : take file.synced file.bytes ++ end ≡ file.bytes ++ end = ap (λ bytes. bytes ++ end) (take_all file.synced file.bytes (omega arith)) in
+    let (rest, begins) = header.begins in
+    let (count, front) = fair read.head read.size header in
+    let fits : read.size ≤ length file.bytes = omega (arith, header.sized, ap length begins, length-append (header_of read.head) rest) in
+    subst (λ bytes. ReadsAs bytes (Some read)) (sym all) (
+      record {
+        fits = header.fits;
+        sized = header.sized;
+        begins = (rest ++ end, ap (λ bytes. bytes ++ end) begins ∙ append_assoc (header_of read.head) rest end);
+      },
+      blocks ∙ sym (blocks_again read.size count file.bytes end fits (ap (λ bytes. blocks_of (drop read.size bytes)) (sym all) ∙ front)),
+    )
+
+-- ---- the files of a settled directory
+
+only_one : {X : Type 0} (P : X → Type 0) (x : X) → Any P (x ∷ []) → P x
+only_one P x (zero, y, below, is, shown) = subst P (sym is) shown
+only_one P x (suc k, y, below, is, shown) = absurd (omega (arith, below))
+
+there_again : (was image : Option File) → Leaves IsFairEnd was image → is_some image ≡ is_some was
+there_again None image is = ap is_some is
+there_again (Some file) image (end, fair, is) = ap is_some is
+
+found_reads : (was image : Option File) (read : FileRead) → ((file : File) → was ≡ Some file → file.synced ≡ length file.bytes)
+    → Leaves IsFairEnd was image → IfSome was (λ (file : File). ReadsAs file.bytes (Some read))
+    → IfSome image (λ (file : File). ReadsAs file.bytes (Some read))
+found_reads None image read whole is reads = rw is tt
+found_reads (Some file) image read whole (end, fair, is) reads = rw is (reads_again file read end (whole file refl) reads fair)
+
+either_true : (a b : Bool) → b ≡ true → (a || b) ≡ true
+either_true true b is = refl
+either_true false b is = is
+
+-- the file begins with a header
+abbrev HasHeader : Named → Type 0
+HasHeader file = (read : FileRead) × (file.1 ≡ Some read)
+
+-- files without damage have headers
+have_headers : (files : List Named) (before end : Reached) → after_files files before ≡ Ok end → AllByRecursion HasHeader files
+have_headers [] before end is = tt
+have_headers ((name, None) ∷ files) before end is = absurd cc
+have_headers ((name, Some file) ∷ files) before end is = by_file (λ next. have_headers files next end) (after_head name file before) is
+  where
+    by_file : ((next : Reached) → after_files files next ≡ Ok end → AllByRecursion HasHeader files) → (o : Result Reached Damage)
+        → and_then (after_files files) o ≡ Ok end → AllByRecursion HasHeader ((name, Some file) ∷ files)
+    by_file others (Err damage) is = absurd cc
+    by_file others (Ok next) is = ((file, refl), others next is)
+
+-- whatever a crash leaves of the directory stands for these transactions
+abbrev AllStand : List Tx → Disk → Type 0
+AllStand earlier disk = (image : Files) → IsFair disk image → StandsAfter earlier image
+
+module _ (disk : Disk) (found : Reached) (whole : AllOnDisk disk) (settled : disk.older ≡ finite.empty) (stands : IsDirectoryState disk.now (Ok found)) where
+  left_of : (image : Files) → IsFair disk image → (name : List ℕ) → counts name ≡ true → Leaves IsFairEnd (finite.get disk.now name) (finite.get image name)
+  left_of image fair name counted =
+      let left = λ (was : Option File). Leaves IsFairEnd was (finite.get image name) in
+      let older : finite.get disk.older name ≡ None = ap (λ names. finite.get names name) settled ∙ get-empty (slice_cmp nat_cmp) name in
+      only_one left (finite.get disk.now name)
+      (subst (λ files. Any left (finite.get disk.now name ∷ or_none files)) older (fair name counted))
+
+  one_again : (image : Files) → IsFair disk image → (file : Named) → is_journal file.0 ≡ true → HasHeader file
+      → IfSome (finite.get disk.now file.0) (λ (f : File). ReadsAs f.bytes file.1) → IfSome (finite.get image file.0) (λ (f : File). ReadsAs f.bytes file.1)
+  one_again image fair (name, read) journal (header, is) reads =
+      let left = left_of image fair name (ap (λ b. b || is_snapshot name) journal) in
+      let was = subst (λ r. IfSome (finite.get disk.now name) (λ (f : File). ReadsAs f.bytes r)) is reads in
+      subst (λ r. IfSome (finite.get image name) (λ (f : File). ReadsAs f.bytes r)) (sym is)
+      (found_reads (finite.get disk.now name) (finite.get image name) header (λ file at. (whole name file journal at).0) left was)
+
+  all_again : (image : Files) → IsFair disk image → (files : List Named) → AllByRecursion HasHeader files
+      → AllByRecursion (λ (file : Named). Passed found file.0) files → ReadAll disk.now files → ReadAll image files
+  all_again image fair [] headers passed reads = tt
+  all_again image fair (file ∷ files) headers passed reads = (
+    one_again image fair file (ap is_journal passed.0.named ∙ journal_name-is_journal passed.0.signature) headers.0 reads.0,
+    all_again image fair files headers.1 passed.1 reads.1,
+  )
+
+  names_again : (image : Files) → IsFair disk image → (kind : List ℕ → Bool) → ((name : List ℕ) → kind name ≡ true → counts name ≡ true)
+      → filter kind (finite.keys image) ≡ filter kind (finite.keys disk.now)
+  names_again image fair kind counted = names_same kind image disk.now
+      (λ name is. there_again (finite.get disk.now name) (finite.get image name) (left_of image fair name (counted name is)))
+
+  -- whatever a crash leaves of a settled directory stands for what it stands for
+  pub found_again : (image : Files) → IsFair disk image → IsDirectoryState image (Ok found)
+  found_again image fair =
+      let s = sound disk.now found stands in
+      let journals = names_again image fair is_journal (λ name journal. ap (λ b. b || is_snapshot name) journal) in
+      let snapshots = names_again image fair is_snapshot (λ name snapshot. either_true (is_journal name) (is_snapshot name) snapshot) in (
+        s.journals,
+        [],
+        record {
+          names = append-nil (names_of s.journals) ∙ s.names ∙ sym journals;
+          each = all_again image fair s.journals (have_headers s.journals nothing_yet found s.after) s.on_way.names s.each;
+        },
+        refl,
+        sym s.after ∙ ap (λ names. directory_state names s.journals) (sym (snapshots ∙ s.none)),
+      )
+
+  -- A journal is being begun in it, with the identifiers that it has, or with these where it has none.
+  module _ (head : Head) (first : Ids) (begins : head.clock ≡ found.clock) (kind : head.snapshot ≡ false) (ids : ids_in head ≡ ids_or first found.ids) where
+    abbrev going_on : Base
+    going_on = record { state = found.state; clock = found.clock; ids = ids_or first found.ids }
+
+    -- whatever a crash leaves with the new journal stands for the same
+    pub begun_again : (image : Files) → HasBegun head disk image
+        → IsDirectoryState image (Ok (record { ids = Some (ids_or first found.ids); state = found.state; clock = found.clock }))
+    begun_again image (was, fair, same, (file, there, reads)) =
+        let named : name_of head ≡ journal_name (sum found.clock) = ap (λ clock. journal_name (sum clock)) begins in
+        let before = found_again was fair in
+        let goes_on = begins_again was image found going_on file before refl refl (its_ids found.ids) (reached_is_sound was found before)
+        (λ q counted. subst (λ name. finite.get image q ≡ (if same_bytes q name then Some file else finite.get was q)) named
+        (as_before was image file same there q (by_kind q counted) (same_bytes q (name_of head)) refl)) in
+        stands_after going_on (journal_name (sum found.clock)) image file _ _ goes_on (ap (finite.get image) (sym named) ∙ there) reads kind
+        ((bytes_decides (journal_name (sum found.clock)) (name_of head)).1 (sym named)) begins ids refl
+      where
+        its_ids : (ids : Option Ids) → (ids ≡ None) ⊎ (ids ≡ Some (ids_or first ids))
+        its_ids None = inl refl
+        its_ids (Some ids) = inr refl
+
+        by_kind : (q : List ℕ) → (is_journal q ≡ true) ⊎ (is_snapshot q ≡ true) → counts q ≡ true
+        by_kind q (inl journal) = ap (λ b. b || is_snapshot q) journal
+        by_kind q (inr snapshot) = either_true (is_journal q) (is_snapshot q) snapshot
+
+        as_before : (was image : Files) (file : File) → SameBut (name_of head) was image → finite.get image (name_of head) ≡ Some file
+            → (q : List ℕ) → counts q ≡ true → (b : Bool) → same_bytes q (name_of head) ≡ b
+            → finite.get image q ≡ (if same_bytes q (name_of head) then Some file else finite.get was q)
+        as_before was image file same there q counted true is =
+            ap (finite.get image) ((bytes_decides q (name_of head)).0 is) ∙ there ∙ ap (λ b. if b then Some file else finite.get was q) (sym is)
+        as_before was image file same there q counted false differs =
+            same q counted differs ∙ ap (λ b. if b then Some file else finite.get was q) (sym differs)
+
+    -- so it stands for the same transactions
+    stands_still : (earlier : List Tx) → StandsAfter earlier disk.now → (files : Files) (reached : Reached) → IsDirectoryState files (Ok reached)
+        → reached.state ≡ found.state → reached.clock ≡ found.clock → StandsAfter earlier files
+    stands_still earlier after files reached is state clock =
+        let same = one_state disk.now found after.reached stands after.stands in
+        record { reached = reached; stands = is; state = state ∙ same.0 ∙ after.state; clock = clock ∙ same.1 ∙ after.clock }
+
+    all_stand : (earlier : List Tx) → StandsAfter earlier disk.now → (next : Disk) → MayBegin head disk next → AllStand earlier next
+    all_stand earlier after next may image fair = by_image (may image fair)
+      where
+        by_image : IsFair disk image ⊎ HasBegun head disk image → StandsAfter earlier image
+        by_image (inl before) = stands_still earlier after image found (found_again image before) refl refl
+        by_image (inr begun) = stands_still earlier after image _ (begun_again image begun) refl refl
+
+-- ---- the states while a journal is begun
+
+-- a call whose states have less, by steps that are weaker between two of them
+stronger : {P Q : Disk → Type 0} {R S : Disk → Disk → Type 0} → ((disk : Disk) → P disk → Q disk)
+    → ((older newer : Disk) → P older → P newer → R older newer → S older newer) → (new : Option (List Disk)) (start : Disk) (past : List Disk) → P start
+    → Moments P R new start past → Moments Q S new start past
+stronger {P} {Q} {R} {S} states steps new start past first m = record { since = m.since; told = m.told; each = each m.since m.each }
+  where
+    before : (since : List Disk) → Each P R since start → P (newest since start)
+    before [] all = first
+    before (disk ∷ since) all = all.0
+
+    each : (since : List Disk) → Each P R since start → Each Q S since start
+    each [] all = tt
+    each (disk ∷ since) all = (states disk all.0, steps (newest since start) disk (before since all.2) all.0 all.1, each since all.2)
+
+all_taken : (earlier : List Tx) → take (length earlier) earlier ≡ earlier
+all_taken earlier = take_all (length earlier) earlier (omega arith)
+
+module _ (earlier transactions : List Tx) (front : IsPrefix earlier transactions) (follow : FollowFromNew transactions) where
+  all_survive : (disk : Disk) → AllStand earlier disk → Survive transactions (length earlier) disk
+  all_survive disk all = survive_longer earlier transactions (length earlier) disk front
+      (λ image fair. (length earlier, omega arith, omega arith, subst (λ txs. StandsAfter txs image) (sym (all_taken earlier)) (all image fair)))
+
+  -- these are so many of them all
+  earlier_taken : (earlier ≡ take (length earlier) transactions) × (length earlier ≤ length transactions)
+  earlier_taken =
+      let longer = front_longer earlier transactions (length earlier) front (omega arith) in
+      (sym (all_taken earlier) ∙ longer.0, longer.1)
+
+  no_fewer : (older newer : Disk) → AllStand earlier older → AllStand earlier newer → (head : Head) → MayBegin head older newer
+      → NoFewerSurvive transactions older newer
+  no_fewer older newer before now head may least survive image fair =
+      let taken = earlier_taken in
+      let short = taken.1 in
+      let (was, its) = left_before (may image fair) in
+      let found = survive was its in
+      let enough = found.1 in
+      let same : length earlier ≡ found.0 = counted_once transactions (length earlier) found.0 was follow short found.2
+      (subst (λ txs. StandsAfter txs was) taken.0 (before was its)) found.3 in
+      (length earlier, omega arith, short, subst (λ txs. StandsAfter txs image) taken.0 (now image fair))
+    where
+      left_before : IsFair older image ⊎ HasBegun head older image → (was : Files) × IsFair older was
+      left_before (inl before) = (image, before)
+      left_before (inr (was, before, others, begun)) = (was, before)
+
+  pub begins_survive : (memory : memory.Reached) (found : Reached) (old new : Option (List Disk)) (head : Head) (own first : Ids)
+      → IsSettledAt memory found old → head.clock ≡ memory.clock → head.snapshot ≡ false → ids_in head ≡ unwrap_or memory.ids own → own ≡ first
+      → IfTold old (λ disk past. StandsAfter earlier disk.now) → IfTold old (λ disk past. Moments (MayBegin head disk) (MayBegin head) new disk past)
+      → IfTold old (λ disk past. Moments (Survive transactions (length earlier)) (NoFewerSurvive transactions) new disk past)
+  begins_survive memory found old new head own first s clock kind ids its after moments = told_both old from_start s.told (told_both old both after moments)
+    where
+      Known : Disk → List Disk → Type 0
+      Known disk past = StandsAfter earlier disk.now × Moments (MayBegin head disk) (MayBegin head) new disk past
+
+      both : (disk : Disk) (past : List Disk) → StandsAfter earlier disk.now → Moments (MayBegin head disk) (MayBegin head) new disk past → Known disk past
+      both disk past one other = (one, other)
+
+      from_start : (disk : Disk) (past : List Disk) → IsDirectoryState disk.now (Ok found) × AllOnDisk disk × (disk.older ≡ finite.empty) → Known disk past
+          → Moments (Survive transactions (length earlier)) (NoFewerSurvive transactions) new disk past
+      from_start disk past settled known =
+          let all = all_stand disk found settled.1 settled.2 settled.0 head first (clock ∙ s.stands.clock) kind
+          (ids ∙ ap (unwrap_or memory.ids) its ∙ kept_ids first memory.ids found.ids s.stands.ids) earlier known.0 in
+          stronger {P = MayBegin head disk} (λ next may. all_survive next (all next may))
+          (λ older newer one other step. no_fewer older newer (all older one) (all newer other) head step) new disk past (λ image fair. inl fair) known.1
+
+-- ---- the states while a directory is opened
+
+-- what doesn't speak of the disk is known after a call as before it
+told_across : (X : Type 0) (before after : Option (List Disk)) → ToldAlike before after → IfTold before (λ disk past. X) → IfTold after (λ disk past. X)
+told_across X before after alike known = where_told after (λ disk past. X) (λ disk past told.
+    let was = alike.1 (disk, past, told) in
+    subst (λ states. IfTold states (λ d p. X)) was.2 known)
+
+-- the directory stands for the same transactions when it is settled
+pub settled_after : (earlier : List Tx) (memory : memory.Reached) (found : Reached) (old read middle after : Option (List Disk)) → read ≡ old → middle ≡ read
+    → ToldAlike middle after → Recovers earlier old → IfTold read (λ disk past. IsDirectoryState disk.now (Ok found)) → IsSettledAt memory found after
+    → IfTold after (λ disk past. StandsAfter earlier disk.now)
+settled_after earlier memory found old read middle after same still alike recovers is s =
+    told_both after stands s.told
+    (told_across Comes middle after alike
+    (subst (λ states. IfTold states (λ disk past. Comes)) (sym (still ∙ same))
+    (told_both old comes recovers.told (subst (λ states. IfTold states (λ disk past. IsDirectoryState disk.now (Ok found))) same is))))
+  where
+    Comes : Type 0
+    Comes = (found.state ≡ state_after first_state earlier) × (found.clock ≡ clock_after nothing_yet.clock earlier)
+
+    comes : (disk : Disk) (past : List Disk) → StandsAfter earlier disk.now × Survive earlier 0 disk → IsDirectoryState disk.now (Ok found) → Comes
+    comes disk past known is =
+        let same = one_state disk.now found known.0.reached is known.0.stands in
+        (same.0 ∙ known.0.state, same.1 ∙ known.0.clock)
+
+    stands : (disk : Disk) (past : List Disk) → IsDirectoryState disk.now (Ok found) × AllOnDisk disk × (disk.older ≡ finite.empty) → Comes
+        → StandsAfter earlier disk.now
+    stands disk past settled came = record { reached = found; stands = settled.0; state = came.0; clock = came.1 }
+
+-- what has so many has none or more
+pub some_survive : (transactions : List Tx) (least : ℕ) (old new : Option (List Disk))
+    → IfTold old (λ disk past. Moments (Survive transactions least) (NoFewerSurvive transactions) new disk past)
+    → IfTold old (λ disk past. Moments (Survive transactions 0) (NoFewerSurvive transactions) new disk past)
+some_survive transactions least old new = told_weaker old (λ disk past.
+    weaker (λ next survive image fair. let found = survive image fair in (found.0, omega arith, found.2, found.3)) (λ older newer survive step. step) new disk past)
+
+-- a call that changed nothing
+pub unchanged_survive : (transactions : List Tx) (old new : Option (List Disk)) → new ≡ old
+    → IfTold old (λ disk past. Moments (Survive transactions 0) (NoFewerSurvive transactions) new disk past)
+unchanged_survive transactions old new same =
+    subst (λ states. IfTold old (λ disk past. Moments (Survive transactions 0) (NoFewerSurvive transactions) states disk past)) (sym same)
+    (no_moments (λ start. Survive transactions 0) (NoFewerSurvive transactions) old)
+
+-- and calls since which a crash leaves nothing new
+pub left_survive : (earlier transactions : List Tx) (old middle new : Option (List Disk)) → IsPrefix earlier transactions → middle ≡ old
+    → Recovers earlier old → LeaveNoOther middle new
+    → IfTold old (λ disk past. Moments (Survive transactions 0) (NoFewerSurvive transactions) new disk past)
+left_survive earlier transactions old middle new front same recovers leave =
+    told_both old by_steps recovers.told
+    (subst (λ states. LeaveNoOther states new) same leave)
+  where
+    by_steps : (disk : Disk) (past : List Disk) → StandsAfter earlier disk.now × Survive earlier 0 disk → Moments (LeavesNoOther disk) LeavesNoOther new disk past
+        → Moments (Survive transactions 0) (NoFewerSurvive transactions) new disk past
+    by_steps disk past known =
+        let before = survive_longer earlier transactions 0 disk front known.1 in
+        weaker (λ next leaves image fair. before image (leaves image fair)) (λ older newer leaves step least survive image fair. survive image (step image fair))
+        new disk past

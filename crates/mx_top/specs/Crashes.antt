@@ -1,0 +1,74 @@
+-- What a crash leaves of a database's commits.
+use Rattle.std.specs.Prelude.{◌≡◌, ℕ, ◌≤◌, List, ◌++◌, length, take, Option, Ok}
+use mathlib.Core.List.{IsPrefix}
+use Rattle.mx_outside.specs.Disks.{Disk, Files, IfTold, ToldAlike}
+use Rattle.mx_outside.specs.Moments.{Moments}
+use Rattle.mx_model.specs.declared.tx.Tx.{Tx}
+use Rattle.mx_model.specs.declared.txn_name.TxnName.{TxnName}
+use Rattle.mx_model.specs.Requests.{Ask}
+use Rattle.mx_model.specs.State.{first_state}
+use Rattle.mx_model.specs.Transactions.{state_after, clock_after}
+use Rattle.mx_model.specs.Files.{Reached, IsDirectoryState, AllFollow, nothing_yet}
+use Rattle.mx_model.specs.Histories.{Base, History, IsLegal, asks_in, journal_of, ledger_of}
+use Rattle.mx_journal.specs.Fair.{IsFair}
+
+-- the files stand for these transactions, made on a new database
+pub record StandsAfter (transactions : List Tx) (files : Files) : Type 0 where
+  pub reached : Reached
+  pub stands : IsDirectoryState files (Ok reached)
+  pub state : reached.state ≡ state_after first_state transactions
+  pub clock : reached.clock ≡ clock_after nothing_yet.clock transactions
+
+-- Whatever a crash leaves stands for the first ones of these transactions, and for so many at least.
+abbrev pub Survive : List Tx → ℕ → Disk → Type 0
+Survive transactions least disk =
+    (image : Files) → IsFair disk image → (count : ℕ) × (least ≤ count) × (count ≤ length transactions) × StandsAfter (take count transactions) image
+
+-- no fewer survive than before: each bound that held still holds
+abbrev pub NoFewerSurvive : List Tx → Disk → Disk → Type 0
+NoFewerSurvive transactions older newer = (least : ℕ) → Survive transactions least older → Survive transactions least newer
+
+-- each of these can be written, and follows those before it, from a new database on
+abbrev pub FollowFromNew : List Tx → Type 0
+FollowFromNew transactions = AllFollow first_state nothing_yet.clock transactions
+
+-- The directory stands for these transactions, and whatever a crash leaves of it for the first ones of them. So it is after
+-- any stop of this program.
+pub record Recovers (transactions : List Tx) (states : Option (List Disk)) : Type 0 where
+  pub follow : FollowFromNew transactions
+  pub told : IfTold states (λ disk past. StandsAfter transactions disk.now × Survive transactions 0 disk)
+
+-- these transactions came to the base
+pub record ComeTo (transactions : List Tx) (base : Base) : Type 0 where
+  pub state : state_after first_state transactions ≡ base.state
+  pub clock : clock_after nothing_yet.clock transactions ≡ base.clock
+
+-- All transactions of a database: those that came to the base, then the history's, and perhaps others
+pub record Extend (base : Base) (history : History) (transactions : List Tx) : Type 0 where
+  pub earlier : List Tx
+  pub comes : ComeTo earlier base
+  pub front : IsPrefix (earlier ++ journal_of base history) transactions
+  pub follow : FollowFromNew transactions
+
+-- The directory tells its files as before. At each moment between, whatever a crash left stood for the first ones of the
+-- transactions, and never for fewer than before.
+pub record Lasts (base : Base) (history : History) (old new : Option (List Disk)) : Type 0 where
+  pub told : ToldAlike old new
+  pub moments : (transactions : List Tx) → Extend base history transactions
+      → IfTold old (λ disk past. Moments (Survive transactions 0) (NoFewerSurvive transactions) new disk past)
+
+-- Whatever a crash leaves now has at least what these first steps of the history committed.
+abbrev pub Keep : Base → (history first : History) → Option (List Disk) → Type 0
+Keep base history first states = (transactions : List Tx) → (all : Extend base history transactions)
+    → IfTold states (λ disk past. Survive transactions (length (all.earlier ++ journal_of base first)) disk)
+
+-- The steps that were made when a run came to an end, after those of which the replies went out: all of the commits of the
+-- first ones are on the disk, and no other step was confirmed. They are steps of these asks.
+pub record BreaksOff (base : Base) (history : History) (asks : List (TxnName × Ask)) (old new : Option (List Disk)) : Type 0 where
+  pub more : History
+  pub later : History
+  pub legal : IsLegal base (later ++ (more ++ history))
+  pub asked : IsPrefix (asks_in (later ++ (more ++ history))) asks
+  pub confirmed : (ledger_of base (later ++ (more ++ history))).durable ≤ length (more ++ history)
+  pub lasts : Lasts base (later ++ (more ++ history)) old new
+  pub keep : Keep base (later ++ (more ++ history)) (more ++ history) new
