@@ -13,13 +13,10 @@ import tempfile
 import threading
 from pathlib import Path
 
-ROOT = Path(__file__).resolve().parent.parent
-PROGRAM = str(ROOT / "vurandy")
-EXAMPLE = ROOT / "examples" / "first-connection"
+from units import EXAMPLE, PROGRAM, ROOT, SEED, TRACE, environment, is_built
+
 INPUT = (EXAMPLE / "input.bin").read_bytes()
 OUTPUT = (EXAMPLE / "output.bin").read_bytes()
-SEED = "000102030405060708090a0b0c0d0e0f101112131415161718191a1b1c1d1e1f"
-TRACE = ["trace", "DIR"]
 SECONDS = 10
 SCRATCH = Path(tempfile.mkdtemp(prefix="vurandy-"))
 
@@ -38,14 +35,6 @@ BLOCK = bytes.fromhex("d5ba0babce0000001100cea3d27898a3000000" "83000302010301" 
 # A SELECT of key 1 in space 512, with sync 1, and the reply with the tuple that the example put.
 SELECT = bytes.fromhex("00" "00000001" "00000016" "ce00000011" "820001010184" "10cd0200120a14002091" "01")
 FOUND = bytes.fromhex("ce00000022" "8300ce00000000" "01cf0000000000000001" "05ce00000000" "8130dd000000019201a161")
-
-
-def environment(seed):
-    """The caller's variables, with this seed or with none."""
-    variables = {name: text for name, text in os.environ.items() if name != "VURANDY_SEED"}
-    if seed is not None:
-        variables["VURANDY_SEED"] = seed
-    return variables
 
 
 def new_folder():
@@ -341,8 +330,7 @@ def passes(check):
 
 def main():
     # The build is proved first, and may take far longer than the checks.
-    built = subprocess.run([PROGRAM, "--version"], stdout=subprocess.DEVNULL)
-    if built.returncode != 0:
+    if not is_built():
         print("FAILED  the program is not built")
         return 1
     try:
