@@ -2,6 +2,7 @@
 
 ghost use Rattle.std.specs.Prelude.{◌≡◌, ◌≢◌, IfOk};
 ghost use Rattle.mx_top.specs.declared.status.Status.TheVariants.{NoMemory};
+ghost use Rattle.mx_program.specs.Exits.{unopened};
 
 use mx_real::OpenFault;
 use mx_top::Status;
@@ -29,15 +30,28 @@ impl Failure {
 
     /// The directory that the word names wasn't opened.
     pub fn of_directory(alloc: Global, word: &str, fault: OpenFault) -> Result<Failure, AllocError>
-        ensures { IfOk result (λ failure. failure.status ≢ Status.Ok) }
+        ensures status { IfOk result (λ failure. failure.status ≡ unopened fault) }
+        ensures failed { IfOk result (λ failure. failure.status ≢ Status.Ok) }
     {
-        if matches!(fault, OpenFault::NoMemory) {
-            return Ok(Failure::of(Status::NoMemory));
-        }
-        Ok(Failure {
-            status: Status::DiskFault,
-            cause: Some(format!(in alloc; "{word}: {fault}")?),
-        })
+        let status = unopened(&fault);
+        let cause = match fault {
+            OpenFault::NoMemory => None,
+            _ => Some(format!(in alloc; "{word}: {fault}")?),
+        };
+        Ok(Failure { status, cause })
+    }
+}
+
+/// The status of a run whose directory wasn't opened.
+fn unopened(fault: &OpenFault) -> Status
+    ensures status { result ≡ unopened fault.now }
+    ensures failed { result ≢ Status.Ok }
+{
+    match fault {
+        OpenFault::NotFolder => Status::DiskFault,
+        OpenFault::NotOpened(_) => Status::DiskFault,
+        OpenFault::InUse => Status::DiskFault,
+        OpenFault::NoMemory => Status::NoMemory,
     }
 }
 
