@@ -14,7 +14,7 @@ use Rattle.mx_journal.specs.Fair.{counts}
 use Rattle.mx_journal.specs.Making.{CountsSame, extended}
 use Rattle.mx_journal.proofs.DiskLaws.{same_self, same_name, get_inserted}
 use Rattle.mx_journal.proofs.ToldLaws.{told_weaker}
-use Rattle.mx_journal.proofs.SinceLaws.{moments_may, moments_none, moments_one, moments_two, joined_from}
+use Rattle.mx_journal.proofs.MomentLaws.{moments_may, moments_none, moments_one, moments_two, joined_from}
 
 -- ---- bytes that were put behind the others, and not synced
 

@@ -1,5 +1,5 @@
 -- What a crash leaves of a journal's file while bytes are put behind it.
-use Rattle.std.proofs.Common.{◌≡◌, ℕ, zero, suc, ◌+◌, ◌≤◌, ◌<◌, Bool, true, false, cond, ◌||◌, List, [], ◌∷◌, ◌++◌, length, map, take, drop, sum, Option, Some, None, Any, Result, Ok, Err, MatchResult, string_bytes, refl, sym, ap, ◌∙◌, append_assoc, arith, ◌⊎◌, inl, inr}
+use Rattle.std.proofs.Common.{◌≡◌, ℕ, ◌+◌, ◌≤◌, ◌<◌, Bool, true, false, cond, ◌||◌, List, [], ◌∷◌, ◌++◌, length, map, take, drop, sum, Option, Some, None, Any, Result, Ok, Err, MatchResult, string_bytes, refl, sym, ap, ◌∙◌, append_assoc, arith, ◌⊎◌, inl, inr}
 use Rattle.std.specs.List.{AllByRecursion}
 use Rattle.std.proofs.lemmas.Bool.{cases_lt}
 use Rattle.std.proofs.lemmas.List.{append-nil, take_at, drop_at, take_all, take-take, take_min, take-map, length-take, length-map, length-append}
@@ -27,7 +27,8 @@ use Rattle.mx_journal.specs.Crashes.{read_of, HasAtLeast, NoFewer}
 use Rattle.mx_journal.specs.Making.{AppendsSynced, Changed, extended}
 use Rattle.mx_journal.specs.Written.{IsNow, IsWritten, Waits, SameOthers, name_of, file_text, blocks_text}
 use Rattle.mx_journal.proofs.BlockLaws.{all_joined, blocks_text-append, nothing_waits}
-use Rattle.mx_journal.proofs.DiskLaws.{same_self, same_name, get_inserted, get_changed}
+use Rattle.mx_journal.proofs.DiskLaws.{same_self, same_name, get_inserted, get_changed, only_one, first_one}
+use Rattle.mx_journal.proofs.MomentLaws.{moments_none, moments_one, moments_two}
 use Rattle.mx_journal.proofs.ToldLaws.{told_weaker, where_told, now_changed}
 use Rattle.mx_journal.proofs.WrittenLaws.{bytes_extended, extended_as, others_extended}
 use Rattle.mx_journal.proofs.FairLaws.{fair_nothing, front_of_blocks}
@@ -130,13 +131,6 @@ pub record Keeps (head : Head) (body more : List ℕ) (disk : Disk) : Type 0 whe
 name_counts : (head : Head) → counts (name_of head) ≡ true
 name_counts head = ap (λ b. b || is_snapshot (name_of head)) (journal_name-is_journal (sum head.clock))
 
-the_one : {X : Type 0} (P : X → Type 0) (x : X) → Any P (x ∷ []) → P x
-the_one P x (zero, y, inside, is, shown) = subst P (sym is) shown
-the_one P x (suc place, y, inside, is, shown) = absurd (omega (arith, inside))
-
-first_one : {X : Type 0} (P : X → Type 0) (x : X) → P x → Any P (x ∷ [])
-first_one P x shown = (0, x, omega arith, refl, shown)
-
 -- it is nothing else after a crash
 one_outcome : (head : Head) (body more : List ℕ) (disk : Disk) → Keeps head body more disk → outcomes (name_of head) disk ≡ Some (kept head body more) ∷ []
 one_outcome head body more disk keeps =
@@ -149,7 +143,7 @@ left_at_least head body more txs all n disk fits first front keeps image fair =
     let found = finite.get image (name_of head) in
     let left = λ (was : Option File). Leaves IsFairEnd was found in
     file_left head body more txs all n found fits first front
-    (the_one left (Some (kept head body more)) (subst (Any left) (one_outcome head body more disk keeps) (fair (name_of head) (name_counts head))))
+    (only_one left (Some (kept head body more)) (subst (Any left) (one_outcome head body more disk keeps) (fair (name_of head) (name_counts head))))
 
 -- ---- no fewer than before
 
@@ -182,7 +176,7 @@ fair_back head body more older newer image keeps same fair q counted = by_name (
         let alone = ap (λ name. outcomes name older) (same_name q (name_of head) is) ∙ one_outcome head body more older keeps in
         let now = got ∙ ap (λ b. cond b (Some (on_disk (header_of head ++ body))) (finite.get image q)) is
         ∙ ap (λ bytes. Some (on_disk bytes)) (sym synced) in
-        subst (Any left) (sym alone) (first_one left (Some (kept head body more)) ([], fair_nothing (kept head body more), now))
+        subst (Any left) (sym alone) (first_one left (Some (kept head body more)) [] ([], fair_nothing (kept head body more), now))
     by_name false differs =
         let now = got ∙ ap (λ b. cond b (Some (on_disk (header_of head ++ body))) (finite.get image q)) differs in
         subst (λ file. Any (λ was. Leaves IsFairEnd was file) (outcomes q older)) (sym now)
@@ -308,18 +302,15 @@ module _ (head : Head) (more : List ℕ) (txs all : List Tx) (disk : Disk) (puts
       Moments (λ now. SameOthers (name_of head) disk now × HasAtLeast head all (length txs) now) (NoFewer head all) states disk past
 
   pub grew_none : (after : Option (List Disk)) (past : List Disk) → Stayed after disk past → Grows after past
-  grew_none after past stayed = record { since = []; told = stayed; each = tt }
+  grew_none after past stayed = moments_none _ _ after disk past stayed
 
   pub grew_some : (count : ℕ) (after : Option (List Disk)) (past : List Disk)
       → Became after (appended (name_of head) (take count more) disk) disk past → Grows after past
   grew_some count after past became =
       let next = appended (name_of head) (take count more) disk in
       let others = others_appended (name_of head) (take count more) disk (on_disk (file_text head txs)) puts.file in
-      record {
-        since = next ∷ [];
-        told = became;
-        each = ((others, has_between count), no_fewer head body [] txs all disk next puts.before keeps_before others (has_between count), tt);
-      }
+      moments_one _ _ next after disk past (others, has_between count)
+      (no_fewer head body [] txs all disk next puts.before keeps_before others (has_between count)) became
 
   pub grew_all : (after : Option (List Disk)) (past : List Disk)
       → after ≡ Some (extended (name_of head) more disk ∷ appended (name_of head) more disk ∷ disk ∷ past) → Grows after past
@@ -329,15 +320,10 @@ module _ (head : Head) (more : List ℕ) (txs all : List Tx) (disk : Disk) (puts
       let last = extended (name_of head) more disk in
       let others = others_appended (name_of head) more disk file puts.file in
       let has = at_least_weaker head all (length all) (length txs) last no_less has_all in
-      record {
-        since = last ∷ next ∷ [];
-        told = told;
-        each = (
-          (others_extended (name_of head) more disk file puts.file, has),
-          no_fewer head body more txs all next last puts.before (keeps_appended more) (others_synced (name_of head) more disk file puts.file) has,
-          ((others, has_appended), no_fewer head body [] txs all disk next puts.before keeps_before others has_appended, tt),
-        );
-      }
+      moments_two _ _ next last after disk past (others, has_appended)
+      (no_fewer head body [] txs all disk next puts.before keeps_before others has_appended)
+      (others_extended (name_of head) more disk file puts.file, has)
+      (no_fewer head body more txs all next last puts.before (keeps_appended more) (others_synced (name_of head) more disk file puts.file) has) told
 
   pub grew : {T E : Type 0} (wanted bytes : List ℕ) (after : Option (List Disk)) (past : List Disk) (result : Result T E) → wanted ≡ name_of head → bytes ≡ more
       → MatchResult result (λ value. after ≡ Some (extended wanted bytes disk ∷ appended wanted bytes disk ∷ disk ∷ past))

@@ -1,5 +1,5 @@
 -- What a change of one name makes of the files of a directory.
-use Rattle.std.proofs.Common.{◌≡◌, ℕ, Bool, true, false, cond, List, [], ◌++◌, Option, Some, None, IsSome, refl, ap, ◌∙◌}
+use Rattle.std.proofs.Common.{◌≡◌, ℕ, zero, suc, Bool, true, false, cond, List, [], ◌∷◌, ◌++◌, Any, Option, Some, None, IsSome, refl, sym, ap, ◌∙◌, subst, arith}
 use Rattle.std.specs.FinMap as finite
 use Rattle.std.specs.FinMap.{get-insert, get-remove}
 use Rattle.std.specs.Cmp.Lexicographic.{bytes_decides, nat_list_cmp_total}
@@ -95,3 +95,13 @@ there_extended name more disk there = there_changed (λ f. on_disk f.bytes) name
 
 pub there_created : (name : List ℕ) (disk : Disk) → Unit {0} → IsSome (finite.get (created name disk).now name)
 there_created name disk none = rw (get_inserted disk.now name (on_disk []) name ∙ at_itself name (Some (on_disk [])) (finite.get disk.now name)) refl
+
+-- ---- all that a name may be
+
+-- the only one there is
+pub only_one : {X : Type 0} (P : X → Type 0) (only : X) → Any P (only ∷ []) → P only
+only_one P only (zero, found, inside, is, shown) = subst P (sym is) shown
+only_one P only (suc place, found, inside, is, shown) = absurd (omega (arith, inside))
+
+pub first_one : {X : Type 0} (P : X → Type 0) (first : X) (others : List X) → P first → Any P (first ∷ others)
+first_one P first others shown = (0, first, omega arith, refl, shown)

@@ -1,6 +1,5 @@
 pub mod ToldLaws
 pub mod MomentLaws
-pub mod SinceLaws
 pub mod FairLaws
 pub mod DiskLaws
 pub mod CallLaws

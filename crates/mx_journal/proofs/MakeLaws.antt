@@ -17,10 +17,9 @@ use Rattle.mx_journal.specs.Crashes.{SameBut}
 use Rattle.mx_journal.specs.Making.{Changed, CountsSame, HasMade, MayMakeFile, drafted, settled}
 use Rattle.mx_journal.specs.Written.{IsNow}
 use Rattle.mx_journal.proofs.CallLaws.{KeepsCounting, differs_by_count, get_older, get_older_itself, same_outcomes}
-use Rattle.mx_journal.proofs.DiskLaws.{same_name, get_inserted, get_removed, get_drafted, get_moved, get_made, at_itself}
+use Rattle.mx_journal.proofs.DiskLaws.{same_name, get_inserted, get_removed, get_drafted, get_moved, get_made, at_itself, only_one, first_one}
 use Rattle.mx_journal.proofs.FairLaws.{fair_nothing}
-use Rattle.mx_journal.proofs.SinceLaws.{moments_may, moments_two, joined_from}
-use Rattle.mx_journal.proofs.MomentLaws.{weaker}
+use Rattle.mx_journal.proofs.MomentLaws.{moments_may, moments_two, joined_from, weaker}
 use Rattle.mx_journal.proofs.ToldLaws.{told_weaker, told_both, told_after, told_nothing, now_changed}
 
 -- ---- a draft's name never counts
@@ -52,9 +51,6 @@ draft_counts name =
 abbrev Fair : Files → List ℕ → Option File → Type 0
 Fair image name was = Leaves IsFairEnd was (finite.get image name)
 
-at_first : (P : Option File → Type 0) (first : Option File) (others : List (Option File)) → P first → Any P (first ∷ others)
-at_first P first others is = (0, first, omega arith, refl, is)
-
 first_or_later : (P : Option File → Type 0) (first : Option File) (others : List (Option File)) → Any P (first ∷ others) → P first ⊎ Any P others
 first_or_later P first others (zero, file, inside, is, here) = inl (subst P (sym is) here)
 first_or_later P first others (suc place, file, inside, is, here) = inr (place, file, omega (arith, inside), is, here)
@@ -62,13 +58,6 @@ first_or_later P first others (suc place, file, inside, is, here) = inr (place, 
 -- where all names are on the disk, a name may be only what it is
 alone : (name : List ℕ) (disk : Disk) → outcomes name (names_synced disk) ≡ finite.get disk.now name ∷ []
 alone name disk = ap (λ older. finite.get disk.now name ∷ or_none older) (get-empty (slice_cmp nat_cmp) name)
-
-the_only : (P : Option File → Type 0) (only : Option File) → Any P (only ∷ []) → P only
-the_only P only some = by_place (first_or_later P only [] some)
-  where
-    by_place : P only ⊎ Any P [] → P only
-    by_place (inl here) = here
-    by_place (inr (place, file, inside, is, later)) = absurd (omega (arith, inside))
 
 -- the files with the least that a crash leaves of this name, where it was this
 abbrev least : List ℕ → Option File → Files → Files
@@ -105,7 +94,7 @@ made_from name bytes older image others (end, fair, is) =
     )
   where
     itself : Any (Fair (least name (finite.get older.now name) image) name) (outcomes name older)
-    itself = at_first _ (finite.get older.now name) (or_none (finite.get older.older name)) (least_fair name (finite.get older.now name) image)
+    itself = first_one _ (finite.get older.now name) (or_none (finite.get older.older name)) (least_fair name (finite.get older.now name) image)
 
     by_name : (other : List ℕ) → counts other ≡ true → (same : Bool) → same_bytes other name ≡ same
         → Any (Fair (least name (finite.get older.now name) image) other) (outcomes other older)
@@ -140,8 +129,8 @@ same_may name bytes older newer same image fair = inl (λ other counting. subst 
 
 synced_may : (name bytes : List ℕ) (disk : Disk) → MayMakeFile name bytes disk (names_synced disk)
 synced_may name bytes disk image fair =
-    inl (λ other counting. at_first (Fair image other) (finite.get disk.now other) (or_none (finite.get disk.older other))
-    (the_only (Fair image other) (finite.get disk.now other) (subst (Any (Fair image other)) (alone other disk) (fair other counting))))
+    inl (λ other counting. first_one (Fair image other) (finite.get disk.now other) (or_none (finite.get disk.older other))
+    (only_one (Fair image other) (finite.get disk.now other) (subst (Any (Fair image other)) (alone other disk) (fair other counting))))
 
 renamed_other : (from to : List ℕ) (disk : Disk) (file : File) (other : List ℕ) → finite.get disk.now from ≡ Some file
     → same_bytes other to ≡ false → same_bytes other from ≡ false → outcomes other (renamed from to disk) ≡ outcomes other disk
@@ -199,7 +188,7 @@ made_there draft name bytes disk not counting image fair =
   where
     now : (other : List ℕ) → counts other ≡ true → Fair image other (finite.get (settled draft name (drafted draft bytes disk)).now other)
     now other counting =
-        the_only (Fair image other) (finite.get (settled draft name (drafted draft bytes disk)).now other)
+        only_one (Fair image other) (finite.get (settled draft name (drafted draft bytes disk)).now other)
         (subst (Any (Fair image other)) (alone other (renamed draft name (drafted draft bytes disk))) (fair other counting))
 
     others : (other : List ℕ) → counts other ≡ true → same_bytes other name ≡ false → Any (Fair image other) (outcomes other disk)
@@ -208,7 +197,7 @@ made_there draft name bytes disk not counting image fair =
         get_made draft name bytes disk other
         ∙ ap (λ same. cond same (Some (on_disk bytes)) (cond (same_bytes other draft) None (finite.get disk.now other))) differs
         ∙ ap (λ same. cond same None (finite.get disk.now other)) (differs_by_count other draft counting not) in
-        at_first (Fair image other) (finite.get disk.now other) (or_none (finite.get disk.older other))
+        first_one (Fair image other) (finite.get disk.now other) (or_none (finite.get disk.older other))
         (subst (Fair image other) same (now other counting))
 
 -- ---- the states of a directory

@@ -21,7 +21,7 @@ use Rattle.mx_model.specs.Rows.{IsTuple, IsRow, IsTransaction}
 use Rattle.mx_xlog.specs.declared.head.Head.{Head}
 use Rattle.mx_journal.specs.declared.journal.Journal.{Journal}
 use Rattle.mx_journal.specs.Written.{IsNow, IsNewest, IsWritten, Waits, SameOthers, Created, name_of}
-use Rattle.mx_journal.proofs.WrittenLaws.{only_one}
+use Rattle.mx_journal.proofs.DiskLaws.{only_one}
 
 -- the tuple [1, "a"]
 abbrev pub first_tuple : List ℕ
@@ -61,7 +61,7 @@ first_is_transaction rows tuple same only = record {
 pub newest_of_none : (name : List ℕ) → IsNewest name no_files
 newest_of_none name other kind there after =
     let some : IsSome (finite.get no_files.now other) =
-    only_one (finite.get no_files.now other) (subst (Any IsSome) (ap (λ older. finite.get no_files.now other ∷ or_none older) (get-empty (slice_cmp nat_cmp) other)) there) in
+    only_one IsSome (finite.get no_files.now other) (subst (Any IsSome) (ap (λ older. finite.get no_files.now other ∷ or_none older) (get-empty (slice_cmp nat_cmp) other)) there) in
     true≢false (sym (subst IsSome (get-empty (slice_cmp nat_cmp) other) some))
 
 pub none_newer : (states : Option (List Disk)) (name : List ℕ) → states ≡ Some (no_files ∷ []) → IfTold states (λ disk past. IsNewest name disk)

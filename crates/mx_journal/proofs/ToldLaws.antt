@@ -1,6 +1,6 @@
 -- What calls on a directory, one after the other, make of its newest state.
-use Rattle.std.proofs.Common.{◌≡◌, ℕ, List, [], ◌∷◌, Option, Some, None, refl, ap, ◌∙◌}
-use Rattle.mx_outside.specs.Disks.{Disk, IfTold, IsTold, ToldAlike, Became}
+use Rattle.std.proofs.Common.{◌≡◌, ℕ, List, [], ◌∷◌, Option, Some, None, refl, sym, ap, ◌∙◌}
+use Rattle.mx_outside.specs.Disks.{Disk, IfTold, ToldAlike, Became}
 use mathlib.Core.Path.{subst}
 use Rattle.mx_journal.specs.Making.{Changed, drafted, settled}
 use Rattle.mx_journal.specs.Written.{IsNow}
@@ -50,26 +50,30 @@ then_changed first second before middle after one two = told_weaker before (λ d
 pub now_changed : (next : Disk) (after : Option (List Disk)) {P : Disk → Type 0} → IsNow after (λ now. now ≡ next) → P next → IsNow after P
 now_changed next after (now, past, is, same) shown = (now, past, is, rw same shown)
 
-not_told : (states : Option (List Disk)) (P : Disk → List Disk → Type 0) → ¬ IsTold states → IfTold states P
-not_told None P untold = tt
-not_told (Some []) P untold = tt
-not_told (Some (disk ∷ past)) P untold = absurd (untold (disk, past, refl))
+-- what is told after a call on a directory that told its states before it
+pub told_then : (before after : Option (List Disk)) (P : Disk → List Disk → Type 0) → ToldAlike before after
+    → IfTold before (λ disk past. IfTold after P) → IfTold after P
+told_then before after P alike shown = where_told after P (λ disk past told.
+    let was = alike.1 (disk, past, told) in
+    subst (λ states. IfTold states P) told (subst (λ states. IfTold states (λ d p. IfTold after P)) was.2 shown))
 
 now_told : (after : Option (List Disk)) {P : Disk → Type 0} → IsNow after P → IfTold after (λ disk past. P disk)
 now_told after (now, past, is, shown) = rw is shown
 
+pub told_now : (before after : Option (List Disk)) (P : Disk → Type 0) → ToldAlike before after → IfTold before (λ disk past. IsNow after P)
+    → IfTold after (λ disk past. P disk)
+told_now before after P alike now = told_then before after (λ disk past. P disk) alike (told_weaker before (λ disk past. now_told after) now)
+
 -- what a change makes of a fact of the newest state
 pub told_after : (change : Disk → Disk) (before after : Option (List Disk)) (P Q : Disk → Type 0) → ToldAlike before after → Changed change before after
     → IfTold before (λ disk past. P disk) → ((disk : Disk) → P disk → Q (change disk)) → IfTold after (λ disk past. Q disk)
-told_after change None after P Q alike changed shown step = not_told after (λ disk past. Q disk) (λ told. by_none (alike.1 told))
-  where
-    by_none : IsTold None → ⊥
-    by_none (disk, past, is) = absurd cc
-told_after change (Some []) after P Q alike changed shown step = not_told after (λ disk past. Q disk) (λ told. by_none (alike.1 told))
-  where
-    by_none : IsTold (Some []) → ⊥
-    by_none (disk, past, is) = absurd cc
-told_after change (Some (disk ∷ past)) after P Q alike changed shown step = now_told after (now_changed (change disk) after changed (step disk shown))
+told_after change before after P Q alike changed shown step =
+    told_now before after Q alike
+    (told_both before (λ disk past changed shown. now_changed (change disk) after changed (step disk shown)) changed shown)
+
+-- a directory that is as it was tells as before
+pub told_same : (before after : Option (List Disk)) → after ≡ before → ToldAlike before after
+told_same before after same = subst (ToldAlike before) (sym same) (λ told. told, λ told. told)
 
 pub told_chain : (before middle after : Option (List Disk)) → ToldAlike before middle → ToldAlike middle after → ToldAlike before after
 told_chain before middle after one two = (λ told. two.0 (one.0 told), λ told. one.1 (two.1 told))

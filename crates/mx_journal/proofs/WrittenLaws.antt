@@ -1,5 +1,5 @@
 -- What a journal's calls make of its file.
-use Rattle.std.proofs.Common.{◌≡◌, ℕ, ◌+◌, Bool, true, false, cond, List, [], ◌∷◌, ◌++◌, length, take, sum, Option, Some, None, IsSome, Any, string_bytes, refl, sym, ap, ◌∙◌, append_assoc, arith, zero, suc}
+use Rattle.std.proofs.Common.{◌≡◌, ℕ, ◌+◌, Bool, true, false, cond, List, [], ◌∷◌, ◌++◌, length, take, sum, Option, Some, None, IsSome, Any, string_bytes, refl, sym, ap, ◌∙◌, append_assoc, arith}
 use Rattle.std.proofs.lemmas.List.{append-nil, length-append}
 use mathlib.Core.Bool.{true≢false}
 use mathlib.Core.Path.{subst}
@@ -22,7 +22,7 @@ use Rattle.mx_journal.specs.Counting.{SameButPushed, caught_up}
 use Rattle.mx_journal.specs.Making.{Changed, drafted, extended, settled}
 use Rattle.mx_journal.specs.Written.{IsNow, IsWritten, Waits, IsNewest, SameOthers, Created, file_text, name_of, draft_name_of, blocks_text}
 use Rattle.mx_journal.proofs.BlockLaws.{all_joined, blocks_text-append, nothing_waits}
-use Rattle.mx_journal.proofs.DiskLaws.{same_self, same_name, get_extended, get_made}
+use Rattle.mx_journal.proofs.DiskLaws.{same_self, same_name, get_extended, get_made, only_one, first_one}
 use Rattle.mx_journal.proofs.ToldLaws.{told_both, told_weaker, where_told, now_changed}
 
 -- ---- the newest file
@@ -40,13 +40,6 @@ newest_kept name before after newest earlier other kind there = by_name (same_by
     by_name true same = rw (same_name other name same) (not_after (take 20 name))
     by_name false differs = newest other kind (earlier other differs there)
 
-pub only_one : (found : Option File) → Any IsSome (found ∷ []) → IsSome found
-only_one found (zero, file, inside, is, some) = rw is some
-only_one found (suc place, file, inside, is, some) = absurd (omega (arith, inside))
-
-first_one : (found : Option File) (others : List (Option File)) → IsSome found → Any IsSome (found ∷ others)
-first_one found others some = (0, found, omega arith, refl, some)
-
 -- ---- a journal that was begun
 
 made_earlier : (draft name bytes : List ℕ) (disk : Disk) (other : List ℕ) → same_bytes other name ≡ false
@@ -54,14 +47,14 @@ made_earlier : (draft name bytes : List ℕ) (disk : Disk) (other : List ℕ) �
 made_earlier draft name bytes disk other differs there =
     let now = settled draft name (drafted draft bytes disk) in
     let alone : outcomes other now ≡ finite.get now.now other ∷ [] = ap (λ older. finite.get now.now other ∷ or_none older) (get-empty (slice_cmp nat_cmp) other) in
-    let some : IsSome (finite.get now.now other) = only_one (finite.get now.now other) (subst (Any IsSome) alone there) in
+    let some : IsSome (finite.get now.now other) = only_one IsSome (finite.get now.now other) (subst (Any IsSome) alone there) in
     let found : finite.get now.now other ≡ cond (same_bytes other draft) None (finite.get disk.now other) = get_made draft name bytes disk other
     ∙ ap (λ same. cond same (Some (on_disk bytes)) (cond (same_bytes other draft) None (finite.get disk.now other))) differs in
     by_draft (same_bytes other draft) (subst IsSome found some)
   where
     by_draft : (same : Bool) → IsSome (cond same None (finite.get disk.now other)) → Any IsSome (outcomes other disk)
     by_draft true none = absurd (true≢false (sym none))
-    by_draft false some = first_one (finite.get disk.now other) (or_none (finite.get disk.older other)) some
+    by_draft false some = first_one IsSome (finite.get disk.now other) (or_none (finite.get disk.older other)) some
 
 -- the disk after a file was made in the place of its draft
 abbrev pub begun : Head → Disk → Disk

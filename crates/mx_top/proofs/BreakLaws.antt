@@ -6,7 +6,7 @@ use Rattle.std.proofs.lemmas.List.{append-nil}
 use Rattle.mx_outside.specs.Disks.{Disk}
 use Rattle.mx_model.specs.declared.txn_name.TxnName.{TxnName}
 use Rattle.mx_model.specs.Requests.{Ask}
-use Rattle.mx_model.specs.Histories.{Base, History, IsLegal, asks_in}
+use Rattle.mx_model.specs.Histories.{History, IsLegal, asks_in}
 use Rattle.mx_engine.specs.declared.engine.Engine.{Engine}
 use Rattle.mx_journal.specs.declared.journal.Journal.{Journal}
 use Rattle.mx_top.specs.declared.server.Server.{Server}

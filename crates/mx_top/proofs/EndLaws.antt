@@ -6,7 +6,7 @@ use Rattle.std.specs.Cmp.Lexicographic.{bytes_decides}
 use Rattle.std.specs.FinMap as finite
 use Rattle.std.proofs.lemmas.List.{append_assoc, drop_at, take_all}
 use Rattle.mx_msgpack.proofs.Options.{same_some}
-use Rattle.mx_outside.specs.Disks.{Disk, File, IfTold, IsTold, ToldAlike, on_disk}
+use Rattle.mx_outside.specs.Disks.{Disk, File, IfTold, ToldAlike, on_disk}
 use Rattle.mx_xlog.specs.Headers.{header_of}
 use Rattle.mx_xlog.specs.Blocks.{end_marker}
 use Rattle.mx_xlog.specs.Reading.{blocks_of}
@@ -23,9 +23,11 @@ use Rattle.mx_model.proofs.TransactionLaws.{blocks_again, after_blocks_again}
 use Rattle.mx_engine.specs.declared.engine.Engine.{Engine}
 use Rattle.mx_journal.specs.declared.journal.Journal.{Journal}
 use Rattle.mx_journal.specs.Written.{IsNow, IsWritten, SameOthers, blocks_text, file_text, name_of}
+use Rattle.mx_journal.proofs.ToldLaws.{told_both, told_now}
 use Rattle.mx_top.specs.Starts.{AllOnDisk}
 use Rattle.mx_top.specs.Ready.{Ready, taken_of}
 use Rattle.mx_top.specs.Runs.{Keeps}
+use Rattle.mx_top.proofs.ReadyLaws.{IsOnDisk}
 
 -- transactions that follow can be written
 each_is_transaction : (now : State) (clock : List ℕ) (transactions : List Tx) → AllFollow now clock transactions
@@ -74,12 +76,11 @@ all_on_disk journal transactions before now written ended all name file kind the
         (was.0, ap (λ o. finite.get o name) ended.1.older ∙ was.1)
 
 -- the directory stands for the history
-ended_keeps : (base : Base) (history : History) (engine : Engine) (journal : Journal) (before now : Disk) (past : List Disk)
-    → AllFollow base.state base.clock (journal_of base history) → Ready base history engine journal (Some (before ∷ past))
-    → IsEnded journal (taken_of base history) before now → Keeps base history now
-ended_keeps base history engine journal before now past follow ready ended =
+ended_keeps : (base : Base) (history : History) (engine : Engine) (journal : Journal) (states : Option (List Disk)) (before now : Disk)
+    → AllFollow base.state base.clock (journal_of base history) → Ready base history engine journal states
+    → IsOnDisk base journal (taken_of base history) before → IsEnded journal (taken_of base history) before now → Keeps base history now
+ended_keeps base history engine journal states before now follow ready (written, continues, synced, settled) ended =
     let behind = ready.behind in
-    let (written, continues, synced, settled) = behind.written in
     let taken = taken_of base history in
     let all_taken : taken ≡ journal_of base history =
     ap (λ n. take n (journal_of base history)) ready.taken ∙ take_all (length (journal_of base history)) (journal_of base history) (omega arith) in
@@ -106,20 +107,15 @@ ended_keeps base history engine journal before now past follow ready ended =
       synced = all_on_disk journal taken before now written ended synced;
     }
 
-untold : (P : Disk → List Disk → Type 0) (after : Option (List Disk)) → (IsTold after → ⊥) → IfTold after P
-untold P None none = tt
-untold P (Some []) none = tt
-untold P (Some (disk ∷ past)) none = absurd (none (disk, past, refl))
-
 -- ending the journal of a server that is ready leaves a directory that stands for the history
 pub end_keeps : (base : Base) (history : History) (engine : Engine) (journal : Journal) (states after : Option (List Disk))
     → AllFollow base.state base.clock (journal_of base history) → Ready base history engine journal states → ToldAlike states after
     → ((transactions : List Tx) → IfTold states (λ disk past. IsWritten journal disk transactions → IsNow after (IsEnded journal transactions disk)))
     → IfTold after (λ disk past. Keeps base history disk)
-end_keeps base history engine journal None after follow ready alike ended =
-    untold _ after (λ told. let (disk, past, e) = alike.1 told in absurd cc)
-end_keeps base history engine journal (Some []) after follow ready alike ended =
-    untold _ after (λ told. let (disk, past, e) = alike.1 told in let same = same_some [] (disk ∷ past) e in absurd cc)
-end_keeps base history engine journal (Some (before ∷ past)) after follow ready alike ended =
-    let (now, earlier, same, is) = ended (taken_of base history) ready.behind.written.0 in
-    subst (λ s. IfTold s (λ disk past. Keeps base history disk)) (sym same) (ended_keeps base history engine journal before now past follow ready is)
+end_keeps base history engine journal states after follow ready alike ended =
+    told_now states after (Keeps base history) alike
+    (told_both states
+    (λ disk past was shown.
+    let (now, earlier, same, is) = shown was.0 in
+    (now, earlier, same, ended_keeps base history engine journal states disk now follow ready was is))
+    ready.behind.written (ended (taken_of base history)))

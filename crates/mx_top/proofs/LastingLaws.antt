@@ -1,10 +1,10 @@
 -- What survives a crash while steps are made, one after the other.
-use Rattle.std.proofs.Common.{◌≡◌, ℕ, zero, suc, ◌<◌, ◌≤◌, List, [], ◌∷◌, ◌++◌, length, refl, sym, ap, ◌∙◌, subst, arith}
-use Rattle.std.specs.Prelude.{max, Option, Some, None, Result, Ok, Err, OnErr}
+use Rattle.std.proofs.Common.{◌≡◌, ℕ, zero, suc, ◌≤◌, List, [], ◌∷◌, ◌++◌, length, refl, sym, ap, ◌∙◌, subst, arith}
+use Rattle.std.specs.Prelude.{Option, Result, Ok, Err, OnErr}
 use Rattle.std.specs.List.{Contains}
 use Rattle.std.proofs.lemmas.List.{append-nil, append_assoc}
 use mathlib.Core.List.{IsPrefix}
-use Rattle.mx_outside.specs.Disks.{Disk, IfTold, IsTold, ToldAlike}
+use Rattle.mx_outside.specs.Disks.{Disk, IfTold, ToldAlike}
 use Rattle.mx_outside.specs.Moments.{Moments}
 use Rattle.mx_model.specs.declared.tx.Tx.{Tx}
 use Rattle.mx_model.specs.declared.txn_name.TxnName.{TxnName}
@@ -12,8 +12,8 @@ use Rattle.mx_model.specs.declared.reply.Reply.{Reply}
 use Rattle.mx_model.specs.Requests.{Ask}
 use Rattle.mx_model.specs.Histories.{Base, History, Asked, Left, Took, Confirmed, IsLegal, asks_in, commits_of, journal_of, ledger_of}
 use Rattle.mx_journal.proofs.MomentLaws.{no_moments, joined, kept}
+use Rattle.mx_journal.proofs.ToldLaws.{told_both, told_then}
 use Rattle.mx_top.specs.Crashes.{Survive, NoFewerSurvive, Extend, Lasts, Keep, BreaksOff}
-use Rattle.mx_top.proofs.DiskLaws.{told_nothing}
 
 pub prefix_on : {X : Type 0} (xs ys zs : List X) → IsPrefix xs ys → IsPrefix ys zs → IsPrefix xs zs
 prefix_on xs ys zs (rest, is) (more, on) = (rest ++ more, sym (append_assoc xs rest more) ∙ ap (λ l. l ++ more) is ∙ on)
@@ -73,15 +73,8 @@ lasts_on base more history old middle new one two = record {
 told_kept : (P Q : Disk → Type 0) (R : Disk → Disk → Type 0) → ((older newer : Disk) → R older newer → Q older → Q newer)
     → (old new : Option (List Disk)) → ToldAlike old new → IfTold old (λ disk past. Moments P R new disk past) → IfTold old (λ disk past. Q disk)
     → IfTold new (λ disk past. Q disk)
-told_kept P Q R keeps None new alike moments holds = told_nothing new (λ disk past. Q disk) (λ told. by_none (alike.1 told))
-  where
-    by_none : IsTold None → ⊥
-    by_none (disk, past, is) = absurd cc
-told_kept P Q R keeps (Some []) new alike moments holds = told_nothing new (λ disk past. Q disk) (λ told. by_none (alike.1 told))
-  where
-    by_none : IsTold (Some []) → ⊥
-    by_none (disk, past, is) = absurd cc
-told_kept P Q R keeps (Some (disk ∷ past)) new alike moments holds = kept P R Q keeps new disk past moments holds
+told_kept P Q R keeps old new alike moments holds =
+    told_then old new (λ disk past. Q disk) alike (told_both old (λ disk past. kept P R Q keeps new disk past) moments holds)
 
 -- ---- what is kept
 

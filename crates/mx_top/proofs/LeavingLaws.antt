@@ -1,19 +1,19 @@
 -- Which changes of a directory let a crash leave nothing new.
-use Rattle.std.proofs.Common.{◌≡◌, ℕ, zero, suc, Bool, true, false, cond, ◌||◌, List, [], ◌∷◌, ◌++◌, length, take, drop, Any, Option, Some, None, Result, Ok, Err, refl, sym, ap, subst, ◌∙◌, inl, inr, append_assoc, arith}
+use Rattle.std.proofs.Common.{◌≡◌, ℕ, zero, suc, Bool, true, false, cond, ◌||◌, List, [], ◌∷◌, ◌++◌, length, take, drop, Any, Option, Some, None, Result, Ok, Err, refl, sym, ap, subst, ◌∙◌, append_assoc, arith}
 use Rattle.std.proofs.lemmas.List.{take_all, take-append-drop}
 use Rattle.std.specs.Ordering.{nat_cmp}
 use Rattle.std.specs.Cmp.Lexicographic.{slice_cmp, bytes_decides, nat_list_cmp_total}
 use Rattle.std.proofs.lemmas.Map.Text.{is_eq-slice_cmp}
 use Rattle.std.specs.FinMap as finite
 use Rattle.std.specs.FinMap.{get-empty, get-insert}
-use Rattle.mx_outside.specs.Disks.{Disk, File, IfTold, Leaves, Makes, MayMake, Became, Stayed, outcomes, or_none, on_disk, file_synced, removed, names_synced}
+use Rattle.mx_outside.specs.Disks.{Disk, File, IfTold, Leaves, Makes, MayMake, outcomes, or_none, on_disk, file_synced, removed, names_synced}
 use Rattle.mx_outside.specs.Moments.{Moments}
 use Rattle.mx_xlog.specs.Reading.{blocks_of}
 use Rattle.mx_model.specs.Files.{is_snapshot, is_draft, same_bytes}
 use Rattle.mx_model.proofs.NameLaws.{draft_is_no_journal, draft_is_no_snapshot}
 use Rattle.mx_journal.specs.Fair.{IsFairEnd, counts}
-use Rattle.mx_journal.proofs.MomentLaws.{joined, weaker, kept, no_moments}
-use Rattle.mx_journal.proofs.ToldLaws.{told_both}
+use Rattle.mx_journal.proofs.DiskLaws.{only_one, first_one}
+use Rattle.mx_journal.proofs.MomentLaws.{joined_from, moments_may, moments_none, moments_one, no_moments}
 use Rattle.mx_top.specs.Settled.{LeavesNoOther}
 use Rattle.mx_top.proofs.TurnLaws.{whole, at_synced, at_removed}
 
@@ -45,10 +45,6 @@ any_first : {X : Type 0} (P : X → Type 0) (x y : X) (xs : List X) → (P y →
 any_first P x y xs weaker (zero, z, below, is, shown) = (zero, x, omega arith, refl, weaker (subst P (sym is) shown))
 any_first P x y xs weaker (suc k, z, below, is, shown) = (suc k, z, below, is, shown)
 
-any_more : {X : Type 0} (P : X → Type 0) (x : X) (xs : List X) → Any P (x ∷ []) → Any P (x ∷ xs)
-any_more P x xs (zero, z, below, is, shown) = (zero, z, omega arith, is, shown)
-any_more P x xs (suc k, z, below, is, shown) = absurd (omega (arith, below))
-
 pub synced_leaves : (name : List ℕ) (disk : Disk) → LeavesNoOther disk (file_synced name disk)
 synced_leaves name disk image fair q counted =
     any_first (λ was. Leaves IsFairEnd was (finite.get image q)) (finite.get disk.now q) (finite.get (file_synced name disk).now q)
@@ -67,8 +63,9 @@ synced_leaves name disk image fair q counted =
 pub names_leave : (disk : Disk) → LeavesNoOther disk (names_synced disk)
 names_leave disk image fair q counted =
     let left = λ (was : Option File). Leaves IsFairEnd was (finite.get image q) in
-    any_more left (finite.get disk.now q) (or_none (finite.get disk.older q))
-    (subst (λ files. Any left (finite.get disk.now q ∷ or_none files)) (get-empty (slice_cmp nat_cmp) q) (fair q counted))
+    first_one left (finite.get disk.now q) (or_none (finite.get disk.older q))
+    (only_one left (finite.get disk.now q)
+    (subst (λ files. Any left (finite.get disk.now q ∷ or_none files)) (get-empty (slice_cmp nat_cmp) q) (fair q counted)))
 
 draft_counts_not : (name : List ℕ) → is_draft name ≡ true → counts name ≡ false
 draft_counts_not name draft = ap (λ b. b || is_snapshot name) (draft_is_no_journal name draft) ∙ draft_is_no_snapshot name draft
@@ -101,34 +98,18 @@ nothing_left states = no_moments LeavesNoOther LeavesNoOther states
 
 -- one call, and then another one
 pub left_then : (old middle new : Option (List Disk)) → LeaveNoOther old middle → LeaveNoOther middle new → LeaveNoOther old new
-left_then None middle new one two = tt
-left_then (Some []) middle new one two = tt
-left_then (Some (disk ∷ past)) middle new one two =
-    joined (LeavesNoOther disk) LeavesNoOther (Some (disk ∷ past)) middle new one
-    (told_both middle
-    (λ last before reached more. weaker (λ next. leaves_then disk last next reached) (λ older newer left step. step) new last before more)
-    (kept (LeavesNoOther disk) LeavesNoOther (LeavesNoOther disk) (λ older newer step reached. leaves_then disk older newer reached step) middle disk past one
-    (leaves_itself disk))
-    two)
-
-stayed_leaves : (new : Option (List Disk)) (disk : Disk) (past : List Disk) → Stayed new disk past → Moments (LeavesNoOther disk) LeavesNoOther new disk past
-stayed_leaves new disk past is = record { since = []; told = is; each = tt }
-
-became_leaves : (new : Option (List Disk)) (next disk : Disk) (past : List Disk) → LeavesNoOther disk next → Became new next disk past
-    → Moments (LeavesNoOther disk) LeavesNoOther new disk past
-became_leaves new next disk past leaves is = record { since = next ∷ []; told = is; each = (leaves, leaves, tt) }
+left_then old middle new = joined_from LeavesNoOther leaves_itself leaves_then old middle new
 
 pub makes_leaves : {T E : Type 0} (change : Disk → Disk) → ((disk : Disk) → LeavesNoOther disk (change disk)) → (old new : Option (List Disk))
     (result : Result T E) → Makes change old new result → LeaveNoOther old new
 makes_leaves change leaves None new result makes = tt
 makes_leaves change leaves (Some []) new result makes = tt
-makes_leaves change leaves (Some (disk ∷ past)) new (Ok value) became = became_leaves new (change disk) disk past (leaves disk) became
-makes_leaves change leaves (Some (disk ∷ past)) new (Err error) stayed = stayed_leaves new disk past stayed
+makes_leaves change leaves (Some (disk ∷ past)) new (Ok value) became = moments_one _ _ (change disk) new disk past (leaves disk) (leaves disk) became
+makes_leaves change leaves (Some (disk ∷ past)) new (Err error) stayed = moments_none _ _ new disk past stayed
 
 pub may_make_leaves : {T E : Type 0} (change : Disk → Disk) → ((disk : Disk) → LeavesNoOther disk (change disk)) → (old new : Option (List Disk))
     (result : Result T E) → MayMake change old new result → LeaveNoOther old new
 may_make_leaves change leaves None new result makes = tt
 may_make_leaves change leaves (Some []) new result makes = tt
-may_make_leaves change leaves (Some (disk ∷ past)) new (Ok value) became = became_leaves new (change disk) disk past (leaves disk) became
-may_make_leaves change leaves (Some (disk ∷ past)) new (Err error) (inl stayed) = stayed_leaves new disk past stayed
-may_make_leaves change leaves (Some (disk ∷ past)) new (Err error) (inr became) = became_leaves new (change disk) disk past (leaves disk) became
+may_make_leaves change leaves (Some (disk ∷ past)) new (Ok value) became = moments_one _ _ (change disk) new disk past (leaves disk) (leaves disk) became
+may_make_leaves change leaves (Some (disk ∷ past)) new (Err error) made = moments_may _ _ (change disk) new disk past (leaves disk) (leaves disk) made

@@ -1,6 +1,5 @@
 mod PacketLaws
 mod JobLaws
-mod DiskLaws
 mod ReadyLaws
 mod StepLaws
 mod UnitLaws
@@ -29,3 +28,4 @@ mod ServingLaws
 mod KeepLaws
 mod BreakLaws
 mod RunLaws
+mod AgainLaws

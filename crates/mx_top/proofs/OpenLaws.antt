@@ -1,5 +1,5 @@
 -- A directory that was settled, and the journal that was begun in it.
-use Rattle.std.proofs.Common.{◌≡◌, ℕ, zero, suc, Bool, true, false, List, [], ◌∷◌, length, sum, take, Any, Option, Some, None, is_some, IsSome, Result, Ok, Err, refl, sym, ap, ◌∙◌, subst, ◌⊎◌, inl, inr, arith}
+use Rattle.std.proofs.Common.{◌≡◌, ℕ, Bool, true, false, List, [], ◌∷◌, length, sum, take, Any, Option, Some, None, is_some, IsSome, Result, Ok, Err, refl, sym, ap, ◌∙◌, subst, ◌⊎◌, inl, inr}
 use Rattle.std.specs.Prelude.{IfSome, IfOk, if◌then◌else◌}
 use Rattle.std.specs.Option.{option_map, unwrap_or}
 use Rattle.std.specs.Ordering.{nat_cmp}
@@ -19,7 +19,8 @@ use Rattle.mx_journal.specs.declared.journal.Journal.{Journal}
 use Rattle.mx_journal.specs.Written.{IsWritten, IsNow, IsNewest, Created, name_of, draft_name_of}
 use Rattle.mx_top.specs.Settled.{Settled}
 use Rattle.mx_journal.specs.Written.{Waits}
-use Rattle.mx_journal.proofs.ToldLaws.{told_weaker, told_both, where_told}
+use Rattle.mx_journal.proofs.DiskLaws.{only_one}
+use Rattle.mx_journal.proofs.ToldLaws.{told_weaker, told_both, told_now}
 use Rattle.mx_engine.specs.declared.engine.Engine.{Engine}
 use Rattle.mx_engine.specs.Standing.{EngineStandsFor}
 use Rattle.mx_top.specs.declared.replaying.Reached as memory
@@ -82,7 +83,7 @@ synced_whole (Some was) file is =
     let same : on_disk was.bytes ≡ file = cc in
     subst (λ (f : File). f.synced ≡ length f.bytes) same refl
 
-none_older : (disk : Disk) (name : List ℕ) → disk.older ≡ finite.empty → finite.get disk.older name ≡ None
+pub none_older : (disk : Disk) (name : List ℕ) → disk.older ≡ finite.empty → finite.get disk.older name ≡ None
 none_older disk name older = ap (λ names. finite.get names name) older ∙ get-empty (slice_cmp nat_cmp) name
 
 pub settled_on_disk : (before after : Disk) → Settled before after → AllOnDisk after
@@ -93,16 +94,12 @@ settled_on_disk before after settled name file journal found = (
 
 -- A journal begun in it.
 
-only_now : (found : Option File) → Any IsSome (found ∷ []) → is_some found ≡ true
-only_now found (zero, other, below, same, some) = ap is_some same ∙ some
-only_now found (suc k, other, below, same, some) = absurd (omega (arith, below))
-
 -- no file is newer, now or after a crash
 pub is_newest : (disk : Disk) (reached : Reached) (name : List ℕ) → name ≡ journal_name (sum reached.clock) → IsDirectoryState disk.now (Ok reached)
     → disk.older ≡ finite.empty → IsNewest name disk
 is_newest disk reached name named is older other kind any later =
     let now : is_some (finite.get disk.now other) ≡ true =
-    only_now (finite.get disk.now other) (subst (λ names. Any IsSome (finite.get disk.now other ∷ or_none names)) (none_older disk other older) any) in
+    only_one IsSome (finite.get disk.now other) (subst (λ names. Any IsSome (finite.get disk.now other ∷ or_none names)) (none_older disk other older) any) in
     newest_now disk.now reached is other kind now (ap (λ n. slice_cmp nat_cmp (take 20 other) (take 20 n)) (sym named) ∙ later)
 
 no_draft : (q draft : List ℕ) → is_journal draft ≡ false → is_snapshot draft ≡ false → (is_journal q ≡ true) ⊎ (is_snapshot q ≡ true) → same_bytes q draft ≡ false
@@ -148,16 +145,6 @@ begun_continues seed head before now reached sound clock is made =
     ∙ ap (λ name. if same_bytes q name then Some (on_disk (header_of head)) else finite.get before.now q) (sym named)))
 
 -- The same where the directory tells its files.
-
-now_told : (states : Option (List Disk)) (Q : Disk → Type 0) → IsNow states Q → IfTold states (λ disk past. Q disk)
-now_told states Q (now, past, is, shown) = rw is shown
-
-told_now : (before after : Option (List Disk)) (Q : Disk → Type 0) → ToldAlike before after → IfTold before (λ disk past. IsNow after Q)
-    → IfTold after (λ disk past. Q disk)
-told_now before after Q alike known = where_told after (λ disk past. Q disk) (λ disk past told.
-    let was = alike.1 (disk, past, told) in
-    let now : IsNow after Q = subst (λ states. IfTold states (λ d p. IsNow after Q)) was.2 known in
-    subst (λ states. IfTold states (λ d p. Q d)) told (now_told after Q now))
 
 pub settled_at : (memory : memory.Reached) (found : Reached) (before middle after : Option (List Disk)) → StandsFor memory found
     → IfTold before (λ disk past. IsDirectoryState disk.now (Ok found)) → middle ≡ before → ToldAlike middle after

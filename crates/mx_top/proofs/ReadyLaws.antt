@@ -22,11 +22,11 @@ use Rattle.mx_engine.specs.declared.engine.Engine.{Engine}
 use Rattle.mx_engine.specs.Standing.{EngineStandsFor}
 use Rattle.mx_journal.specs.declared.journal.Journal.{Journal}
 use Rattle.mx_journal.specs.Written.{IsWritten, Waits, IsNow, SameOthers, file_text, name_of}
+use Rattle.mx_journal.proofs.ToldLaws.{told_both, told_now}
 use Rattle.mx_top.specs.Asks.{Job}
 use Rattle.mx_top.specs.Units.{named}
 use Rattle.mx_top.specs.Starts.{AllOnDisk}
 use Rattle.mx_top.specs.Ready.{Behind, Ready, Replied, AllComeNext, step_of, taken_of}
-use Rattle.mx_top.proofs.DiskLaws.{told_both, told_after}
 
 -- a journal's file has these transactions, behind the files that stand for the base; all journals and names are on the disk
 abbrev pub IsOnDisk : Base → Journal → List Tx → Disk → Type 0
@@ -170,8 +170,8 @@ module _ (base : Base) (old pushed written : Journal) (before after : Option (Li
 
   pub wrote_told : IfTold before (λ disk past. IsOnDisk base old done disk) → IfTold after (λ now past. IsOnDisk base written (done ++ txs) now)
   wrote_told was =
-      told_after before after (IsOnDisk base written (done ++ txs)) wrote_out.alike
-      (told_both before _ _ _ (λ disk past. wrote_one disk) was (wrote_out.wrote done txs))
+      told_now before after (IsOnDisk base written (done ++ txs)) wrote_out.alike
+      (told_both before (λ disk past. wrote_one disk) was (wrote_out.wrote done txs))
 
 -- once what the engine handed out is written and confirmed, all that was committed is on the disk
 pub ready_again : (base : Base) (history : History) (engine confirmed : Engine) (old pushed written : Journal) (before after : Option (List Disk))

@@ -1,5 +1,5 @@
 -- What a crash leaves of a directory that was settled, and of one in which a journal is being begun.
-use Rattle.std.proofs.Common.{◌≡◌, ℕ, zero, suc, ◌+◌, ◌≤◌, Bool, true, false, ◌||◌, List, [], ◌∷◌, ◌++◌, length, sum, take, drop, Any, Option, Some, None, is_some, Result, Ok, Err, refl, sym, ap, ◌∙◌, subst, ◌⊎◌, inl, inr, append_assoc, arith}
+use Rattle.std.proofs.Common.{◌≡◌, ℕ, ◌+◌, ◌≤◌, Bool, true, false, ◌||◌, List, [], ◌∷◌, ◌++◌, length, sum, take, drop, Any, Option, Some, None, is_some, Result, Ok, Err, refl, sym, ap, ◌∙◌, subst, ◌⊎◌, inl, inr, append_assoc, arith}
 use Rattle.std.specs.Prelude.{IfSome, if◌then◌else◌}
 use Rattle.std.specs.List.{filter, AllByRecursion}
 use Rattle.std.proofs.lemmas.List.{append-nil, take_all, drop-append-le, length-take, length-append}
@@ -11,7 +11,7 @@ use Rattle.std.specs.FinMap.{get-empty}
 use mathlib.Core.List.{IsPrefix}
 use Rattle.mx_msgpack.proofs.ReaderLaws.{all_from-append}
 use Rattle.mx_outside.specs.Disks.{Disk, File, Files, IfTold, ToldAlike, Leaves, or_none}
-use Rattle.mx_outside.specs.Moments.{Moments, Each, newest}
+use Rattle.mx_outside.specs.Moments.{Moments}
 use Rattle.mx_xlog.specs.declared.head.Head.{Head}
 use Rattle.mx_xlog.specs.Headers.{header_of}
 use Rattle.mx_xlog.specs.Reading.{block_at, blocks_of}
@@ -31,8 +31,9 @@ use Rattle.mx_model.proofs.OnceLaws.{one_state}
 use Rattle.mx_journal.specs.Fair.{IsFair, IsFairEnd, counts}
 use Rattle.mx_journal.specs.Crashes.{HasBegun, MayBegin, SameBut}
 use Rattle.mx_journal.specs.Written.{name_of}
-use Rattle.mx_journal.proofs.ToldLaws.{told_both, where_told, told_weaker}
-use Rattle.mx_journal.proofs.MomentLaws.{no_moments, weaker}
+use Rattle.mx_journal.proofs.DiskLaws.{only_one}
+use Rattle.mx_journal.proofs.ToldLaws.{told_both, told_then, told_weaker, where_told}
+use Rattle.mx_journal.proofs.MomentLaws.{no_moments, weaker, weaker_from}
 use Rattle.mx_top.specs.declared.replaying.Reached as memory
 use Rattle.mx_top.specs.Starts.{AllOnDisk}
 use Rattle.mx_top.specs.Replayed.{IsSettledAt}
@@ -78,10 +79,6 @@ reads_again file read end whole (header, blocks) fair =
     )
 
 -- ---- the files of a settled directory
-
-only_one : {X : Type 0} (P : X → Type 0) (x : X) → Any P (x ∷ []) → P x
-only_one P x (zero, y, below, is, shown) = subst P (sym is) shown
-only_one P x (suc k, y, below, is, shown) = absurd (omega (arith, below))
 
 there_again : (was image : Option File) → Leaves IsFairEnd was image → is_some image ≡ is_some was
 there_again None image is = ap is_some is
@@ -210,21 +207,7 @@ module _ (disk : Disk) (found : Reached) (whole : AllOnDisk disk) (settled : dis
 
 -- ---- the states while a journal is begun
 
--- a call whose states have less, by steps that are weaker between two of them
-stronger : {P Q : Disk → Type 0} {R S : Disk → Disk → Type 0} → ((disk : Disk) → P disk → Q disk)
-    → ((older newer : Disk) → P older → P newer → R older newer → S older newer) → (new : Option (List Disk)) (start : Disk) (past : List Disk) → P start
-    → Moments P R new start past → Moments Q S new start past
-stronger {P} {Q} {R} {S} states steps new start past first m = record { since = m.since; told = m.told; each = each m.since m.each }
-  where
-    before : (since : List Disk) → Each P R since start → P (newest since start)
-    before [] all = first
-    before (disk ∷ since) all = all.0
-
-    each : (since : List Disk) → Each P R since start → Each Q S since start
-    each [] all = tt
-    each (disk ∷ since) all = (states disk all.0, steps (newest since start) disk (before since all.2) all.0 all.1, each since all.2)
-
-all_taken : (earlier : List Tx) → take (length earlier) earlier ≡ earlier
+pub all_taken : (earlier : List Tx) → take (length earlier) earlier ≡ earlier
 all_taken earlier = take_all (length earlier) earlier (omega arith)
 
 module _ (earlier transactions : List Tx) (front : IsPrefix earlier transactions) (follow : FollowFromNew transactions) where
@@ -271,16 +254,15 @@ module _ (earlier transactions : List Tx) (front : IsPrefix earlier transactions
       from_start disk past settled known =
           let all = all_stand disk found settled.1 settled.2 settled.0 head first (clock ∙ s.stands.clock) kind
           (ids ∙ ap (unwrap_or memory.ids) its ∙ kept_ids first memory.ids found.ids s.stands.ids) earlier known.0 in
-          stronger {P = MayBegin head disk} (λ next may. all_survive next (all next may))
-          (λ older newer one other step. no_fewer older newer (all older one) (all newer other) head step) new disk past (λ image fair. inl fair) known.1
+          weaker_from (λ next may. (all next may, all_survive next (all next may)))
+          (λ older newer before may step. no_fewer older newer before (all newer may) head step) new disk past (all disk (λ image fair. inl fair)) known.1
 
 -- ---- the states while a directory is opened
 
 -- what doesn't speak of the disk is known after a call as before it
 told_across : (X : Type 0) (before after : Option (List Disk)) → ToldAlike before after → IfTold before (λ disk past. X) → IfTold after (λ disk past. X)
-told_across X before after alike known = where_told after (λ disk past. X) (λ disk past told.
-    let was = alike.1 (disk, past, told) in
-    subst (λ states. IfTold states (λ d p. X)) was.2 known)
+told_across X before after alike known = told_then before after (λ disk past. X) alike
+    (told_weaker before (λ disk past is. where_told after (λ disk past. X) (λ disk past told. is)) known)
 
 -- the directory stands for the same transactions when it is settled
 pub settled_after : (earlier : List Tx) (memory : memory.Reached) (found : Reached) (old read middle after : Option (List Disk)) → read ≡ old → middle ≡ read

@@ -1,24 +1,24 @@
 -- What a crash leaves during a run, from its opening on.
-use Rattle.std.proofs.Common.{◌≡◌, ℕ, List, [], ◌∷◌, ◌++◌, length, refl, sym, ap, ◌∙◌, subst, inl, inr}
-use Rattle.std.specs.Prelude.{Option, Some, None, Ok, IsSomeAnd}
+use Rattle.std.proofs.Common.{◌≡◌, ℕ, List, [], ◌∷◌, ◌++◌, length, refl, sym, ap, ◌∙◌, subst, inr}
+use Rattle.std.specs.Prelude.{Option, Some, None, IsSomeAnd}
 use Rattle.std.proofs.lemmas.List.{append-nil}
 use mathlib.Core.List.{IsPrefix}
-use Rattle.mx_outside.specs.Disks.{Disk, IfTold, IsTold, ToldAlike}
+use Rattle.mx_outside.specs.Disks.{Disk, IfTold, ToldAlike}
 use Rattle.mx_outside.specs.Moments.{Moments}
 use Rattle.mx_model.specs.declared.tx.Tx.{Tx}
 use Rattle.mx_model.specs.State.{first_state}
-use Rattle.mx_model.specs.Files.{AllFollow, IsDirectoryState, Reached, nothing_yet}
+use Rattle.mx_model.specs.Files.{AllFollow, Reached, nothing_yet}
 use Rattle.mx_model.specs.Histories.{Base, History, IsLegal, journal_of}
-use Rattle.mx_model.specs.Transactions.{state_after, clock_after}
+use Rattle.mx_model.specs.Transactions.{clock_after}
 use Rattle.mx_model.proofs.CommitLaws.{all_follow-append, commits_follow}
 use Rattle.mx_model.proofs.OnceLaws.{one_state}
 use Rattle.mx_journal.proofs.MomentLaws.{no_moments, joined}
+use Rattle.mx_journal.proofs.ToldLaws.{told_chain, told_then, where_told}
 use Rattle.mx_top.specs.Units.{units_of, asks_of}
 use Rattle.mx_top.specs.Starts.{Start, Begins, base_of}
 use Rattle.mx_top.specs.Crashes.{Survive, NoFewerSurvive, FollowFromNew, Recovers, ComeTo, Extend, Lasts, Keep}
 use Rattle.mx_top.specs.Progress.{BrokeOff}
 use Rattle.mx_top.specs.Runs.{CrashSeen, GateSeen}
-use Rattle.mx_top.proofs.DiskLaws.{told_nothing}
 
 -- what an opening does, told for all that may be committed after it
 abbrev pub Opens : List Tx → (old new : Option (List Disk)) → Type 0
@@ -154,20 +154,13 @@ gate_seen start seed input before (Some after) earlier old middle new begins rec
       keep = keep old begins recovers alike (b.later ++ (b.more ++ broke.trace.history)) (b.more ++ broke.trace.history) b.legal b.lasts b.keep;
     })
   where
-    untold : (states : Option (List Disk)) (P : Disk → List Disk → Type 0) → ToldAlike states middle → ToldAlike middle new → ¬ IsTold states → IfTold new P
-    untold states P first then none = told_nothing new P (λ told. none (first.1 (then.1 told)))
-
     keep : (old : Option (List Disk)) → Begins start seed old → Recovers earlier old → ToldAlike old middle → (history first : History)
         → IsLegal start.base history → Lasts start.base history middle new → Keep start.base history first new
         → IfTold new (λ disk past. Survive (earlier ++ journal_of start.base history) (length (earlier ++ journal_of start.base first)) disk)
-    keep None begins recovers alike history first legal lasts kept = untold None _ alike lasts.told by_none
-      where
-        by_none : IsTold None → ⊥
-        by_none (disk, past, is) = absurd cc
-    keep (Some []) begins recovers alike history first legal lasts kept = untold (Some []) _ alike lasts.told by_none
-      where
-        by_none : IsTold (Some []) → ⊥
-        by_none (disk, past, is) = absurd cc
-    keep (Some (disk ∷ past)) begins recovers alike history first legal lasts kept =
+    keep old begins recovers alike history first legal lasts kept =
+        told_then old new (λ disk past. Survive (earlier ++ journal_of start.base history) (length (earlier ++ journal_of start.base first)) disk)
+        (told_chain old middle new alike lasts.told)
+        (where_told old _ (λ disk past told.
         kept (earlier ++ journal_of start.base history)
-        (extends earlier start.base history (comes start seed earlier disk past begins recovers) recovers.follow legal)
+        (extends earlier start.base history
+        (comes start seed earlier disk past (subst (Begins start seed) told begins) (subst (Recovers earlier) told recovers)) recovers.follow legal)))

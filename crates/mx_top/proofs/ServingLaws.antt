@@ -9,7 +9,7 @@ use Rattle.std.specs.Cmp.Lexicographic.{slice_cmp, bytes_decides}
 use Rattle.std.proofs.lemmas.List.{append_assoc, append-nil, drop_at, drop-append-le, length-append, length-take, take_all, take_at, take-append-drop, take-append-le}
 use mathlib.Core.List.{IsPrefix}
 use Rattle.mx_outside.specs.Disks.{Disk, File, Files, IfTold, Leaves, on_disk, or_none, ToldAlike}
-use Rattle.mx_outside.specs.Moments.{Moments, Each, newest}
+use Rattle.mx_outside.specs.Moments.{Moments}
 use Rattle.mx_xlog.specs.declared.head.Head.{Head}
 use Rattle.mx_xlog.specs.Headers.{IsHeader, header_of}
 use Rattle.mx_xlog.specs.Reading.{blocks_of}
@@ -32,25 +32,23 @@ use Rattle.mx_journal.specs.declared.journal.Journal.{Journal}
 use Rattle.mx_journal.specs.Fair.{IsFairEnd, IsFair, counts}
 use Rattle.mx_journal.specs.Crashes.{HasFile, HasAtLeast, NoFewer, read_of}
 use Rattle.mx_journal.specs.Written.{IsWritten, Waits, SameOthers, blocks_text, file_text, name_of}
+use Rattle.mx_journal.proofs.DiskLaws.{only_one}
 use Rattle.mx_journal.proofs.FairLaws.{front_of_blocks}
+use Rattle.mx_journal.proofs.MomentLaws.{weaker_from}
+use Rattle.mx_journal.proofs.ToldLaws.{told_weaker, told_both}
 use Rattle.mx_top.specs.Starts.{AllOnDisk}
 use Rattle.mx_top.specs.Ready.{Behind, Ready, taken_of}
 use Rattle.mx_top.specs.Crashes.{StandsAfter, Survive, NoFewerSurvive, FollowFromNew, ComeTo, Extend, Lasts}
 use Rattle.mx_top.proofs.CountLaws.{counted_once}
-use Rattle.mx_top.proofs.DiskLaws.{told_weaker, told_both}
 use Rattle.mx_top.proofs.ReadyLaws.{IsOnDisk}
 
 -- ---- a file in what a crash leaves
-
-any_one : (P : Option File → Type 0) (was : Option File) → Any P (was ∷ []) → P was
-any_one P was (zero, found, within, is, holds) = subst P (sym is) holds
-any_one P was (suc k, found, within, is, holds) = absurd (omega arith)
 
 -- a name that is on the disk is what it is now
 fair_now : (now : Disk) (image : Files) (name : List ℕ) → finite.get now.older name ≡ None → IsFair now image → counts name ≡ true
     → Leaves IsFairEnd (finite.get now.now name) (finite.get image name)
 fair_now now image name settled fair is =
-    any_one (λ was. Leaves IsFairEnd was (finite.get image name)) (finite.get now.now name)
+    only_one (λ was. Leaves IsFairEnd was (finite.get image name)) (finite.get now.now name)
     (subst (λ older. Any (λ was. Leaves IsFairEnd was (finite.get image name)) (finite.get now.now name ∷ or_none older)) settled (fair name is))
 
 leaves_some : (was image : Option File) → Leaves IsFairEnd was image → is_some image ≡ is_some was
@@ -240,7 +238,7 @@ has_written journal disk txs waits written image fair =
 
 -- ---- what the directory stands for
 
-all_follow-take : (now : State) (clock : List ℕ) (txs : List Tx) (count : ℕ) → AllFollow now clock txs → AllFollow now clock (take count txs)
+pub all_follow-take : (now : State) (clock : List ℕ) (txs : List Tx) (count : ℕ) → AllFollow now clock txs → AllFollow now clock (take count txs)
 all_follow-take now clock txs zero all = tt
 all_follow-take now clock [] (suc count) all = tt
 all_follow-take now clock (tx ∷ txs) (suc count) all =
@@ -346,20 +344,9 @@ module _ (base : Base) (head : Head) (txs earlier transactions : List Tx) (disk 
   pub lasting : (least : ℕ) (new : Option (List Disk)) (past : List Disk) → HasAtLeast head txs least disk
       → Moments (IsMoment head txs least disk) (NoFewer head txs) new disk past
       → Moments (Survive transactions 0) (NoFewerSurvive transactions) new disk past
-  lasting least new past has m = record { since = m.since; told = m.told; each = each m.since m.each }
-    where
-      before : (since : List Disk) → Each (IsMoment head txs least disk) (NoFewer head txs) since disk → IsMoment head txs least disk (newest since disk)
-      before [] all = (as_it_was (name_of head) disk, has)
-      before (now ∷ since) all = all.0
-
-      each : (since : List Disk) → Each (IsMoment head txs least disk) (NoFewer head txs) since disk
-          → Each (Survive transactions 0) (NoFewerSurvive transactions) since disk
-      each [] all = tt
-      each (now ∷ since) all = (
-        survive_less now (length earlier + least) 0 (omega arith) (survives now least all.0),
-        no_fewer_survive (newest since disk) now least (before since all.2) all.0 all.1,
-        each since all.2,
-      )
+  lasting least new past has =
+      weaker_from (λ now moment. (moment, survive_less now (length earlier + least) 0 (omega arith) (survives now least moment)))
+      (λ older newer before after. no_fewer_survive older newer least before after) new disk past (as_it_was (name_of head) disk, has)
 
 -- ---- a server
 
@@ -394,7 +381,7 @@ pub behind_keeps : (base : Base) (history : History) (engine : Engine) (journal 
     → IfTold states (λ disk past. Survive transactions (length (all.earlier ++ taken_of base history)) disk)
 behind_keeps base history engine journal states behind transactions all =
     let taken = taken_of base history in
-    told_weaker states _ _ (λ disk past on_disk.
+    told_weaker states (λ disk past on_disk.
     subst (λ (least : ℕ). Survive transactions least disk) (sym (length-append all.earlier taken))
     (survives base journal.head (journal_of base history) all.earlier transactions disk
     (served_by base history engine journal states disk behind on_disk transactions all) disk (length taken)
@@ -410,7 +397,7 @@ pub call_lasts : (base : Base) (history : History) (engine : Engine) (journal : 
 call_lasts base history engine journal old new behind alike moments = record {
   told = alike;
   moments = λ transactions all.
-      told_both old _ _ _ (λ disk past on_disk shown.
+      told_both old (λ disk past on_disk shown.
       lasting base journal.head (journal_of base history) all.earlier transactions disk
       (served_by base history engine journal old disk behind on_disk transactions all) (length (taken_of base history)) new past
       (has_taken base history journal disk on_disk.0) (shown on_disk.0))
@@ -429,7 +416,7 @@ write_out_lasts base history engine journal pushed old new txs upto behind alike
     let all : taken ++ txs ≡ journal_of base history =
     ap (λ rest. taken ++ rest) legal.1.0 ∙ take-append-drop (ledger_of base history).taken (journal_of base history) in
     call_lasts base history engine journal old new behind alike
-    (told_weaker old _ _ (λ disk past shown written.
+    (told_weaker old (λ disk past shown written.
     subst (λ l. Moments (IsMoment journal.head l (length taken) disk) (NoFewer journal.head l) new disk past) all
     (subst (λ h. Moments (IsMoment h (taken ++ txs) (length taken) disk) (NoFewer h (taken ++ txs)) new disk past) head
     (shown (keeps disk taken written) waits)))
@@ -446,6 +433,6 @@ end_lasts base history engine journal old new ready alike moments =
     let all : taken ≡ journal_of base history =
     ap (λ n. take n (journal_of base history)) ready.taken ∙ take_all (length (journal_of base history)) (journal_of base history) (omega arith) in
     call_lasts base history engine journal old new ready.behind alike
-    (told_weaker old _ _ (λ disk past shown written.
+    (told_weaker old (λ disk past shown written.
     subst (λ l. Moments (IsMoment journal.head l (length taken) disk) (NoFewer journal.head l) new disk past) all (shown written))
     (moments taken))

@@ -7,7 +7,7 @@ use mathlib.Core.List.{IsPrefix}
 use Rattle.mx_outside.specs.Disks.{Disk}
 use Rattle.mx_model.specs.declared.reply.Reply.{Reply}
 use Rattle.mx_model.specs.declared.txn_name.TxnName.{TxnName}
-use Rattle.mx_model.specs.Histories.{Base, History, Asked, Took, Confirmed, asks_in}
+use Rattle.mx_model.specs.Histories.{Base, History, Asked, asks_in}
 use Rattle.mx_model.specs.Requests.{Ask}
 use Rattle.mx_model.specs.ReplyStream.{reply_packet, reply_packets}
 use Rattle.mx_engine.specs.declared.engine.Engine.{Engine}

@@ -7,6 +7,7 @@ mod file_names;
 mod greeting;
 mod intake;
 mod jobs;
+mod laws;
 mod loading;
 mod opening;
 mod opening_fault;
@@ -23,9 +24,12 @@ mod trace;
 mod units;
 mod words;
 
+pub use laws::{an_empty_directory_recovers, what_a_crash_leaves_recovers};
 pub use status::Status;
 pub use top_call::run;
 pub use words::directory_word;
 
+#[cfg(test)]
+mod crash_tests;
 #[cfg(test)]
 mod tests;

@@ -1,7 +1,7 @@
-use Rattle.std.proofs.Common.{[], ◌∷◌, ◌++◌, refl}
+use Rattle.std.proofs.Common.{[], ◌∷◌}
 use Rattle.std.proofs.lemmas.Result.{on_ok_weaker}
 use Rattle.mx_top.specs.Views.{job_view}
-use Rattle.mx_model.specs.Histories.{Took, Confirmed, asks_in}
+use Rattle.mx_model.specs.Histories.{Took, Confirmed}
 use Rattle.mx_top.specs.Units.{named}
 use Rattle.mx_top.specs.Ready.{step_of}
 use Rattle.mx_top.proofs.KeepLaws.{ready_keeps}

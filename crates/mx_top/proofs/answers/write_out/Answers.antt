@@ -1,8 +1,8 @@
 use Rattle.std.proofs.Common.{[], ◌∷◌, refl, sym, subst, arith}
 use Rattle.mx_model.specs.Histories.{Took}
 use Rattle.mx_journal.specs.Written.{Waits}
+use Rattle.mx_journal.proofs.ToldLaws.{told_weaker}
 use Rattle.mx_top.specs.Ready.{AllComeNext}
-use Rattle.mx_top.proofs.DiskLaws.{told_weaker}
 use Rattle.mx_top.proofs.ReadyLaws.{pending_come_next, ready_again}
 use Rattle.mx_top.proofs.ServingLaws.{write_out_lasts}
 use Rattle.mx_top.proofs.answers.write_out.Goals as goal
@@ -18,7 +18,7 @@ push_all-requires g c =
 pub write_out-requires : goal.write_out-requires
 write_out-requires g c =
     let behind = c.requires.behind in
-    told_weaker (g.D.Dir.states c.args.dir.now) _ _ (λ disk past was. (_, c.push_all.ensures.written disk _ was.0)) behind.2.written
+    told_weaker (g.D.Dir.states c.args.dir.now) (λ disk past was. (_, c.push_all.ensures.written disk _ was.0)) behind.2.written
 
 pub returns-clause-ready : goal.returns-clause-ready
 returns-clause-ready g c = λ base history behind.

@@ -1,8 +1,7 @@
 use Rattle.std.proofs.Common.{length, ◌∙◌}
 use Rattle.mx_journal.proofs.MomentLaws.{joined}
-use Rattle.mx_journal.proofs.ToldLaws.{told_chain}
+use Rattle.mx_journal.proofs.ToldLaws.{told_chain, told_same}
 use Rattle.mx_top.specs.Crashes.{Survive, NoFewerSurvive}
-use Rattle.mx_top.proofs.DiskLaws.{told_same}
 use Rattle.mx_top.proofs.OpenLaws.{settled_at, opens}
 use Rattle.mx_top.proofs.RecoveryLaws.{unchanged_survive, left_survive, settled_after, some_survive}
 use Rattle.mx_top.proofs.opening.open.Goals as goal

@@ -1,4 +1,4 @@
-use Rattle.std.proofs.Common.{◌≡◌, [], ◌∷◌, sym, ◌∙◌, subst}
+use Rattle.std.proofs.Common.{subst}
 use Rattle.mx_top.specs.Runs.{CrashSeen}
 use Rattle.mx_top.proofs.RunLaws.{unchanged_seen}
 use Rattle.mx_top.proofs.Told.{completes, only_one, same_one}

@@ -2,7 +2,6 @@ use Rattle.std.proofs.Common.{map, Some, sym, ap, ◌∙◌, subst}
 use Rattle.mx_top.specs.Ready.{Ready}
 use Rattle.mx_top.specs.Views.{job_view}
 use Rattle.mx_top.specs.Units.{asks_in_unit}
-use Rattle.mx_top.proofs.KeepLaws.{ready_keeps}
 use Rattle.mx_top.proofs.LastingLaws.{where_err}
 use Rattle.mx_top.proofs.OutputLaws.{took_empty, took_answered}
 use Rattle.mx_top.proofs.BreakLaws.{unit_untouched, unit_broken, unit_done}
