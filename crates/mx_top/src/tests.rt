@@ -10,7 +10,7 @@ const SEED: [u8; 32] = [
     0x10, 0x11, 0x12, 0x13, 0x14, 0x15, 0x16, 0x17, 0x18, 0x19, 0x1a, 0x1b, 0x1c, 0x1d, 0x1e, 0x1f,
 ];
 
-const GREETING: &[u8] = b"\
+pub(crate) const GREETING: &[u8] = b"\
 Tarantool 2.11.0 (Binary) 00010203-0405-4607-8809-0a0b0c0d0e0f \n\
 AAECAwQFBgcICQoLDA0ODxAREhMUFRYXGBkaGxwdHh8=                   \n";
 
@@ -24,33 +24,33 @@ const SELECT: &[u8] =
 
 /// What a run came to: its status as it is printed, its output, and its directory.
 #[derive(Drop)]
-struct Ran {
-    status: String,
-    output: Vec<u8>,
+pub(crate) struct Ran {
+    pub(crate) status: String,
+    pub(crate) output: Vec<u8>,
     dirs: Vec<MemoryDir>,
 }
 
 /// Which calls on source, sink and directory are to fail.
 #[derive(Clone, Copy)]
-struct Failing {
+pub(crate) struct Failing {
     reads: &'static [u64],
     writes: &'static [u64],
 }
 
 /// No call fails.
-const NONE: Failing = Failing {
+pub(crate) const NONE: Failing = Failing {
     reads: &[],
     writes: &[],
 };
 
 /// The directory that a run left.
-fn directory_of(ran: Ran) -> Result<MemoryDir, AllocError> {
+pub(crate) fn directory_of(ran: Ran) -> Result<MemoryDir, AllocError> {
     let mut dirs = ran.dirs;
     dirs.pop().ok_or(AllocError)
 }
 
 /// A run on these words and this input, with this directory.
-fn run_in(
+pub(crate) fn run_in(
     alloc: Global,
     dir: MemoryDir,
     words: &[&str],
@@ -87,7 +87,7 @@ fn run_on(
 }
 
 /// The bytes of a file, or none where it isn't there.
-fn file(alloc: Global, dir: &mut MemoryDir, name: &str) -> Result<Vec<u8>, DirFault> {
+pub(crate) fn file(alloc: Global, dir: &mut MemoryDir, name: &str) -> Result<Vec<u8>, DirFault> {
     match dir.has(alloc, name) {
         Ok(true) => load(alloc, dir, name),
         _ => Ok(Vec::new(alloc)),
@@ -95,7 +95,12 @@ fn file(alloc: Global, dir: &mut MemoryDir, name: &str) -> Result<Vec<u8>, DirFa
 }
 
 /// Puts bytes at the end of a file that is there.
-fn append(alloc: Global, dir: &mut MemoryDir, name: &str, bytes: &[u8]) -> Result<(), DirFault> {
+pub(crate) fn append(
+    alloc: Global,
+    dir: &mut MemoryDir,
+    name: &str,
+    bytes: &[u8],
+) -> Result<(), DirFault> {
     match dir.has(alloc, name) {
         Ok(true) => dir.append(alloc, name, bytes),
         _ => Err(DirFault::NoMemory),
@@ -103,7 +108,7 @@ fn append(alloc: Global, dir: &mut MemoryDir, name: &str, bytes: &[u8]) -> Resul
 }
 
 /// The parts, one after the other.
-fn joined(alloc: Global, parts: &[&[u8]]) -> Result<Vec<u8>, AllocError> {
+pub(crate) fn joined(alloc: Global, parts: &[&[u8]]) -> Result<Vec<u8>, AllocError> {
     let mut all = Vec::new(alloc);
     for part in parts {
         all.extend_from_slice(part)?;
@@ -112,19 +117,24 @@ fn joined(alloc: Global, parts: &[&[u8]]) -> Result<Vec<u8>, AllocError> {
 }
 
 /// A unit of input or of output: what stands before its length, then its length and its bytes.
-fn unit(alloc: Global, head: &[u8], parts: &[&[u8]]) -> Result<Vec<u8>, AllocError> {
+pub(crate) fn unit(alloc: Global, head: &[u8], parts: &[&[u8]]) -> Result<Vec<u8>, AllocError> {
     let bytes = joined(alloc, parts)?;
     let length = u32::try_from(bytes.len()).unwrap_or(0).to_be_bytes();
     joined(alloc, &[head, &length, &bytes])
 }
 
 /// A packet: its size in 32 bits, and then the parts.
-fn packet(alloc: Global, parts: &[&[u8]]) -> Result<Vec<u8>, AllocError> {
+pub(crate) fn packet(alloc: Global, parts: &[&[u8]]) -> Result<Vec<u8>, AllocError> {
     unit(alloc, b"\xce", parts)
 }
 
 /// A reply of this type to this sync.
-fn reply(alloc: Global, kind: u16, sync: u8, body: &[u8]) -> Result<Vec<u8>, AllocError> {
+pub(crate) fn reply(
+    alloc: Global,
+    kind: u16,
+    sync: u8,
+    body: &[u8],
+) -> Result<Vec<u8>, AllocError> {
     let [high, low] = kind.to_be_bytes();
     let header = [
         0x83, 0x00, 0xce, 0, 0, high, low, 0x01, 0xcf, 0, 0, 0, 0, 0, 0, 0, sync, 0x05, 0xce, 0, 0,
@@ -140,14 +150,14 @@ fn run_after(alloc: Global, good: &[u8], bad: &[u8]) -> Result<Ran, AllocError> 
 }
 
 /// A reply of one tuple.
-fn found(alloc: Global, sync: u8, tuple: &[u8]) -> Result<Vec<u8>, AllocError> {
+pub(crate) fn found(alloc: Global, sync: u8, tuple: &[u8]) -> Result<Vec<u8>, AllocError> {
     let body = joined(alloc, &[b"\x81\x30\xdd\x00\x00\x00\x01", tuple])?;
     reply(alloc, 0, sync, &body)
 }
 
-const ON_ONE: &[u8] = b"\x00\x00\x00\x00\x01";
+pub(crate) const ON_ONE: &[u8] = b"\x00\x00\x00\x00\x01";
 
-const TO_ONE: &[u8] = b"\x00\x00\x00\x01";
+pub(crate) const TO_ONE: &[u8] = b"\x00\x00\x00\x01";
 
 #[test]
 fn replace_then_select_is_exact(rt: HostRuntime) -> Result<(), Fail> {
@@ -381,24 +391,27 @@ fn malformed_units_are_told_at_their_beginning(rt: HostRuntime) -> Result<(), Fa
     Ok(())
 }
 
-const FIRST: &str = "00000000000000000000.xlog";
+pub(crate) const FIRST: &str = "00000000000000000000.xlog";
 
-const SECOND: &str = "00000000000000000001.xlog";
+pub(crate) const SECOND: &str = "00000000000000000001.xlog";
 
 /// The header of the first journal: the node's UUIDs are the seed's, and its replica id is 1.
-const HEADER: &[u8; 118] = b"XLOG\n0.13\nInstance: 00010203-0405-4607-8809-0a0b0c0d0e0f\n\
+pub(crate) const HEADER: &[u8; 118] =
+    b"XLOG\n0.13\nInstance: 00010203-0405-4607-8809-0a0b0c0d0e0f\n\
     ReplicaSet: 10111213-1415-4617-9819-1a1b1c1d1e1f\nVClock: {}\n\n";
 
 /// The header of the journal that begins behind one commit.
-const NEXT_HEADER: &[u8; 122] = b"XLOG\n0.13\nInstance: 00010203-0405-4607-8809-0a0b0c0d0e0f\n\
+pub(crate) const NEXT_HEADER: &[u8; 122] =
+    b"XLOG\n0.13\nInstance: 00010203-0405-4607-8809-0a0b0c0d0e0f\n\
     ReplicaSet: 10111213-1415-4617-9819-1a1b1c1d1e1f\nVClock: {1: 1}\n\n";
 
 /// The block of the REPLACE, as the first commit of replica 1.
-const BLOCK: &[u8; 36] = b"\xd5\xba\x0b\xab\xce\0\0\0\x11\0\xce\xa3\xd2\x78\x98\xa3\0\0\0\
+pub(crate) const BLOCK: &[u8; 36] =
+    b"\xd5\xba\x0b\xab\xce\0\0\0\x11\0\xce\xa3\xd2\x78\x98\xa3\0\0\0\
     \x83\x00\x03\x02\x01\x03\x01\x82\x10\xcd\x02\x00\x21\x92\x01\xa1a";
 
 /// The marker of a file's end.
-const END: &[u8; 4] = b"\xd5\x10\xad\xed";
+pub(crate) const END: &[u8; 4] = b"\xd5\x10\xad\xed";
 
 #[test]
 fn commits_are_found_by_the_next_run(rt: HostRuntime) -> Result<(), Fail> {
