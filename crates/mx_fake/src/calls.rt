@@ -1,6 +1,6 @@
 //! The calls of an object in memory, and which of them are to fail.
 
-ghost use Rattle.std.specs.Prelude.{◌≡◌, ◌≤◌};
+ghost use Rattle.std.specs.Prelude.{◌≡◌, ◌≤◌, OnOk};
 ghost use Rattle.mx_outside.specs.Causes.{HasCause, Rose};
 
 use mx_outside::Failed;
@@ -27,7 +27,8 @@ impl Calls {
 
     /// Counts a call, and fails where it is to fail.
     pub(crate) fn make(&mut self) -> Result<(), Failed>
-        ensures { HasCause self.old.faults self.new.faults result }
+        ensures cause { HasCause self.old.faults self.new.faults result }
+        ensures done { OnOk result (self.new.faults ≡ self.old.faults) }
     {
         self.made = self.made.saturating_add(1);
         if self.failing.contains(&self.made) {

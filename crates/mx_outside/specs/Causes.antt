@@ -1,5 +1,5 @@
 -- When a call on an object outside may answer that it failed.
-use Rattle.std.specs.Prelude.{ℕ, ◌+◌, ◌-◌, ◌^◌, ◌≤◌, min, Result, OnErr, IsErrOf}
+use Rattle.std.specs.Prelude.{◌≡◌, ℕ, ◌+◌, ◌-◌, ◌^◌, ◌≤◌, min, Result, OnOk, OnErr, IsErrOf}
 
 -- A count of faults rose. One that stands at its last value counts as risen.
 abbrev pub Rose : ℕ → ℕ → Type 0
@@ -10,7 +10,9 @@ pub record HasCause {T E : Type 0} (before now : ℕ) (result : Result T E) : Ty
   pub later : before ≤ now
   pub failed : OnErr result (Rose before now)
 
--- The same where a call may also fail for want of memory: only this one failure tells that the count rose.
+-- The same where a call may also fail for want of memory: only this one failure tells that the count rose. Where the call
+-- is done, nothing failed meanwhile.
 pub record HasCauseOf {T E : Type 0} (failure : E) (before now : ℕ) (result : Result T E) : Type 0 where
   pub later : before ≤ now
   pub failed : IsErrOf result failure → Rose before now
+  pub done : OnOk result (now ≡ before)

@@ -12,6 +12,7 @@ loop-at-preserved g c =
     let begins : c.len-from.result ≡ c.loop-at.at = from ∙ long in
     record {
       later = omega (arith, c.in_ok-count.ensures.cause.later);
+      quiet = c.in_ok-count.ensures.cause.done ∙ c.loop-at.invariant.quiet;
       states = c.in_ok-count.ensures.states ∙ c.loop-at.invariant.states;
       within = omega (arith, c.in_ok-count.ensures.bound, c.in_ok-count.ensures.size);
       long = omega (arith, c.in_ok-count.ensures.bound, c.in_ok-count.ensures.size);

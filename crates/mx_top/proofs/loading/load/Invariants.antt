@@ -7,6 +7,7 @@ use Rattle.mx_top.proofs.loading.load.Given as goal
 abbrev pub invariant-loop-at : goal.invariant-loop-at
 invariant-loop-at g l = record {
   later : g.D.Dir.faults l.fn.dir ≤ g.D.Dir.faults l.dir;
+  quiet : g.D.Dir.faults l.dir ≡ g.D.Dir.faults l.fn.dir;
   states : g.D.Dir.states l.dir ≡ g.D.Dir.states l.fn.dir;
   within : l.at ≤ l.size;
   long : vec_len l.bytes ≡ l.at;

@@ -1,4 +1,4 @@
-use Rattle.std.proofs.Common.{ap, map, arith}
+use Rattle.std.proofs.Common.{ap, map, refl, ◌∙◌, arith}
 use Rattle.std.specs.String.{string_bytes}
 use Rattle.std.proofs.lemmas.List.{nil_from_length}
 use Rattle.mx_outside.specs.Disks.{removed}
@@ -8,7 +8,7 @@ use Rattle.mx_top.proofs.LeavingLaws.{nothing_left, left_then}
 use Rattle.mx_top.proofs.settling.remove_drafts.Goals as goal
 
 pub loop-name-init : goal.loop-name-init
-loop-name-init g c = record { later = omega arith; way = begins is_draft removed _ _ c.requires; moments = nothing_left (g.D.Dir.states c.args.dir.now) }
+loop-name-init g c = record { later = omega arith; quiet = refl; way = begins is_draft removed _ _ c.requires; moments = nothing_left (g.D.Dir.states c.args.dir.now) }
 
 pub remove_if_draft-requires : goal.remove_if_draft-requires
 remove_if_draft-requires g c =
@@ -17,6 +17,7 @@ remove_if_draft-requires g c =
 pub loop-name-preserved : goal.loop-name-preserved
 loop-name-preserved g c = record {
   later = omega arith;
+  quiet = c.in_ok-remove_if_draft.ensures.cause.done ∙ c.loop-name.invariant.quiet;
   way = goes_on is_draft removed _ _ _ _ _ _ _ _ (ap (map string_bytes) c.in-Some.ensures.cases.0) c.deref.ensures c.loop-name.invariant.way
       c.remove_if_draft.ensures.told c.in_ok-remove_if_draft.ensures.removed;
   moments = left_then _ _ _ c.loop-name.invariant.moments c.remove_if_draft.ensures.moments;

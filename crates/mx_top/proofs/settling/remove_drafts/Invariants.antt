@@ -1,4 +1,4 @@
-use Rattle.std.proofs.Common.{◌≤◌, length, map}
+use Rattle.std.proofs.Common.{◌≡◌, ◌≤◌, length, map}
 use Rattle.std.specs.String.{string_bytes}
 use Rattle.mx_outside.specs.Disks.{removed}
 use Rattle.mx_model.specs.Files.{is_draft}
@@ -9,6 +9,7 @@ use Rattle.mx_top.proofs.settling.remove_drafts.Given as goal
 abbrev pub invariant-loop-name : goal.invariant-loop-name
 invariant-loop-name g l = record {
   later : g.D.Dir.faults l.fn.dir ≤ g.D.Dir.faults l.dir;
+  quiet : g.D.Dir.faults l.dir ≡ g.D.Dir.faults l.fn.dir;
   way : Underway is_draft removed (g.D.Dir.states l.fn.dir) (g.D.Dir.states l.dir) (map string_bytes l.names) (map string_bytes l.rest);
   moments : LeaveNoOther (g.D.Dir.states l.fn.dir) (g.D.Dir.states l.dir);
 }

@@ -1,4 +1,4 @@
-use Rattle.std.proofs.Common.{ap, map, arith}
+use Rattle.std.proofs.Common.{ap, map, refl, ◌∙◌, arith}
 use Rattle.std.specs.String.{string_bytes}
 use Rattle.std.proofs.lemmas.List.{nil_from_length}
 use Rattle.mx_outside.specs.Disks.{file_synced}
@@ -8,7 +8,7 @@ use Rattle.mx_top.proofs.LeavingLaws.{nothing_left, left_then}
 use Rattle.mx_top.proofs.settling.sync_journals.Goals as goal
 
 pub loop-name-init : goal.loop-name-init
-loop-name-init g c = record { later = omega arith; way = begins is_journal file_synced _ _ c.requires; moments = nothing_left (g.D.Dir.states c.args.dir.now) }
+loop-name-init g c = record { later = omega arith; quiet = refl; way = begins is_journal file_synced _ _ c.requires; moments = nothing_left (g.D.Dir.states c.args.dir.now) }
 
 pub sync_if_journal-requires : goal.sync_if_journal-requires
 sync_if_journal-requires g c =
@@ -17,6 +17,7 @@ sync_if_journal-requires g c =
 pub loop-name-preserved : goal.loop-name-preserved
 loop-name-preserved g c = record {
   later = omega arith;
+  quiet = c.in_ok-sync_if_journal.ensures.cause.done ∙ c.loop-name.invariant.quiet;
   way = goes_on is_journal file_synced _ _ _ _ _ _ _ _ (ap (map string_bytes) c.in-Some.ensures.cases.0) c.deref.ensures c.loop-name.invariant.way
       c.sync_if_journal.ensures.told c.in_ok-sync_if_journal.ensures.synced;
   moments = left_then _ _ _ c.loop-name.invariant.moments c.sync_if_journal.ensures.moments;
