@@ -1,5 +1,5 @@
 -- What a crash may leave while a journal is begun.
-use Rattle.std.proofs.Common.{◌≡◌, ◌⊎◌, inl, inr, ℕ, zero, suc, true, List, [], ◌++◌, length, take, drop, sum, ◌||◌, Option, Some, refl, sym, ap, ◌∙◌, arith}
+use Rattle.std.proofs.Common.{◌≡◌, ◌⊎◌, inl, inr, ℕ, zero, suc, List, [], ◌++◌, length, take, drop, Option, Some, refl, sym, ap, ◌∙◌, arith}
 use Rattle.std.proofs.lemmas.List.{append-nil, drop_all}
 use Rattle.std.proofs.Math.Seq.{take-length}
 use mathlib.Core.Path.{subst}
@@ -9,19 +9,14 @@ use Rattle.mx_xlog.specs.declared.head.Head.{Head}
 use Rattle.mx_xlog.specs.Headers.{IsHead, header_of}
 use Rattle.mx_xlog.specs.Reading.{blocks_of}
 use Rattle.mx_xlog.proofs.ReadingLaws.{blocks_of_nothing}
-use Rattle.mx_model.proofs.NameLaws.{journal_name-is_journal}
-use Rattle.mx_model.specs.Files.{is_snapshot, ReadsAs}
-use Rattle.mx_journal.specs.Fair.{counts, IsFair, IsFairEnd}
+use Rattle.mx_model.specs.Files.{ReadsAs}
+use Rattle.mx_journal.specs.Fair.{IsFair, IsFairEnd}
 use Rattle.mx_journal.specs.Crashes.{HasBegun, MayBegin, read_of}
 use Rattle.mx_journal.specs.Making.{HasMade, MayMakeFile}
 use Rattle.mx_journal.specs.Written.{IsNow, name_of}
 use Rattle.mx_journal.proofs.MomentLaws.{weaker}
 use Rattle.mx_journal.proofs.MakeLaws.{MakesFile}
 use Rattle.mx_journal.proofs.ToldLaws.{told_weaker}
-
--- a journal's name counts
-pub name_counts : (head : Head) → counts (name_of head) ≡ true
-name_counts head = ap (λ test. test || is_snapshot (name_of head)) (journal_name-is_journal (sum head.clock))
 
 take_none : (count : ℕ) → ◌≡◌ {A = List (List ℕ)} (take count []) []
 take_none zero = refl

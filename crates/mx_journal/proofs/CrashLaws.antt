@@ -1,5 +1,5 @@
 -- What a crash leaves of a journal's file while bytes are put behind it.
-use Rattle.std.proofs.Common.{◌≡◌, ℕ, ◌+◌, ◌≤◌, ◌<◌, Bool, true, false, cond, ◌||◌, List, [], ◌∷◌, ◌++◌, length, map, take, drop, sum, Option, Some, None, Any, Result, Ok, Err, MatchResult, string_bytes, refl, sym, ap, ◌∙◌, append_assoc, arith, ◌⊎◌, inl, inr}
+use Rattle.std.proofs.Common.{◌≡◌, ℕ, ◌+◌, ◌≤◌, ◌<◌, Bool, true, false, cond, List, [], ◌∷◌, ◌++◌, length, map, take, drop, Option, Some, None, Any, Result, Ok, Err, MatchResult, string_bytes, refl, sym, ap, ◌∙◌, append_assoc, arith, ◌⊎◌, inl, inr}
 use Rattle.std.specs.List.{AllByRecursion}
 use Rattle.std.proofs.lemmas.Bool.{cases_lt}
 use Rattle.std.proofs.lemmas.List.{append-nil, take_at, drop_at, take_all, take-take, take_min, take-map, length-take, length-map, length-append}
@@ -18,11 +18,10 @@ use Rattle.mx_xlog.specs.Reading.{block_at, blocks_of}
 use Rattle.mx_xlog.proofs.ReadingLaws.{block_at-Advances, block_at-IsStable, blocks_of_nothing, blocks_of_marker}
 use Rattle.mx_model.specs.declared.tx.Tx.{Tx}
 use Rattle.mx_model.specs.Rows.{IsTransaction, transaction_text}
-use Rattle.mx_model.specs.Files.{ReadsAs, same_bytes, is_snapshot}
-use Rattle.mx_model.proofs.NameLaws.{journal_name-is_journal}
+use Rattle.mx_model.specs.Files.{ReadsAs, same_bytes}
 use Rattle.mx_model.proofs.TransactionLaws.{blocks_again}
 use Rattle.mx_journal.specs.declared.journal.Journal.{Journal}
-use Rattle.mx_journal.specs.Fair.{IsFairEnd, IsFair, counts}
+use Rattle.mx_journal.specs.Fair.{IsFairEnd, IsFair}
 use Rattle.mx_journal.specs.Crashes.{read_of, HasAtLeast, NoFewer}
 use Rattle.mx_journal.specs.Making.{AppendsSynced, Changed, extended}
 use Rattle.mx_journal.specs.Written.{IsNow, IsWritten, Waits, SameOthers, name_of, file_text, blocks_text}
@@ -31,7 +30,7 @@ use Rattle.mx_journal.proofs.DiskLaws.{same_self, same_name, get_inserted, get_c
 use Rattle.mx_journal.proofs.MomentLaws.{moments_none, moments_one, moments_two}
 use Rattle.mx_journal.proofs.ToldLaws.{told_weaker, where_told, now_changed}
 use Rattle.mx_journal.proofs.WrittenLaws.{bytes_extended, extended_as, others_extended}
-use Rattle.mx_journal.proofs.FairLaws.{fair_nothing, front_of_blocks}
+use Rattle.mx_journal.proofs.FairLaws.{fair_nothing, front_of_blocks, name_counts}
 
 -- ---- fronts of lists
 
@@ -127,9 +126,6 @@ file_left head body more txs all n image fits first front (end, fair, is) =
 pub record Keeps (head : Head) (body more : List ℕ) (disk : Disk) : Type 0 where
   pub file : finite.get disk.now (name_of head) ≡ Some (kept head body more)
   pub settled : finite.get disk.older (name_of head) ≡ None
-
-name_counts : (head : Head) → counts (name_of head) ≡ true
-name_counts head = ap (λ b. b || is_snapshot (name_of head)) (journal_name-is_journal (sum head.clock))
 
 -- it is nothing else after a crash
 one_outcome : (head : Head) (body more : List ℕ) (disk : Disk) → Keeps head body more disk → outcomes (name_of head) disk ≡ Some (kept head body more) ∷ []

@@ -1,12 +1,16 @@
 -- What is read of a front of the bytes, and that a crash may leave no byte behind the synced ones.
-use Rattle.std.proofs.Common.{◌≡◌, ℕ, ◌+◌, ◌-◌, ◌≤◌, ◌<◌, List, [], length, take, drop, refl, sym, ap, ◌∙◌, arith, ◌⊎◌, inl, inr}
+use Rattle.std.proofs.Common.{◌≡◌, ℕ, ◌+◌, ◌-◌, ◌≤◌, ◌<◌, true, ◌||◌, sum, List, [], length, take, drop, refl, sym, ap, ◌∙◌, arith, ◌⊎◌, inl, inr}
 use Rattle.std.proofs.lemmas.Bool.{cases_lt}
 use Rattle.std.proofs.lemmas.List.{append-nil, take_at, drop_all, drop-take, length-take, take-append-drop}
 use Rattle.mx_msgpack.proofs.ReaderLaws.{all_from-append}
 use Rattle.mx_outside.specs.Disks.{File}
 use Rattle.mx_xlog.specs.Reading.{block_at, blocks_of}
 use Rattle.mx_xlog.proofs.ReadingLaws.{block_at-Advances, block_at-IsStable}
-use Rattle.mx_journal.specs.Fair.{IsFairEnd}
+use Rattle.mx_xlog.specs.declared.head.Head.{Head}
+use Rattle.mx_model.specs.Files.{is_snapshot}
+use Rattle.mx_model.proofs.NameLaws.{journal_name-is_journal}
+use Rattle.mx_journal.specs.Fair.{IsFairEnd, counts}
+use Rattle.mx_journal.specs.Written.{name_of}
 
 -- the blocks that a front of the bytes begins with are a front of the blocks
 pub front_of_blocks : (count : ℕ) (bytes : List ℕ) → (n : ℕ) × (blocks_of (take count bytes) ≡ take n (blocks_of bytes))
@@ -34,3 +38,7 @@ pub fair_nothing : (file : File) → IsFairEnd file []
 fair_nothing file head size is =
     let (n, front) = front_of_blocks (file.synced - size) (drop size file.bytes) in
     (n, ap (λ bytes. blocks_of (drop size bytes)) (append-nil (take file.synced file.bytes)) ∙ ap blocks_of (drop_front size file.synced file.bytes) ∙ front)
+
+-- a journal's name counts
+pub name_counts : (head : Head) → counts (name_of head) ≡ true
+name_counts head = ap (λ test. test || is_snapshot (name_of head)) (journal_name-is_journal (sum head.clock))

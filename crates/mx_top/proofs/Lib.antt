@@ -20,6 +20,7 @@ mod SettlingLaws
 mod ReplayLaws
 mod FileLaws
 mod CountLaws
+mod ImageLaws
 mod OpenLaws
 mod LeavingLaws
 mod RecoveryLaws

@@ -1,28 +1,23 @@
 -- What a crash leaves of a directory that was settled, and of one in which a journal is being begun.
-use Rattle.std.proofs.Common.{◌≡◌, ℕ, ◌+◌, ◌≤◌, Bool, true, false, ◌||◌, List, [], ◌∷◌, ◌++◌, length, sum, take, drop, Any, Option, Some, None, is_some, Result, Ok, Err, refl, sym, ap, ◌∙◌, subst, ◌⊎◌, inl, inr, append_assoc, arith}
+use Rattle.std.proofs.Common.{◌≡◌, ℕ, ◌≤◌, Bool, true, false, List, [], ◌∷◌, length, sum, take, Option, Some, None, Ok, refl, sym, ap, ◌∙◌, subst, ◌⊎◌, inl, inr, arith}
 use Rattle.std.specs.Prelude.{IfSome, if◌then◌else◌}
 use Rattle.std.specs.List.{filter, AllByRecursion}
-use Rattle.std.proofs.lemmas.List.{append-nil, take_all, drop-append-le, length-take, length-append}
+use Rattle.std.proofs.lemmas.List.{append-nil, take_all}
 use Rattle.std.specs.Option.{unwrap_or}
 use Rattle.std.specs.Ordering.{nat_cmp}
 use Rattle.std.specs.Cmp.Lexicographic.{slice_cmp, bytes_decides}
 use Rattle.std.specs.FinMap as finite
 use Rattle.std.specs.FinMap.{get-empty}
 use mathlib.Core.List.{IsPrefix}
-use Rattle.mx_msgpack.proofs.ReaderLaws.{all_from-append}
-use Rattle.mx_outside.specs.Disks.{Disk, File, Files, IfTold, ToldAlike, Leaves, or_none}
+use Rattle.mx_outside.specs.Disks.{Disk, File, Files, IfTold, ToldAlike, Leaves}
 use Rattle.mx_outside.specs.Moments.{Moments}
 use Rattle.mx_xlog.specs.declared.head.Head.{Head}
-use Rattle.mx_xlog.specs.Headers.{header_of}
-use Rattle.mx_xlog.specs.Reading.{block_at, blocks_of}
-use Rattle.mx_xlog.proofs.ReadingLaws.{block_at-Advances, block_at-IsStable}
 use Rattle.mx_model.specs.declared.ids.Ids.{Ids}
-use Rattle.mx_model.specs.declared.damage.Damage.{Damage}
 use Rattle.mx_model.specs.declared.tx.Tx.{Tx}
 use Rattle.mx_model.specs.State.{first_state}
 use Rattle.mx_model.specs.Transactions.{state_after, clock_after}
 use Rattle.mx_model.specs.Histories.{Base}
-use Rattle.mx_model.specs.Files.{FileRead, Named, Reached, ReadsAs, IsDirectoryState, is_journal, is_snapshot, journal_name, same_bytes, ids_in, ids_or, nothing_yet, after_head, after_files, and_then, directory_state}
+use Rattle.mx_model.specs.Files.{Named, Reached, ReadsAs, IsDirectoryState, is_journal, is_snapshot, journal_name, same_bytes, ids_in, ids_or, nothing_yet, directory_state}
 use Rattle.mx_model.proofs.NameLaws.{journal_name-is_journal}
 use Rattle.mx_model.proofs.DirectoryLaws.{ReadAll, names_same, names_of, stands_after}
 use Rattle.mx_model.proofs.WalkLaws.{Passed}
@@ -31,7 +26,6 @@ use Rattle.mx_model.proofs.OnceLaws.{one_state}
 use Rattle.mx_journal.specs.Fair.{IsFair, IsFairEnd, counts}
 use Rattle.mx_journal.specs.Crashes.{HasBegun, MayBegin, SameBut}
 use Rattle.mx_journal.specs.Written.{name_of}
-use Rattle.mx_journal.proofs.DiskLaws.{only_one}
 use Rattle.mx_journal.proofs.ToldLaws.{told_both, told_then, told_weaker, where_told}
 use Rattle.mx_journal.proofs.MomentLaws.{no_moments, weaker, weaker_from}
 use Rattle.mx_top.specs.declared.replaying.Reached as memory
@@ -40,74 +34,11 @@ use Rattle.mx_top.specs.Replayed.{IsSettledAt}
 use Rattle.mx_top.specs.Settled.{LeavesNoOther}
 use Rattle.mx_top.specs.Crashes.{StandsAfter, Survive, NoFewerSurvive, FollowFromNew, Recovers}
 use Rattle.mx_top.proofs.CountLaws.{counted_once, front_longer, survive_longer}
+use Rattle.mx_top.proofs.ImageLaws.{fair_now, leaves_some, read_in_image, journal_counts, snapshot_counts, WasRead, all_were_read}
 use Rattle.mx_top.proofs.LeavingLaws.{LeaveNoOther}
 use Rattle.mx_top.proofs.OpenLaws.{kept_ids}
 
--- ---- a file's blocks, where more bytes follow
-
--- a front of a list that has all of it, and perhaps more, is the list
-no_shorter : {X : Type 0} (count : ℕ) (xs ys : List X) → xs ++ ys ≡ take count xs → take count xs ≡ xs
-no_shorter count xs ys is =
-    let long = length-take count xs in
-    let both : length xs + length ys ≡ length (take count xs) = sym (length-append xs ys) ∙ ap length is in
-    take_all count xs (omega arith)
-
-blocks_again : (size count : ℕ) (bytes end : List ℕ) → size ≤ length bytes
-    → blocks_of (drop size (bytes ++ end)) ≡ take count (blocks_of (drop size bytes))
-    → blocks_of (drop size (bytes ++ end)) ≡ blocks_of (drop size bytes)
-blocks_again size count bytes end fits front =
-    let back = drop size bytes in
-    let parts : blocks_of (back ++ end) ≡ blocks_of back ++ _ =
-    ap (λ (found : List (List ℕ) × List ℕ). found.0) (all_from-append block_at block_at-Advances block_at-IsStable back end) in
-    front ∙ no_shorter count (blocks_of back) _ (sym parts ∙ ap blocks_of (sym (drop-append-le size bytes end fits)) ∙ front)
-
--- a whole file reads as it did, whatever a crash may leave behind its bytes
-reads_again : (file : File) (read : FileRead) (end : List ℕ) → file.synced ≡ length file.bytes → ReadsAs file.bytes (Some read) → IsFairEnd file end
-    → ReadsAs (take file.synced file.bytes ++ end) (Some read)
-reads_again file read end whole (header, blocks) fair =
-    let all : take file.synced file.bytes ++ end ≡ file.bytes ++ end = ap (λ bytes. bytes ++ end) (take_all file.synced file.bytes (omega arith)) in
-    let (rest, begins) = header.begins in
-    let (count, front) = fair read.head read.size header in
-    let fits : read.size ≤ length file.bytes = omega (arith, header.sized, ap length begins, length-append (header_of read.head) rest) in
-    subst (λ bytes. ReadsAs bytes (Some read)) (sym all) (
-      record {
-        fits = header.fits;
-        sized = header.sized;
-        begins = (rest ++ end, ap (λ bytes. bytes ++ end) begins ∙ append_assoc (header_of read.head) rest end);
-      },
-      blocks ∙ sym (blocks_again read.size count file.bytes end fits (ap (λ bytes. blocks_of (drop read.size bytes)) (sym all) ∙ front)),
-    )
-
 -- ---- the files of a settled directory
-
-there_again : (was image : Option File) → Leaves IsFairEnd was image → is_some image ≡ is_some was
-there_again None image is = ap is_some is
-there_again (Some file) image (end, fair, is) = ap is_some is
-
-found_reads : (was image : Option File) (read : FileRead) → ((file : File) → was ≡ Some file → file.synced ≡ length file.bytes)
-    → Leaves IsFairEnd was image → IfSome was (λ (file : File). ReadsAs file.bytes (Some read))
-    → IfSome image (λ (file : File). ReadsAs file.bytes (Some read))
-found_reads None image read whole is reads = rw is tt
-found_reads (Some file) image read whole (end, fair, is) reads = rw is (reads_again file read end (whole file refl) reads fair)
-
-either_true : (a b : Bool) → b ≡ true → (a || b) ≡ true
-either_true true b is = refl
-either_true false b is = is
-
--- the file begins with a header
-abbrev HasHeader : Named → Type 0
-HasHeader file = (read : FileRead) × (file.1 ≡ Some read)
-
--- files without damage have headers
-have_headers : (files : List Named) (before end : Reached) → after_files files before ≡ Ok end → AllByRecursion HasHeader files
-have_headers [] before end is = tt
-have_headers ((name, None) ∷ files) before end is = absurd cc
-have_headers ((name, Some file) ∷ files) before end is = by_file (λ next. have_headers files next end) (after_head name file before) is
-  where
-    by_file : ((next : Reached) → after_files files next ≡ Ok end → AllByRecursion HasHeader files) → (o : Result Reached Damage)
-        → and_then (after_files files) o ≡ Ok end → AllByRecursion HasHeader ((name, Some file) ∷ files)
-    by_file others (Err damage) is = absurd cc
-    by_file others (Ok next) is = ((file, refl), others next is)
 
 -- whatever a crash leaves of the directory stands for these transactions
 abbrev AllStand : List Tx → Disk → Type 0
@@ -116,20 +47,22 @@ AllStand earlier disk = (image : Files) → IsFair disk image → StandsAfter ea
 module _ (disk : Disk) (found : Reached) (whole : AllOnDisk disk) (settled : disk.older ≡ finite.empty) (stands : IsDirectoryState disk.now (Ok found)) where
   left_of : (image : Files) → IsFair disk image → (name : List ℕ) → counts name ≡ true → Leaves IsFairEnd (finite.get disk.now name) (finite.get image name)
   left_of image fair name counted =
-      let left = λ (was : Option File). Leaves IsFairEnd was (finite.get image name) in
-      let older : finite.get disk.older name ≡ None = ap (λ names. finite.get names name) settled ∙ get-empty (slice_cmp nat_cmp) name in
-      only_one left (finite.get disk.now name)
-      (subst (λ files. Any left (finite.get disk.now name ∷ or_none files)) older (fair name counted))
+      fair_now disk image name (ap (λ names. finite.get names name) settled ∙ get-empty (slice_cmp nat_cmp) name) fair counted
 
-  one_again : (image : Files) → IsFair disk image → (file : Named) → is_journal file.0 ≡ true → HasHeader file
+  all_synced : (name : List ℕ) → is_journal name ≡ true → (was : Option File) → finite.get disk.now name ≡ was
+      → IfSome was (λ (file : File). file.synced ≡ length file.bytes)
+  all_synced name is None there = tt
+  all_synced name is (Some file) there = (whole name file is there).0
+
+  one_again : (image : Files) → IsFair disk image → (file : Named) → is_journal file.0 ≡ true → WasRead file
       → IfSome (finite.get disk.now file.0) (λ (f : File). ReadsAs f.bytes file.1) → IfSome (finite.get image file.0) (λ (f : File). ReadsAs f.bytes file.1)
   one_again image fair (name, read) journal (header, is) reads =
-      let left = left_of image fair name (ap (λ b. b || is_snapshot name) journal) in
+      let left = left_of image fair name (journal_counts name journal) in
       let was = subst (λ r. IfSome (finite.get disk.now name) (λ (f : File). ReadsAs f.bytes r)) is reads in
       subst (λ r. IfSome (finite.get image name) (λ (f : File). ReadsAs f.bytes r)) (sym is)
-      (found_reads (finite.get disk.now name) (finite.get image name) header (λ file at. (whole name file journal at).0) left was)
+      (read_in_image (finite.get disk.now name) (finite.get image name) header (all_synced name journal (finite.get disk.now name) refl) was left)
 
-  all_again : (image : Files) → IsFair disk image → (files : List Named) → AllByRecursion HasHeader files
+  all_again : (image : Files) → IsFair disk image → (files : List Named) → AllByRecursion WasRead files
       → AllByRecursion (λ (file : Named). Passed found file.0) files → ReadAll disk.now files → ReadAll image files
   all_again image fair [] headers passed reads = tt
   all_again image fair (file ∷ files) headers passed reads = (
@@ -140,19 +73,19 @@ module _ (disk : Disk) (found : Reached) (whole : AllOnDisk disk) (settled : dis
   names_again : (image : Files) → IsFair disk image → (kind : List ℕ → Bool) → ((name : List ℕ) → kind name ≡ true → counts name ≡ true)
       → filter kind (finite.keys image) ≡ filter kind (finite.keys disk.now)
   names_again image fair kind counted = names_same kind image disk.now
-      (λ name is. there_again (finite.get disk.now name) (finite.get image name) (left_of image fair name (counted name is)))
+      (λ name is. leaves_some (finite.get disk.now name) (finite.get image name) (left_of image fair name (counted name is)))
 
   -- whatever a crash leaves of a settled directory stands for what it stands for
   pub found_again : (image : Files) → IsFair disk image → IsDirectoryState image (Ok found)
   found_again image fair =
       let s = sound disk.now found stands in
-      let journals = names_again image fair is_journal (λ name journal. ap (λ b. b || is_snapshot name) journal) in
-      let snapshots = names_again image fair is_snapshot (λ name snapshot. either_true (is_journal name) (is_snapshot name) snapshot) in (
+      let journals = names_again image fair is_journal journal_counts in
+      let snapshots = names_again image fair is_snapshot snapshot_counts in (
         s.journals,
         [],
         record {
           names = append-nil (names_of s.journals) ∙ s.names ∙ sym journals;
-          each = all_again image fair s.journals (have_headers s.journals nothing_yet found s.after) s.on_way.names s.each;
+          each = all_again image fair s.journals (all_were_read s.journals nothing_yet found s.after) s.on_way.names s.each;
         },
         refl,
         sym s.after ∙ ap (λ names. directory_state names s.journals) (sym (snapshots ∙ s.none)),
@@ -180,8 +113,8 @@ module _ (disk : Disk) (found : Reached) (whole : AllOnDisk disk) (settled : dis
         its_ids (Some ids) = inr refl
 
         by_kind : (q : List ℕ) → (is_journal q ≡ true) ⊎ (is_snapshot q ≡ true) → counts q ≡ true
-        by_kind q (inl journal) = ap (λ b. b || is_snapshot q) journal
-        by_kind q (inr snapshot) = either_true (is_journal q) (is_snapshot q) snapshot
+        by_kind q (inl journal) = journal_counts q journal
+        by_kind q (inr snapshot) = snapshot_counts q snapshot
 
         as_before : (was image : Files) (file : File) → SameBut (name_of head) was image → finite.get image (name_of head) ≡ Some file
             → (q : List ℕ) → counts q ≡ true → (b : Bool) → same_bytes q (name_of head) ≡ b

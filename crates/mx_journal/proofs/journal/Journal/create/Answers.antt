@@ -4,7 +4,8 @@ use Rattle.mx_model.specs.Files.{journal_name}
 use Rattle.mx_journal.specs.declared.journal.Journal.{Journal}
 use Rattle.mx_journal.specs.Fair.{counts}
 use Rattle.mx_journal.specs.Written.{name_of}
-use Rattle.mx_journal.proofs.BegunLaws.{name_counts, begins_moments, begun_there}
+use Rattle.mx_journal.proofs.BegunLaws.{begins_moments, begun_there}
+use Rattle.mx_journal.proofs.FairLaws.{name_counts}
 use Rattle.mx_journal.proofs.WrittenLaws.{begun_now}
 use Rattle.mx_journal.proofs.journal.Journal.create.Goals as goal
 
