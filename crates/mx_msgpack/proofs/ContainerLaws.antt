@@ -1,29 +1,35 @@
 -- Containers from their head on: a map's pairs are read, and what reads as an array and is one value is spelled as an array.
-use Rattle.std.proofs.Common.{◌≡◌, ℕ, suc, ◌+◌, ◌-◌, ◌*◌, ◌<◌, List, [], ◌∷◌, length, take, Ok, refl, sym, ap, ◌∙◌, subst}
+use Rattle.std.proofs.Common.{◌≡◌, ℕ, suc, ◌+◌, ◌-◌, ◌*◌, ◌<◌, List, [], ◌∷◌, length, take, Ok, refl, sym, ap, ◌∙◌, subst, inl, ltb}
 use Rattle.std.proofs.lemmas.List.{append-nil}
+use Rattle.mx_msgpack.specs.declared.bad.Bad.TheVariants.{Long}
 use Rattle.mx_msgpack.specs.declared.head.Head.{Head}
-use Rattle.mx_msgpack.specs.declared.head.Head.TheVariants.{Int, Str, Array, Map}
-use Rattle.mx_msgpack.specs.Grammar.{Values, Spells}
+use Rattle.mx_msgpack.specs.declared.head.Head.TheVariants.{Nil, Bool as Boolean, Int, Str, Bin, Array, Map, Fixed, Extension}
+use Rattle.mx_msgpack.specs.Grammar.{Values, Spells, most_length}
 use Rattle.mx_msgpack.specs.Grammar as grammar
 use Rattle.mx_msgpack.specs.Reading.{head_at, after_all, after_value, reading_of, Shown, ShownArray, shown}
-use Rattle.mx_msgpack.proofs.Results.{bind_ok, ok_is}
+use Rattle.mx_msgpack.proofs.Results.{bind_ok, guard_then, ok_is}
 use Rattle.mx_msgpack.proofs.Heads.{head_spelled, head_again}
-use Rattle.mx_msgpack.proofs.Values.{value_begins}
-use Rattle.mx_msgpack.proofs.Laws.{value_stands}
+use Rattle.mx_msgpack.proofs.ValueLaws.{value_begins}
+use Rattle.mx_msgpack.proofs.GrammarLaws.{value_stands}
 
 -- what stands behind the leading byte of a map
 pub map_content : (total room count : ℕ) (pairs rest : List ℕ) → count < 0x10 → after_value total (suc room) ((0x80 + count) ∷ pairs) ≡ Ok rest
     → after_all (after_value total room) (2 * count) pairs ≡ Ok rest
 map_content total room count pairs rest few e =
     let bytes = (0x80 + count) ∷ pairs in
-    let head = head_again (total - length bytes) (Map count) ((0x80 + count) ∷ []) pairs (few, refl) in
-    sym (value_begins total (suc room) bytes (Map count) pairs head) ∙ e
+    let head = head_again (total - length bytes) (Map count) ((0x80 + count) ∷ []) pairs (inl (few, refl)) in
+    (guard_then (ltb most_length count) (Long (total - length bytes)) _ rest (sym (value_begins total (suc room) bytes (Map count) pairs head) ∙ e)).1
 
-array_head : (head : Head) (content : List ℕ) (count : ℕ) (items : List ℕ) → shown head content ≡ ShownArray count items → head ≡ Array count
-array_head (Int number) content count items e = absurd cc
-array_head (Str size) content count items e = absurd cc
-array_head (Array other) content count items e = cc
-array_head (Map pairs) content count items e = absurd cc
+array_head : (head : Head) (content whole : List ℕ) (count : ℕ) (items : List ℕ) → shown head content whole ≡ ShownArray count items → head ≡ Array count
+array_head Nil content whole count items e = absurd cc
+array_head (Boolean truth) content whole count items e = absurd cc
+array_head (Int number) content whole count items e = absurd cc
+array_head (Str size) content whole count items e = absurd cc
+array_head (Bin size) content whole count items e = absurd cc
+array_head (Array other) content whole count items e = cc
+array_head (Map pairs) content whole count items e = absurd cc
+array_head (Fixed size) content whole count items e = absurd cc
+array_head (Extension size) content whole count items e = absurd cc
 
 -- the head of what is shown as an array
 array_begins : (bytes : List ℕ) (count : ℕ) (items : List ℕ) (size : ℕ) → reading_of bytes ≡ Ok (ShownArray count items, size)
@@ -32,8 +38,8 @@ unfolding reading_of
 array_begins bytes count items size e =
     let a = bind_ok (head_at 0 bytes) _ (ShownArray count items, size) e in
     let b = bind_ok (after_value (length bytes) 64 bytes) _ (ShownArray count items, size) a.2 in
-    let same = ok_is (shown a.0.0 (take (length a.0.1 - length b.0) a.0.1), length bytes - length b.0) (ShownArray count items, size) b.2 in
-    let is = array_head a.0.0 _ count items (ap (λ (x : Shown × ℕ). x.0) same) in
+    let same = ok_is (shown a.0.0 (take (length a.0.1 - length b.0) a.0.1) (take (length bytes - length b.0) bytes), length bytes - length b.0) (ShownArray count items, size) b.2 in
+    let is = array_head a.0.0 _ _ count items (ap (λ (x : Shown × ℕ). x.0) same) in
     (a.0.1, a.1 ∙ ap (λ (h : Head). Ok (h, a.0.1)) is)
 
 -- one value and nothing else, shown as an array

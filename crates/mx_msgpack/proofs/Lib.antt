@@ -1,8 +1,11 @@
 pub mod Results
-pub mod Values
+pub mod ValueLaws
 pub mod Stack
+pub mod SignedLaws
+pub mod LeadingLaws
 pub mod Heads
-pub mod Laws
+pub mod OpaqueLaws
+pub mod GrammarLaws
 pub mod Measured
 pub mod Shown
 pub mod NumberLaws
@@ -13,3 +16,10 @@ pub mod UnsignedLaws
 pub mod SpellingLaws
 pub mod FrontLaws
 pub mod ContainerLaws
+pub mod PrefixLaws
+pub mod NumberSpellings
+pub mod ShortestLaws
+pub mod OwnedLaws
+pub mod WriterLaws
+pub mod ClaimLaws
+pub mod TakingLaws

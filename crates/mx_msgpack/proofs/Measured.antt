@@ -5,8 +5,8 @@ use Rattle.std.proofs.lemmas.List.{take_at, take-append-drop, length-append, len
 use Rattle.mx_msgpack.specs.declared.bad.Bad.{Bad}
 use Rattle.mx_msgpack.specs.Grammar.{Value, Spells, most_nested}
 use Rattle.mx_msgpack.specs.Reading.{after_value, measured}
-use Rattle.mx_msgpack.proofs.Values.{measured_ok, read_ok}
-use Rattle.mx_msgpack.proofs.Laws.{value_spelled, value_again}
+use Rattle.mx_msgpack.proofs.ValueLaws.{measured_ok, read_ok}
+use Rattle.mx_msgpack.proofs.GrammarLaws.{value_spelled, value_again}
 
 -- the bytes before a rest
 pub front_is : (bytes front rest : List ℕ) (size : ℕ) → bytes ≡ front ++ rest → length bytes - length rest ≡ size → take size bytes ≡ front

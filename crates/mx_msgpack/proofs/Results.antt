@@ -13,6 +13,11 @@ pub guard_ok : {A : Type 0} (b : Bool) (d : Bad) (x y : A) → cond b (Err d) (O
 guard_ok true d x y e = absurd cc
 guard_ok false d x y e = (refl, cc)
 
+-- the same before a step that may fail too
+pub guard_then : {A : Type 0} (b : Bool) (d : Bad) (r : Result A Bad) (y : A) → cond b (Err d) r ≡ Ok y → (b ≡ false) × (r ≡ Ok y)
+guard_then true d r y e = absurd cc
+guard_then false d r y e = (refl, e)
+
 -- which way a test went
 pub chosen : {A : Type 0} (b : Bool) (x y z : A) → cond b x y ≡ z → ((b ≡ true) × (x ≡ z)) ⊎ ((b ≡ false) × (y ≡ z))
 chosen true x y z e = inl (refl, e)

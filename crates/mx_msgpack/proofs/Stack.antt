@@ -1,38 +1,46 @@
 -- The walk with a counter for each open container gives what reading from the left gives.
-use Rattle.std.proofs.Common.{◌≡◌, ℕ, zero, suc, ◌+◌, ◌-◌, ◌<◌, ◌≤◌, ◌≢◌, Bool, true, false, cond, ltb, List, [], ◌∷◌, length, get_or, set, drop, Option, Some, None, Result, Ok, Err, refl, sym, ap, ◌∙◌, arith, get_or-set_same, get_or-set_other, length-set}
+use Rattle.std.proofs.Common.{◌≡◌, ℕ, zero, suc, ◌+◌, ◌-◌, ◌*◌, ◌<◌, ◌≤◌, ◌≢◌, List, [], ◌∷◌, length, get_or, set, Option, Some, None, Result, Ok, Err, refl, sym, ap, ◌∙◌, arith, get_or-set_same, get_or-set_other, length-set}
+use Rattle.std.proofs.lemmas.Bool.{lt-ltb, le-ltb}
 use Rattle.mx_msgpack.specs.declared.bad.Bad.{Bad}
-use Rattle.mx_msgpack.specs.declared.bad.Bad.TheVariants.{Short, Deep}
+use Rattle.mx_msgpack.specs.declared.bad.Bad.TheVariants.{Deep, Long}
 use Rattle.mx_msgpack.specs.declared.head.Head.{Head}
-use Rattle.mx_msgpack.specs.declared.head.Head.TheVariants.{Int, Str, Array, Map}
-use Rattle.mx_msgpack.specs.Reading.{◌>>=◌, head_at, after_all, after_inside, after_content, after_value}
-use Rattle.mx_msgpack.specs.Steps.{step_behind, step_over}
+use Rattle.mx_msgpack.specs.declared.head.Head.TheVariants.{Nil, Bool as Boolean, Int, Str, Bin, Array, Map, Fixed, Extension}
+use Rattle.mx_msgpack.specs.declared.skipping.Inside.{Inside}
+use Rattle.mx_msgpack.specs.Grammar.{most_length}
+use Rattle.mx_msgpack.specs.Reading.{◌>>=◌, head_at, after_all, after_bytes, after_inside, after_content, after_value}
+use Rattle.mx_msgpack.specs.Steps.{behind, step_behind, step_over}
 use Rattle.mx_msgpack.proofs.Results.{bind_Ok, bind_bind}
-use Rattle.mx_msgpack.proofs.Values.{inside_of, value_is}
+use Rattle.mx_msgpack.proofs.ValueLaws.{inside_of, value_is}
 
 -- ---- a value is a step, and what stands inside
 
+-- how many values a container that announces this holds
+abbrev pub values_in : Inside → ℕ
+values_in inside = inside.each * inside.announced
+
 -- the bytes after what stands inside, if anything does
-abbrev pub after_step : Option (List ℕ → Result (List ℕ) Bad) → ℕ → Option ℕ → List ℕ → Result (List ℕ) Bad
+abbrev pub after_step : Option (List ℕ → Result (List ℕ) Bad) → ℕ → Option Inside → List ℕ → Result (List ℕ) Bad
 after_step one at None rest = Ok rest
-after_step one at (Some count) rest = after_inside one at count rest
+after_step one at (Some inside) rest = after_inside one at inside.announced (values_in inside) rest
 
-abbrev text_step : Bool → List ℕ → Result (Option ℕ × List ℕ) Bad
-text_step b rest = cond b (Err Short) (Ok (None, rest))
-
-text_steps : (one : Option (List ℕ → Result (List ℕ) Bad)) (at : ℕ) (rest : List ℕ) (b : Bool)
-    → cond b (Err Short) (Ok rest) ≡ (text_step b rest >>= λ x. after_step one at x.0 x.1)
-text_steps one at rest true = refl
-text_steps one at rest false = refl
+behind_steps : (one : Option (List ℕ → Result (List ℕ) Bad)) (at : ℕ) (r : Result (List ℕ) Bad) → r ≡ (behind r >>= λ x. after_step one at x.0 x.1)
+behind_steps one at (Ok rest) = refl
+behind_steps one at (Err bad) = refl
 
 content_steps : (one : Option (List ℕ → Result (List ℕ) Bad)) (at : ℕ) (head : Head) (rest : List ℕ)
-    → after_content one at head rest ≡ (step_behind head rest >>= λ x. after_step one at x.0 x.1)
+    → after_content one at head rest ≡ (step_behind at head rest >>= λ x. after_step one at x.0 x.1)
+content_steps one at Nil rest = refl
+content_steps one at (Boolean truth) rest = refl
 content_steps one at (Int number) rest = refl
-content_steps one at (Str size) rest = text_steps one at (drop size rest) (ltb (length rest) size)
-content_steps one at (Array count) rest = refl
+content_steps one at (Str size) rest = behind_steps one at (after_bytes at size size rest)
+content_steps one at (Bin size) rest = behind_steps one at (after_bytes at size size rest)
+content_steps one at (Array count) rest = let once : count ≡ 1 * count = omega arith in ap (λ (values : ℕ). after_inside one at count values rest) once
 content_steps one at (Map count) rest = refl
+content_steps one at (Fixed size) rest = behind_steps one at (after_bytes at size size rest)
+content_steps one at (Extension size) rest = behind_steps one at (after_bytes at size (suc size) rest)
 
 head_steps : (one : Option (List ℕ → Result (List ℕ) Bad)) (at : ℕ) (r : Result (Head × List ℕ) Bad)
-    → (r >>= λ head. after_content one at head.0 head.1) ≡ ((r >>= λ head. step_behind head.0 head.1) >>= λ x. after_step one at x.0 x.1)
+    → (r >>= λ head. after_content one at head.0 head.1) ≡ ((r >>= λ head. step_behind at head.0 head.1) >>= λ x. after_step one at x.0 x.1)
 head_steps one at (Ok x) = content_steps one at x.0 x.1
 head_steps one at (Err bad) = refl
 
@@ -83,14 +91,14 @@ one_value : (total room : ℕ) (left : List ℕ) (depth count : ℕ) (bytes : Li
 unfolding counters after_stack
 one_value total room left depth count bytes e = rw e (bind_bind (after_value total room bytes) (after_all (after_value total room) count) (after_stack total (suc room) (counters left depth)))
 
-one_step : (total room : ℕ) (left : List ℕ) (depth count : ℕ) (bytes : List ℕ) (step : Result (Option ℕ × List ℕ) Bad) → get_or left depth 0 ≡ suc count
+one_step : (total room : ℕ) (left : List ℕ) (depth count : ℕ) (bytes : List ℕ) (step : Result (Option Inside × List ℕ) Bad) → get_or left depth 0 ≡ suc count
     → step_over (total - length bytes) bytes ≡ step
     → after_stack total room (counters left (suc depth)) bytes
     ≡ ((step >>= λ x. after_step (inside_of total room) (total - length bytes) x.0 x.1) >>= after_stack total room (count ∷ counters left depth))
 one_step total room left depth count bytes step e s =
     one_value total room left depth count bytes e
     ∙ ap (λ (r : Result (List ℕ) Bad). r >>= after_stack total room (count ∷ counters left depth))
-    (value_steps total room bytes ∙ ap (λ (r : Result (Option ℕ × List ℕ) Bad). r >>= λ x. after_step (inside_of total room) (total - length bytes) x.0 x.1) s)
+    (value_steps total room bytes ∙ ap (λ (r : Result (Option Inside × List ℕ) Bad). r >>= λ x. after_step (inside_of total room) (total - length bytes) x.0 x.1) s)
 
 pub stack_fails : (total room : ℕ) (left : List ℕ) (depth count : ℕ) (bytes : List ℕ) (bad : Bad) → get_or left depth 0 ≡ suc count
     → step_over (total - length bytes) bytes ≡ Err bad
@@ -104,20 +112,33 @@ stack_steps total room left depth count bytes rest lt e s =
     one_step total room left depth count bytes (Ok (None, rest)) e s
     ∙ ap (λ (stack : List ℕ). after_stack total room stack rest) (sym (counters-at left depth count lt))
 
-pub stack_deep : (total : ℕ) (left : List ℕ) (depth count inside : ℕ) (bytes rest : List ℕ) → get_or left depth 0 ≡ suc count
+pub stack_deep : (total : ℕ) (left : List ℕ) (depth count : ℕ) (inside : Inside) (bytes rest : List ℕ) → get_or left depth 0 ≡ suc count
     → step_over (total - length bytes) bytes ≡ Ok (Some inside, rest)
     → after_stack total 0 (counters left (suc depth)) bytes ≡ Err (Deep (total - length bytes))
 stack_deep total left depth count inside bytes rest e s = one_step total 0 left depth count bytes (Ok (Some inside, rest)) e s
 
-pub stack_pushes : (total room : ℕ) (left : List ℕ) (depth count inside : ℕ) (bytes rest : List ℕ) → suc depth < length left → get_or left depth 0 ≡ suc count
+pub stack_long : (total room : ℕ) (left : List ℕ) (depth count : ℕ) (inside : Inside) (bytes rest : List ℕ) → most_length < inside.announced → get_or left depth 0 ≡ suc count
     → step_over (total - length bytes) bytes ≡ Ok (Some inside, rest)
-    → after_stack total (suc room) (counters left (suc depth)) bytes
-    ≡ after_stack total room (counters (set (set left depth count) (suc depth) inside) (suc (suc depth))) rest
-unfolding after_stack
-stack_pushes total room left depth count inside bytes rest lt e s =
+    → after_stack total (suc room) (counters left (suc depth)) bytes ≡ Err (Long (total - length bytes))
+stack_long total room left depth count inside bytes rest many e s =
+    let stopped : after_inside (Some (after_value total room)) (total - length bytes) inside.announced (values_in inside) rest ≡ Err (Long (total - length bytes)) =
+    rw (lt-ltb most_length inside.announced many) refl in
     one_step total (suc room) left depth count bytes (Ok (Some inside, rest)) e s
-    ∙ ap (λ (stack : List ℕ). after_stack total room (inside ∷ stack) rest) (sym (counters-at left depth count (omega arith)))
-    ∙ ap (λ (stack : List ℕ). after_stack total room stack rest) (sym (counters-at (set left depth count) (suc depth) inside (omega (arith, length-set {A = ℕ}))))
+    ∙ ap (λ (r : Result (List ℕ) Bad). r >>= after_stack total (suc room) (count ∷ counters left depth)) stopped
+
+pub stack_pushes : (total room : ℕ) (left : List ℕ) (depth count : ℕ) (inside : Inside) (bytes rest : List ℕ) → suc depth < length left → inside.announced ≤ most_length
+    → get_or left depth 0 ≡ suc count → step_over (total - length bytes) bytes ≡ Ok (Some inside, rest)
+    → after_stack total (suc room) (counters left (suc depth)) bytes
+    ≡ after_stack total room (counters (set (set left depth count) (suc depth) (values_in inside)) (suc (suc depth))) rest
+unfolding after_stack
+stack_pushes total room left depth count inside bytes rest lt few e s =
+    let going : after_inside (Some (after_value total room)) (total - length bytes) inside.announced (values_in inside) rest ≡ after_all (after_value total room) (values_in inside) rest =
+    rw (le-ltb most_length inside.announced few) refl in
+    one_step total (suc room) left depth count bytes (Ok (Some inside, rest)) e s
+    ∙ ap (λ (r : Result (List ℕ) Bad). r >>= after_stack total (suc room) (count ∷ counters left depth)) going
+    ∙ ap (λ (stack : List ℕ). after_stack total room (values_in inside ∷ stack) rest) (sym (counters-at left depth count (omega arith)))
+    ∙ ap (λ (stack : List ℕ). after_stack total room stack rest)
+    (sym (counters-at (set left depth count) (suc depth) (values_in inside) (omega (arith, length-set {A = ℕ}))))
 
 -- ---- the same, as the code counts
 
@@ -151,33 +172,40 @@ module _ (total depth : ℕ) (left bytes : List ℕ) (below : 0 < depth) where
         ∙ stack_steps total room left (depth - 1) (get_or left (depth - 1) 0 - 1) bytes rest (omega arith) count_is s
         ∙ ap (λ (k : ℕ). after_stack total room (counters (set left (depth - 1) (get_or left (depth - 1) 0 - 1)) k) rest) one_less
 
-    pub walk_deep : (inside : ℕ) (rest : List ℕ) → 65 ≤ depth → step_over (total - length bytes) bytes ≡ Ok (Some inside, rest)
+    pub walk_deep : (inside : Inside) (rest : List ℕ) → 65 ≤ depth → step_over (total - length bytes) bytes ≡ Ok (Some inside, rest)
         → after_stack total (65 - depth) (counters left depth) bytes ≡ Err (Deep (total - length bytes))
     walk_deep inside rest most s =
         let room : 65 - depth ≡ 0 = omega arith in
         rw room (opened 0 ∙ stack_deep total left (depth - 1) (get_or left (depth - 1) 0 - 1) inside bytes rest count_is s)
 
-    pub walk_pushes : (inside : ℕ) (rest : List ℕ) → depth < 65 → length left ≡ 65 → step_over (total - length bytes) bytes ≡ Ok (Some inside, rest)
+    pub walk_long : (inside : Inside) (rest : List ℕ) → depth < 65 → most_length < inside.announced → step_over (total - length bytes) bytes ≡ Ok (Some inside, rest)
+        → after_stack total (65 - depth) (counters left depth) bytes ≡ Err (Long (total - length bytes))
+    walk_long inside rest most many s =
+        let room : 65 - depth ≡ suc (65 - (depth + 1)) = omega arith in
+        rw room (opened (suc (65 - (depth + 1))) ∙ stack_long total (65 - (depth + 1)) left (depth - 1) (get_or left (depth - 1) 0 - 1) inside bytes rest many count_is s)
+
+    pub walk_pushes : (inside : Inside) (rest : List ℕ) → depth < 65 → length left ≡ 65 → inside.announced ≤ most_length
+        → step_over (total - length bytes) bytes ≡ Ok (Some inside, rest)
         → after_stack total (65 - depth) (counters left depth) bytes
-        ≡ after_stack total (65 - (depth + 1)) (counters (set (set left (depth - 1) (get_or left (depth - 1) 0 - 1)) depth inside) (depth + 1)) rest
-    walk_pushes inside rest most whole s =
+        ≡ after_stack total (65 - (depth + 1)) (counters (set (set left (depth - 1) (get_or left (depth - 1) 0 - 1)) depth (values_in inside)) (depth + 1)) rest
+    walk_pushes inside rest most whole few s =
         let room : 65 - depth ≡ suc (65 - (depth + 1)) = omega arith in
         let more : suc depth ≡ depth + 1 = omega arith in
         opened (65 - depth)
         ∙ ap (λ (k : ℕ). after_stack total k (counters left (suc (depth - 1))) bytes) room
-        ∙ stack_pushes total (65 - (depth + 1)) left (depth - 1) (get_or left (depth - 1) 0 - 1) inside bytes rest (omega arith) count_is s
-        ∙ ap (λ (k : ℕ). after_stack total (65 - (depth + 1)) (counters (set (set left (depth - 1) (get_or left (depth - 1) 0 - 1)) k inside) (suc k)) rest) one_less
-        ∙ ap (λ (k : ℕ). after_stack total (65 - (depth + 1)) (counters (set (set left (depth - 1) (get_or left (depth - 1) 0 - 1)) depth inside) k) rest) more
+        ∙ stack_pushes total (65 - (depth + 1)) left (depth - 1) (get_or left (depth - 1) 0 - 1) inside bytes rest (omega arith) few count_is s
+        ∙ ap (λ (k : ℕ). after_stack total (65 - (depth + 1)) (counters (set (set left (depth - 1) (get_or left (depth - 1) 0 - 1)) k (values_in inside)) (suc k)) rest) one_less
+        ∙ ap (λ (k : ℕ). after_stack total (65 - (depth + 1)) (counters (set (set left (depth - 1) (get_or left (depth - 1) 0 - 1)) depth (values_in inside)) k) rest) more
 
 -- ---- the first step
 
-pub first_step : (bytes : List ℕ) (step : Result (Option ℕ × List ℕ) Bad) → step_over 0 bytes ≡ step
+pub first_step : (bytes : List ℕ) (step : Result (Option Inside × List ℕ) Bad) → step_over 0 bytes ≡ step
     → after_value (length bytes) 64 bytes ≡ (step >>= λ x. after_step (inside_of (length bytes) 64) 0 x.0 x.1)
 first_step bytes step e =
     let at : length bytes - length bytes ≡ 0 = omega arith in
     value_steps (length bytes) 64 bytes
     ∙ ap (λ (k : ℕ). step_over k bytes >>= λ x. after_step (inside_of (length bytes) 64) k x.0 x.1) at
-    ∙ ap (λ (r : Result (Option ℕ × List ℕ) Bad). r >>= λ x. after_step (inside_of (length bytes) 64) 0 x.0 x.1) e
+    ∙ ap (λ (r : Result (Option Inside × List ℕ) Bad). r >>= λ x. after_step (inside_of (length bytes) 64) 0 x.0 x.1) e
 
 pub first_fails : (bytes : List ℕ) (bad : Bad) → step_over 0 bytes ≡ Err bad → after_value (length bytes) 64 bytes ≡ Err bad
 first_fails bytes bad e = first_step bytes (Err bad) e

@@ -1,48 +1,59 @@
 -- Numbers of 0 or more: what is read is spelled so, and what is spelled so is read, whatever follows.
-use Rattle.std.proofs.Common.{◌≡◌, ℕ, ◌-◌, ◌^◌, ◌≤◌, suc, true, List, ◌++◌, length, take, drop, Some, None, Result, Ok, Err, refl, sym, ap, ◌∙◌, append_assoc, inl, inr, arith}
+use Rattle.std.proofs.Common.{◌≡◌, ℕ, ◌-◌, ◌^◌, ◌≤◌, suc, true, List, ◌++◌, length, take, drop, Some, None, Result, Ok, Err, refl, sym, ap, ◌∙◌, append_assoc, inl, arith}
 use Rattle.std.proofs.Common.{nat_lt}
-use Rattle.std.specs.Prelude.{pos, negsuc, if◌then◌else◌}
+use Rattle.std.specs.Prelude.{ℤ, pos, negsuc, if◌then◌else◌}
 use Rattle.std.proofs.lemmas.List.{drop_at, length-append}
 use Rattle.mx_msgpack.specs.declared.bad.Bad.{Bad}
 use Rattle.mx_msgpack.specs.declared.head.Head.{Head}
-use Rattle.mx_msgpack.specs.declared.head.Head.TheVariants.{Int, Str, Array, Map}
-use Rattle.mx_msgpack.specs.Grammar.{SpellsNumber, SpellsUnsigned}
-use Rattle.mx_msgpack.specs.Reading.{head_at, after_value, reading_of, Shown, ShownInt, ShownStr, ShownArray, ShownMap, shown}
+use Rattle.mx_msgpack.specs.declared.head.Head.TheVariants.{Nil, Bool as Boolean, Int, Str, Bin, Array, Map, Fixed, Extension}
+use Rattle.mx_msgpack.specs.Grammar as grammar
+use Rattle.mx_msgpack.specs.Grammar.{SpellsNumber, SpellsUnsigned, SpellsInt}
+use Rattle.mx_msgpack.specs.Reading.{head_at, after_value, reading_of, Shown, ShownNil, ShownBool, ShownInt, ShownStr, ShownBin, ShownArray, ShownMap, ShownOpaque, shown}
 use Rattle.mx_msgpack.specs.Readers.{Advances, IsStable, unsigned_from, unsigned_at, unsigned_32_at}
 use Rattle.mx_msgpack.proofs.Options.{bind_some, allowed, same_some}
 use Rattle.mx_msgpack.proofs.Results.{bind_ok, ok_is}
-use Rattle.mx_msgpack.proofs.Values.{value_begins}
+use Rattle.mx_msgpack.proofs.ValueLaws.{value_begins}
 use Rattle.mx_msgpack.proofs.Heads.{head_spelled, head_again}
 use Rattle.mx_msgpack.proofs.Shown.{int_seen}
+use Rattle.mx_msgpack.proofs.FrontLaws.{spelled_some}
 
 -- ---- what is read is spelled
 
 from_number : (bytes : List ℕ) (read : Result (Shown × ℕ) Bad) (found : ℕ × List ℕ) → unsigned_from bytes read ≡ Some found
     → (size : ℕ) × (read ≡ Ok (ShownInt (pos found.0), size)) × (found.1 ≡ drop size bytes)
 from_number bytes (Err bad) found e = absurd cc
+from_number bytes (Ok (ShownNil, size)) found e = absurd cc
+from_number bytes (Ok (ShownBool truth, size)) found e = absurd cc
 from_number bytes (Ok (ShownInt (pos number), size)) found e =
     let same = same_some (number, drop size bytes) found e in
     (size, ap (λ (x : ℕ × List ℕ). Ok (ShownInt (pos x.0), size)) same, sym (ap (λ (x : ℕ × List ℕ). x.1) same))
 from_number bytes (Ok (ShownInt (negsuc number), size)) found e = absurd cc
 from_number bytes (Ok (ShownStr text, size)) found e = absurd cc
+from_number bytes (Ok (ShownBin content, size)) found e = absurd cc
 from_number bytes (Ok (ShownArray count items, size)) found e = absurd cc
 from_number bytes (Ok (ShownMap count items, size)) found e = absurd cc
+from_number bytes (Ok (ShownOpaque spelling, size)) found e = absurd cc
 
-number_head : (head : Head) (content : List ℕ) (number : ℕ) → shown head content ≡ ShownInt (pos number) → head ≡ Int number
-number_head (Int other) content number e = cc
-number_head (Str size) content number e = absurd cc
-number_head (Array count) content number e = absurd cc
-number_head (Map count) content number e = absurd cc
+int_head : (head : Head) (content whole : List ℕ) (number : ℤ) → shown head content whole ≡ ShownInt number → head ≡ Int number
+int_head Nil content whole number e = absurd cc
+int_head (Boolean truth) content whole number e = absurd cc
+int_head (Int other) content whole number e = cc
+int_head (Str size) content whole number e = absurd cc
+int_head (Bin size) content whole number e = absurd cc
+int_head (Array count) content whole number e = absurd cc
+int_head (Map count) content whole number e = absurd cc
+int_head (Fixed size) content whole number e = absurd cc
+int_head (Extension size) content whole number e = absurd cc
 
 -- a number is all head
-number_begins : (bytes : List ℕ) (number size : ℕ) → reading_of bytes ≡ Ok (ShownInt (pos number), size)
+number_begins : (bytes : List ℕ) (number : ℤ) (size : ℕ) → reading_of bytes ≡ Ok (ShownInt number, size)
     → (rest : List ℕ) × (head_at 0 bytes ≡ Ok (Int number, rest)) × (length bytes - length rest ≡ size)
 unfolding reading_of
 number_begins bytes number size e =
-    let a = bind_ok (head_at 0 bytes) _ (ShownInt (pos number), size) e in
-    let b = bind_ok (after_value (length bytes) 64 bytes) (λ rest. Ok (shown a.0.0 (take (length a.0.1 - length rest) a.0.1), length bytes - length rest)) (ShownInt (pos number), size) a.2 in
-    let same = ok_is (shown a.0.0 (take (length a.0.1 - length b.0) a.0.1), length bytes - length b.0) (ShownInt (pos number), size) b.2 in
-    let is = number_head a.0.0 _ number (ap (λ (x : Shown × ℕ). x.0) same) in
+    let a = bind_ok (head_at 0 bytes) _ (ShownInt number, size) e in
+    let b = bind_ok (after_value (length bytes) 64 bytes) (λ rest. Ok (shown a.0.0 (take (length a.0.1 - length rest) a.0.1) (take (length bytes - length rest) bytes), length bytes - length rest)) (ShownInt number, size) a.2 in
+    let same = ok_is (shown a.0.0 (take (length a.0.1 - length b.0) a.0.1) (take (length bytes - length b.0) bytes), length bytes - length b.0) (ShownInt number, size) b.2 in
+    let is = int_head a.0.0 _ _ number (ap (λ (x : Shown × ℕ). x.0) same) in
     let head : head_at 0 bytes ≡ Ok (Int number, a.0.1) = a.1 ∙ ap (λ (h : Head). Ok (h, a.0.1)) is in
     let at : length bytes - length bytes ≡ 0 = omega arith in
     let read = value_begins (length bytes) 64 bytes (Int number) a.0.1 (ap (λ (k : ℕ). head_at k bytes) at ∙ head) in
@@ -50,29 +61,37 @@ number_begins bytes number size e =
     (a.0.1, head, ap (λ (l : List ℕ). length bytes - length l) (sym rest) ∙ ap (λ (x : Shown × ℕ). x.1) same)
 
 pub unsigned_spelled : (bytes : List ℕ) (found : ℕ × List ℕ) → unsigned_at bytes ≡ Some found
-    → (front : List ℕ) × (bytes ≡ front ++ found.1) × SpellsUnsigned found.0 front
+    → (front : List ℕ) × (bytes ≡ front ++ found.1) × SpellsInt (pos found.0) front
 unfolding unsigned_at
 unsigned_spelled bytes found e =
     let p = from_number bytes (reading_of bytes) found e in
-    let q = number_begins bytes found.0 p.0 p.1 in
-    let s = head_spelled 0 bytes (Int found.0) q.0 q.1 in
+    let q = number_begins bytes (pos found.0) p.0 p.1 in
+    let s = head_spelled 0 bytes (Int (pos found.0)) q.0 q.1 in
     let l = ap length s.1 ∙ length-append s.0 q.0 in
     let size = q.2 in
     let front : length s.0 ≡ p.0 = omega arith in
     let rest : found.1 ≡ q.0 = p.2 ∙ ap (λ (x : List ℕ). drop p.0 x) s.1 ∙ drop_at s.0 q.0 p.0 front in
     (s.0, s.1 ∙ ap (λ (x : List ℕ). s.0 ++ x) (sym rest), s.2)
 
+-- a number below 0 is none
+pub none_below : (bytes : List ℕ) (n size : ℕ) → reading_of bytes ≡ Ok (ShownInt (negsuc n), size) → None ≡ unsigned_at bytes
+unfolding unsigned_at
+none_below bytes n size e = sym (ap (unsigned_from bytes) e)
+
 -- ---- what is spelled is read
 
-pub unsigned_read : (number : ℕ) (front rest : List ℕ) → SpellsUnsigned number front → unsigned_at (front ++ rest) ≡ Some (number, rest)
+pub int_read : (number : ℕ) (front rest : List ℕ) → SpellsInt (pos number) front → unsigned_at (front ++ rest) ≡ Some (number, rest)
 unfolding unsigned_at
-unsigned_read number front rest s =
+int_read number front rest s =
     let l = length-append front rest in
     let short : length rest ≤ length (front ++ rest) = omega arith in
-    let head = head_again 0 (Int number) front rest s in
-    let seen = int_seen (front ++ rest) number rest short head (ShownInt (pos number)) refl in
+    let head = head_again 0 (Int (pos number)) front rest s in
+    let seen = int_seen (front ++ rest) (pos number) rest short head (ShownInt (pos number)) refl in
     let size : length front ≡ length (front ++ rest) - length rest = omega arith in
     ap (unsigned_from (front ++ rest)) seen.exact ∙ ap (λ (l : List ℕ). Some (number, l)) (drop_at front rest _ size)
+
+pub unsigned_read : (number : ℕ) (front rest : List ℕ) → SpellsUnsigned number front → unsigned_at (front ++ rest) ≡ Some (number, rest)
+unsigned_read number front rest s = int_read number front rest (inl (number, refl, s))
 
 -- ---- the readers advance, and are stable
 
@@ -80,18 +99,10 @@ unsigned_read number front rest s =
 pub wide_length : (leading width number : ℕ) (front : List ℕ) → SpellsNumber leading width number front → length front ≡ suc width
 wide_length leading width number front (digits, len, n, e) = ap length e ∙ ap suc len
 
--- a number takes one byte at least and nine at most
-pub unsigned_length : (number : ℕ) (front : List ℕ) → SpellsUnsigned number front → (1 ≤ length front) × (length front ≤ 9)
-unsigned_length number front (inl (lt, e)) = let l = ap length e in (omega arith, omega arith)
-unsigned_length number front (inr (inl s)) = let l = wide_length 0xcc 1 number front s in (omega arith, omega arith)
-unsigned_length number front (inr (inr (inl s))) = let l = wide_length 0xcd 2 number front s in (omega arith, omega arith)
-unsigned_length number front (inr (inr (inr (inl s)))) = let l = wide_length 0xce 4 number front s in (omega arith, omega arith)
-unsigned_length number front (inr (inr (inr (inr s)))) = let l = wide_length 0xcf 8 number front s in (omega arith, omega arith)
-
 pub unsigned_at-Advances : Advances unsigned_at
 unsigned_at-Advances bytes found e =
     let s = unsigned_spelled bytes found e in
-    let some = unsigned_length found.0 s.0 s.2 in
+    let some = spelled_some 0 (grammar.Int (pos found.0)) s.0 s.2 in
     let l = ap length s.1 ∙ length-append s.0 found.1 in
     omega arith
 
@@ -100,7 +111,7 @@ unsigned_at-IsStable bytes more found e =
     let s = unsigned_spelled bytes found e in
     ap (λ (l : List ℕ). unsigned_at (l ++ more)) s.1
     ∙ ap unsigned_at (append_assoc s.0 found.1 more)
-    ∙ unsigned_read found.0 s.0 (found.1 ++ more) s.2
+    ∙ int_read found.0 s.0 (found.1 ++ more) s.2
 
 -- a number of at most 32 bits is one of 0 or more
 pub unsigned_32_parts : (bytes : List ℕ) (found : ℕ × List ℕ) → unsigned_32_at bytes ≡ Some found

@@ -4,3 +4,5 @@ pub mod Steps
 pub mod View
 pub mod Readers
 pub mod Spelling
+pub mod Owned
+pub mod Writing

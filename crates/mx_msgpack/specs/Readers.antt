@@ -2,7 +2,7 @@
 use Rattle.std.specs.Prelude.{◌≡◌, ℕ, zero, suc, ◌^◌, ◌<◌, pos, negsuc, List, [], ◌∷◌, ◌++◌, length, take, drop, Option, Some, None, Result, Ok, Err, nat_lt, ◌==◌, if◌then◌else◌}
 use Rattle.byteorder.specs.Endian.{big_number}
 use Rattle.mx_msgpack.specs.declared.bad.Bad.{Bad}
-use Rattle.mx_msgpack.specs.Reading.{Shown, ShownInt, ShownStr, ShownArray, ShownMap, reading_of}
+use Rattle.mx_msgpack.specs.Reading.{Shown, ShownNil, ShownBool, ShownInt, ShownStr, ShownBin, ShownArray, ShownMap, ShownOpaque, reading_of}
 
 -- what stands first in the bytes, and the bytes after it
 abbrev pub Reader : Type 0 → Type 0
@@ -53,11 +53,15 @@ bytes_at count bytes = if nat_lt (length bytes) count then None else Some (take 
 
 abbrev pub unsigned_from : List ℕ → Result (Shown × ℕ) Bad → Option (ℕ × List ℕ)
 unsigned_from bytes (Err bad) = None
+unsigned_from bytes (Ok (ShownNil, size)) = None
+unsigned_from bytes (Ok (ShownBool truth, size)) = None
 unsigned_from bytes (Ok (ShownInt (pos number), size)) = Some (number, drop size bytes)
 unsigned_from bytes (Ok (ShownInt (negsuc number), size)) = None
 unsigned_from bytes (Ok (ShownStr text, size)) = None
+unsigned_from bytes (Ok (ShownBin content, size)) = None
 unsigned_from bytes (Ok (ShownArray count items, size)) = None
 unsigned_from bytes (Ok (ShownMap count items, size)) = None
+unsigned_from bytes (Ok (ShownOpaque spelling, size)) = None
 
 -- an Int of 0 or more in any spelling
 unfoldable pub unsigned_at : Reader ℕ

@@ -1,26 +1,28 @@
 -- One step of the walk that measures a value: a head, and what stands behind it up to the next head.
-use Rattle.std.specs.Prelude.{ℕ, ◌*◌, ◌<◌, List, length, drop, Option, Some, None, Result, Ok, Err, nat_lt, if◌then◌else◌}
+use Rattle.std.specs.Prelude.{ℕ, suc, List, Option, Some, None, Result, Ok, Err}
 use Rattle.mx_msgpack.specs.declared.bad.Bad.{Bad}
-use Rattle.mx_msgpack.specs.declared.bad.Bad.TheVariants.{Short}
 use Rattle.mx_msgpack.specs.declared.head.Head.{Head}
-use Rattle.mx_msgpack.specs.declared.head.Head.TheVariants.{Int, Str, Array, Map}
-use Rattle.mx_msgpack.specs.Reading.{◌>>=◌, head_at}
+use Rattle.mx_msgpack.specs.declared.head.Head.TheVariants.{Nil, Bool as Boolean, Int, Str, Bin, Array, Map, Fixed, Extension}
+use Rattle.mx_msgpack.specs.declared.skipping.Inside.{Inside}
+use Rattle.mx_msgpack.specs.Reading.{◌>>=◌, head_at, after_bytes}
 
--- so few pairs that twice their count is a byte
-abbrev pub HoldsFew : Head → Type 0
-HoldsFew (Int number) = Unit {0}
-HoldsFew (Str size) = Unit {0}
-HoldsFew (Array count) = Unit {0}
-HoldsFew (Map count) = count < 0x10
+abbrev pub behind : Result (List ℕ) Bad → Result (Option Inside × List ℕ) Bad
+behind (Ok rest) = Ok (None, rest)
+behind (Err bad) = Err bad
 
--- how many values stand inside, where the head is a container's, and the bytes after the head and after a text
-abbrev pub step_behind : Head → List ℕ → Result (Option ℕ × List ℕ) Bad
-step_behind (Int number) rest = Ok (None, rest)
-step_behind (Str size) rest = if nat_lt (length rest) size then Err Short else Ok (None, drop size rest)
-step_behind (Array count) rest = Ok (Some count, rest)
-step_behind (Map count) rest = Ok (Some (2 * count), rest)
+-- what a container announces, where the head is one's, and the bytes after the head and after what isn't values
+abbrev pub step_behind : (at : ℕ) → Head → List ℕ → Result (Option Inside × List ℕ) Bad
+step_behind at Nil rest = Ok (None, rest)
+step_behind at (Boolean truth) rest = Ok (None, rest)
+step_behind at (Int number) rest = Ok (None, rest)
+step_behind at (Str size) rest = behind (after_bytes at size size rest)
+step_behind at (Bin size) rest = behind (after_bytes at size size rest)
+step_behind at (Array count) rest = Ok (Some (record { announced = count; each = 1 }), rest)
+step_behind at (Map count) rest = Ok (Some (record { announced = count; each = 2 }), rest)
+step_behind at (Fixed size) rest = behind (after_bytes at size size rest)
+step_behind at (Extension size) rest = behind (after_bytes at size (suc size) rest)
 
-abbrev pub step_over : ℕ → List ℕ → Result (Option ℕ × List ℕ) Bad
+abbrev pub step_over : ℕ → List ℕ → Result (Option Inside × List ℕ) Bad
 step_over at bytes = do
   head ← head_at at bytes
-  step_behind head.0 head.1
+  step_behind at head.0 head.1

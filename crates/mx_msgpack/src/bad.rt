@@ -14,4 +14,7 @@ pub enum Bad {
     /// An array or a map inside 64 others.
     #[error("more than 64 containers one inside the other at {0}")]
     Deep(usize),
+    /// A length above 2,097,152.
+    #[error("the length announced at {0} is above 2097152")]
+    Long(usize),
 }

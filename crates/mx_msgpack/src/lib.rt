@@ -4,19 +4,31 @@
 mod bad;
 mod bytes;
 mod head;
+mod laws;
 mod readers;
+mod reading;
 mod skipping;
 mod tuples;
+mod value;
 mod value_ref;
 mod writing;
 
 pub use bad::Bad;
 pub use bytes::Bytes;
+pub use laws::{
+    no_spelling_begins_another, what_is_written_is_read_again, what_is_written_is_shortest,
+};
 pub use readers::{after_byte, bytes_at, number_at, unsigned_32_at, unsigned_at};
+pub use reading::{ReadBad, read_value};
 pub use skipping::skip;
 pub use tuples::Tuples;
+pub use value::{Pairs, Value, Values};
 pub use value_ref::{ValueRef, read_ref};
-pub use writing::write_unsigned;
+pub use writing::{write_unsigned, write_value};
 
 #[cfg(test)]
+mod outside_cases;
+#[cfg(test)]
 mod tests;
+#[cfg(test)]
+mod value_tests;

@@ -12,14 +12,19 @@ use crate::skipping::skip;
 /// A value in place. A container is its count and the bytes of all that it holds.
 #[derive(Clone, Copy, Debug)]
 pub enum ValueRef<'a> {
-    /// A number from 0 up to `u64::MAX`.
+    Nil,
+    Bool(bool),
+    /// A number from -2^63 up to 2^64 - 1.
     Int(i128),
     /// The bytes of a text, which need not be UTF-8.
     Str(&'a [u8]),
+    Bin(&'a [u8]),
     /// `count` values.
     Array { count: u32, items: &'a [u8] },
     /// `count` pairs, each a key and then a value.
     Map { count: u32, items: &'a [u8] },
+    /// The whole spelling of a float or an extension, its leading byte included.
+    Opaque(&'a [u8]),
 }
 
 /// Reads the value that stands first, and how many bytes it takes, its head included.
@@ -34,27 +39,33 @@ pub fn read_ref(bytes: &[u8]) -> Result<(ValueRef<'_>, usize), Bad>
 {
     let (head, rest) = head_at(0, bytes)?;
     if let Head::Int(_) = head {
-        return Ok((value_of(head, rest), bytes.len() - rest.len()));
+        return Ok((value_of(head, rest, bytes), bytes.len() - rest.len()));
     }
     let size = skip(bytes)?;
+    let (whole, _) = bytes.split_at(size);
     let (content, _) = rest.split_at(size - (bytes.len() - rest.len()));
-    Ok((value_of(head, content), size))
+    Ok((value_of(head, content, whole), size))
 }
 
-/// The value of a head and of the bytes behind it.
-fn value_of(head: Head, content: &[u8]) -> ValueRef<'_>
-    ensures { view result ≡ shown head content.now }
+/// The value of a head, of the bytes behind it, and of all of its bytes.
+fn value_of<'a>(head: Head, content: &'a [u8], whole: &'a [u8]) -> ValueRef<'a>
+    ensures { view result ≡ shown head content.now whole.now }
 {
     match head {
-        Head::Int(number) => ValueRef::Int(i128::from(number)),
+        Head::Nil => ValueRef::Nil,
+        Head::Bool(truth) => ValueRef::Bool(truth),
+        Head::Int(number) => ValueRef::Int(number),
         Head::Str(_) => ValueRef::Str(content),
+        Head::Bin(_) => ValueRef::Bin(content),
         Head::Array(count) => ValueRef::Array {
-            count: u32::from(count),
+            count,
             items: content,
         },
         Head::Map(count) => ValueRef::Map {
-            count: u32::from(count),
+            count,
             items: content,
         },
+        Head::Fixed(_) => ValueRef::Opaque(whole),
+        Head::Extension(_) => ValueRef::Opaque(whole),
     }
 }

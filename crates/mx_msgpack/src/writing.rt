@@ -1,9 +1,14 @@
 //! Writing values, each in its shortest spelling (MessagePack specification, "Formats").
 
-ghost use Rattle.std.specs.Prelude.{◌≡◌, ◌++◌, OnOk};
-ghost use Rattle.mx_msgpack.specs.Spelling.{shortest_unsigned};
+ghost use Rattle.std.specs.Prelude.{◌≡◌, ◌++◌, ◌∷◌, ◌<◌, ◌≤◌, ◌^◌, OnOk};
+ghost use Rattle.byteorder.specs.Endian.{big_bytes};
+ghost use Rattle.mx_msgpack.specs.Grammar.{most_length};
+ghost use Rattle.mx_msgpack.specs.Owned.{list_view, pair_list_view, value_view};
+ghost use Rattle.mx_msgpack.specs.Spelling.{array_head, bin_head, IsSpellable, map_head, shortest, shortest_all, shortest_int, shortest_negative, shortest_pairs, shortest_unsigned, str_head};
+ghost use Rattle.mx_msgpack.specs.Writing.{ArePairsWritable, AreWritable, Fits64, IsWritable};
 
 use crate::bytes::Bytes;
+use crate::value::Value;
 use byteorder::{BigEndian, ByteOrder};
 use std::alloc::AllocError;
 
@@ -35,4 +40,190 @@ pub fn write_unsigned(number: u64, out: &mut Bytes) -> Result<(), AllocError>
         }
     }
     Ok(())
+}
+
+/// Adds a value in the fewest bytes that spell it.
+///
+/// # Errors
+/// Memory ran out. The front of the spelling may have been added.
+pub fn write_value(value: &Value, out: &mut Bytes) -> Result<(), AllocError>
+    requires { IsSpellable (value_view value.now) }
+    ensures { OnOk result (out.new ≡ out.old ++ shortest (value_view value.now)) }
+{
+    write_any(value, out)
+}
+
+/// As `write_value`.
+#[cycle(write)]
+fn write_any(value: &Value, out: &mut Bytes) -> Result<(), AllocError>
+    requires { IsWritable (value_view value.now) }
+    ensures { OnOk result (out.new ≡ out.old ++ shortest (value_view value.now)) }
+{
+    match value {
+        Value::Nil => out.extend_from_slice(&[0xc0])?,
+        Value::Bool(truth) => out.extend_from_slice(&[if *truth { 0xc3 } else { 0xc2 }])?,
+        Value::Int(number) => write_int(*number, out)?,
+        Value::Str(text) => {
+            write_str_head(text.len(), out)?;
+            out.extend_from_slice(text.as_slice())?;
+        }
+        Value::Bin(content) => {
+            write_bin_head(content.len(), out)?;
+            out.extend_from_slice(content.as_slice())?;
+        }
+        Value::Array(values) => {
+            write_array_head(values.len(), out)?;
+            write_all(values.as_slice(), out)?;
+        }
+        Value::Map(pairs) => {
+            write_map_head(pairs.len(), out)?;
+            write_pairs(pairs.as_slice(), out)?;
+        }
+        Value::Opaque(spelling) => out.extend_from_slice(spelling.as_slice())?,
+    }
+    Ok(())
+}
+
+/// Adds the values, one after the other.
+#[cycle(write)]
+fn write_all(values: &[Value], out: &mut Bytes) -> Result<(), AllocError>
+    requires { AreWritable (list_view values.now) }
+    ensures { OnOk result (out.new ≡ out.old ++ shortest_all (list_view values.now)) }
+{
+    for value in values {
+        write_any(value, out)?;
+    }
+    Ok(())
+}
+
+/// Adds each pair's key and then its value, one pair after the other.
+#[cycle(write)]
+fn write_pairs(pairs: &[(Value, Value)], out: &mut Bytes) -> Result<(), AllocError>
+    requires { ArePairsWritable (pair_list_view pairs.now) }
+    ensures { OnOk result (out.new ≡ out.old ++ shortest_pairs (pair_list_view pairs.now)) }
+{
+    for (key, value) in pairs {
+        write_any(key, out)?;
+        write_any(value, out)?;
+    }
+    Ok(())
+}
+
+/// Adds an Int in the fewest bytes that spell it.
+fn write_int(number: i128, out: &mut Bytes) -> Result<(), AllocError>
+    requires { Fits64 number }
+    ensures { OnOk result (out.new ≡ out.old ++ shortest_int number) }
+{
+    if number >= 0 {
+        write_unsigned(number as u64, out)
+    } else {
+        write_negative((-1 - number) as u64, out)
+    }
+}
+
+/// Adds the number below 0 that is one less than minus `below`, in the fewest bytes that spell it.
+#[tactic(auto, unfolding(crate::specs::Spelling::shortest_negative))]
+fn write_negative(below: u64, out: &mut Bytes) -> Result<(), AllocError>
+    requires { below < 2 ^ 63 }
+    ensures { OnOk result (out.new ≡ out.old ++ shortest_negative below) }
+{
+    match below {
+        0..0x20 => out.extend_from_slice(&[0xff - below as u8])?,
+        0x20..0x80 => write_8(0xd0, 0xff - below as u8, out)?,
+        0x80..0x8000 => write_16(0xd1, 0xffff - below as u16, out)?,
+        0x8000..0x8000_0000 => write_32(0xd2, 0xffff_ffff - below as u32, out)?,
+        _ => write_64(0xd3, 0xffff_ffff_ffff_ffff - below, out)?,
+    }
+    Ok(())
+}
+
+/// Adds the shortest head of a Str of so many bytes.
+#[tactic(auto, unfolding(crate::specs::Spelling::str_head))]
+fn write_str_head(size: usize, out: &mut Bytes) -> Result<(), AllocError>
+    requires { size ≤ most_length }
+    ensures { OnOk result (out.new ≡ out.old ++ str_head size) }
+{
+    match size {
+        0..0x20 => out.extend_from_slice(&[0xa0 + size as u8])?,
+        0x20..0x100 => write_8(0xd9, size as u8, out)?,
+        0x100..0x1_0000 => write_16(0xda, size as u16, out)?,
+        _ => write_32(0xdb, size as u32, out)?,
+    }
+    Ok(())
+}
+
+/// Adds the shortest head of a Bin of so many bytes.
+#[tactic(auto, unfolding(crate::specs::Spelling::bin_head))]
+fn write_bin_head(size: usize, out: &mut Bytes) -> Result<(), AllocError>
+    requires { size ≤ most_length }
+    ensures { OnOk result (out.new ≡ out.old ++ bin_head size) }
+{
+    match size {
+        0..0x100 => write_8(0xc4, size as u8, out)?,
+        0x100..0x1_0000 => write_16(0xc5, size as u16, out)?,
+        _ => write_32(0xc6, size as u32, out)?,
+    }
+    Ok(())
+}
+
+/// Adds the shortest head of an Array of so many values.
+#[tactic(auto, unfolding(crate::specs::Spelling::array_head))]
+fn write_array_head(count: usize, out: &mut Bytes) -> Result<(), AllocError>
+    requires { count ≤ most_length }
+    ensures { OnOk result (out.new ≡ out.old ++ array_head count) }
+{
+    match count {
+        0..0x10 => out.extend_from_slice(&[0x90 + count as u8])?,
+        0x10..0x1_0000 => write_16(0xdc, count as u16, out)?,
+        _ => write_32(0xdd, count as u32, out)?,
+    }
+    Ok(())
+}
+
+/// Adds the shortest head of a Map of so many pairs.
+#[tactic(auto, unfolding(crate::specs::Spelling::map_head))]
+fn write_map_head(count: usize, out: &mut Bytes) -> Result<(), AllocError>
+    requires { count ≤ most_length }
+    ensures { OnOk result (out.new ≡ out.old ++ map_head count) }
+{
+    match count {
+        0..0x10 => out.extend_from_slice(&[0x80 + count as u8])?,
+        0x10..0x1_0000 => write_16(0xde, count as u16, out)?,
+        _ => write_32(0xdf, count as u32, out)?,
+    }
+    Ok(())
+}
+
+/// Adds a leading byte and a number of 8 bits.
+fn write_8(leading: u8, number: u8, out: &mut Bytes) -> Result<(), AllocError>
+    ensures { OnOk result (out.new ≡ out.old ++ leading ∷ big_bytes 1 number) }
+{
+    out.extend_from_slice(&[leading, number])
+}
+
+/// Adds a leading byte and a number of 16 bits, the highest first.
+fn write_16(leading: u8, number: u16, out: &mut Bytes) -> Result<(), AllocError>
+    ensures { OnOk result (out.new ≡ out.old ++ leading ∷ big_bytes 2 number) }
+{
+    let mut spelled = [leading, 0, 0];
+    BigEndian::write_u16(&mut spelled[1..], number);
+    out.extend_from_slice(&spelled)
+}
+
+/// Adds a leading byte and a number of 32 bits, the highest first.
+fn write_32(leading: u8, number: u32, out: &mut Bytes) -> Result<(), AllocError>
+    ensures { OnOk result (out.new ≡ out.old ++ leading ∷ big_bytes 4 number) }
+{
+    let mut spelled = [leading, 0, 0, 0, 0];
+    BigEndian::write_u32(&mut spelled[1..], number);
+    out.extend_from_slice(&spelled)
+}
+
+/// Adds a leading byte and a number of 64 bits, the highest first.
+fn write_64(leading: u8, number: u64, out: &mut Bytes) -> Result<(), AllocError>
+    ensures { OnOk result (out.new ≡ out.old ++ leading ∷ big_bytes 8 number) }
+{
+    let mut spelled = [leading, 0, 0, 0, 0, 0, 0, 0, 0];
+    BigEndian::write_u64(&mut spelled[1..], number);
+    out.extend_from_slice(&spelled)
 }

@@ -1,5 +1,5 @@
 use Rattle.std.proofs.lemmas.Result.{err_from_is_err_and}
-use Rattle.mx_msgpack.proofs.Values.{measured_ok, measured_err}
+use Rattle.mx_msgpack.proofs.ValueLaws.{measured_ok, measured_err}
 use Rattle.mx_msgpack.proofs.Stack.{first_fails, first_ends}
 use Rattle.mx_msgpack.proofs.skipping.measure.Goals as goal
 

@@ -1,7 +1,7 @@
 use Rattle.std.proofs.Common.{◌≡◌, ◌-◌, ℕ, length, refl, sym, ◌∙◌, arith, length-set}
 use Rattle.std.proofs.lemmas.Result.{err_from_is_err_and}
-use Rattle.mx_msgpack.proofs.Values.{measured_ok, measured_err}
-use Rattle.mx_msgpack.proofs.Stack.{stack_begins, stack_ends, walk_pops, walk_fails, walk_steps, walk_deep, walk_pushes}
+use Rattle.mx_msgpack.proofs.ValueLaws.{measured_ok, measured_err}
+use Rattle.mx_msgpack.proofs.Stack.{stack_begins, stack_ends, walk_pops, walk_fails, walk_steps, walk_deep, walk_long, walk_pushes}
 use Rattle.mx_msgpack.proofs.skipping.walk.Goals as goal
 
 pub loop-depth-init : goal.loop-depth-init
@@ -36,7 +36,14 @@ returns-then-depth-gt-MOST_NESTED c =
     measured_err c.args.bytes.now _
     (sym c.loop-depth.invariant.same
     ∙ walk_deep (length c.args.bytes.now) c.loop-depth.depth c.loop-depth.left c.loop-depth.rest.now c.loop-depth-test.true c.if-left-depth-eq0.false
-    c.in-Some.count c.in_ok-inside.after.now (omega arith) (rw c.in-Some.is at c.in_ok-inside.ensures.exact))
+    c.in-Some.inside c.in_ok-inside.after.now (omega arith) (rw c.in-Some.is at c.in_ok-inside.ensures.exact))
+
+pub returns-then-inside-gt-MOST_LENGTH : goal.returns-then-inside-gt-MOST_LENGTH
+returns-then-inside-gt-MOST_LENGTH c =
+    measured_err c.args.bytes.now _
+    (sym c.loop-depth.invariant.same
+    ∙ walk_long (length c.args.bytes.now) c.loop-depth.depth c.loop-depth.left c.loop-depth.rest.now c.loop-depth-test.true c.if-left-depth-eq0.false
+    c.in-Some.inside c.in_ok-inside.after.now (omega arith) (omega arith) (rw c.in-Some.is at c.in_ok-inside.ensures.exact))
 
 pub loop-depth-preserved-in-Some : goal.loop-depth-preserved-in-Some
 loop-depth-preserved-in-Some c = record {
@@ -45,7 +52,8 @@ loop-depth-preserved-in-Some c = record {
   within = omega (arith, c.in_ok-inside.ensures.shorter);
   same =
       sym (walk_pushes (length c.args.bytes.now) c.loop-depth.depth c.loop-depth.left c.loop-depth.rest.now c.loop-depth-test.true c.if-left-depth-eq0.false
-      c.in-Some.count c.in_ok-inside.after.now (omega arith) c.loop-depth.invariant.whole (rw c.in-Some.is at c.in_ok-inside.ensures.exact))
+      c.in-Some.inside c.in_ok-inside.after.now (omega arith) c.loop-depth.invariant.whole (omega arith)
+      (rw c.in-Some.is at c.in_ok-inside.ensures.exact))
       ∙ c.loop-depth.invariant.same;
 }
 

@@ -21,8 +21,8 @@ overflow_sub-size c =
     (value_bounds c.args.bytes.now c.in_ok-head.head c.in_ok-head.rest.now c.in_ok-size.size (omega (arith, c.in_ok-head.ensures.shorter))
     c.in_ok-head.ensures.exact (sym c.in_ok-size.ensures.exact)).behind
 
-pub split_at-requires : goal.split_at-requires
-split_at-requires c =
+pub split_at-requires-2 : goal.split_at-requires-2
+split_at-requires-2 c =
     (value_bounds c.args.bytes.now c.in_ok-head.head c.in_ok-head.rest.now c.in_ok-size.size (omega (arith, c.in_ok-head.ensures.shorter))
     c.in_ok-head.ensures.exact (sym c.in_ok-size.ensures.exact)).within
 
@@ -37,5 +37,5 @@ pub returns : goal.returns
 returns c =
     let s =
     value_seen c.args.bytes.now c.in_ok-head.head c.in_ok-head.rest.now c.in_ok-size.size (omega (arith, c.in_ok-head.ensures.shorter))
-    c.in_ok-head.ensures.exact (sym c.in_ok-size.ensures.exact) _ c.split_at.result.0.now c.split_at.ensures.front c.value_of-2.ensures in
+    c.in_ok-head.ensures.exact (sym c.in_ok-size.ensures.exact) _ c.split_at-2.result.0.now c.split_at.result.0.now c.split_at-2.ensures.front c.split_at.ensures.front c.value_of-2.ensures in
     record { spelled = s.spelled; exact = s.exact }

@@ -1,50 +1,77 @@
 -- The grammar and reading from the left agree.
 -- `value_spelled`: where reading leaves a rest, the bytes before it spell a value.
 -- `value_again`: bytes that spell a value are read, whatever follows them.
-use Rattle.std.proofs.Common.{◌≡◌, ℕ, zero, suc, ◌+◌, ◌-◌, ◌*◌, ◌≤◌, false, ltb, List, [], ◌∷◌, ◌++◌, length, take, drop, Result, Ok, refl, sym, ap, ◌∙◌, append_assoc, arith}
-use Rattle.std.specs.Prelude.{pos}
+use Rattle.std.proofs.Common.{◌≡◌, ℕ, zero, suc, ◌-◌, ◌*◌, ◌≤◌, false, ltb, Some, inl, inr, ◌⊎◌, List, [], ◌++◌, length, take, drop, Result, Ok, refl, sym, ap, ◌∙◌, append_assoc, arith}
 use Rattle.std.proofs.lemmas.Bool.{ltb-false, le-ltb}
 use Rattle.std.proofs.lemmas.List.{append-nil, drop_at, take-append-drop, length-append, length-take}
 use Rattle.mx_msgpack.specs.declared.bad.Bad.{Bad}
-use Rattle.mx_msgpack.specs.declared.bad.Bad.TheVariants.{Short}
+use Rattle.mx_msgpack.specs.declared.bad.Bad.TheVariants.{Short, Long}
 use Rattle.mx_msgpack.specs.declared.head.Head.{Head}
-use Rattle.mx_msgpack.specs.declared.head.Head.TheVariants.{Int, Str, Array, Map}
-use Rattle.mx_msgpack.specs.Grammar.{Value, Values, NoValue, MoreValues, Pairs, NoPair, MorePairs, value_count, pair_count, Spells, SpellsAll, SpellsPairs}
+use Rattle.mx_msgpack.specs.declared.head.Head.TheVariants.{Nil, Bool as Boolean, Int, Str, Bin, Array, Map, Fixed, Extension}
+use Rattle.mx_msgpack.specs.Grammar.{Value, Values, NoValue, MoreValues, Pairs, NoPair, MorePairs, value_count, pair_count, most_length, IsOpaque, Spells, SpellsAll, SpellsPairs}
 use Rattle.mx_msgpack.specs.Grammar as grammar
-use Rattle.mx_msgpack.specs.Reading.{head_at, after_all, after_content, after_value, Shown, ShownInt, ShownStr, ShownArray, ShownMap, shown}
-use Rattle.mx_msgpack.proofs.Results.{bind_ok, guard_ok, ok_is}
-use Rattle.mx_msgpack.proofs.Values.{inside_of, value_is, value_begins}
+use Rattle.mx_msgpack.specs.Reading.{head_at, after_all, after_bytes, after_inside, after_content, after_value, Shown, ShownNil, ShownBool, ShownInt, ShownStr, ShownBin, ShownArray, ShownMap, ShownOpaque, shown}
+use Rattle.mx_msgpack.proofs.Results.{bind_ok, guard_ok, guard_then, ok_is}
+use Rattle.mx_msgpack.proofs.ValueLaws.{inside_of, value_is, value_begins}
 use Rattle.mx_msgpack.proofs.Heads.{SpellsHead, head_spelled, head_again}
+use Rattle.mx_msgpack.proofs.OpaqueLaws.{FixedParts, ExtensionParts, fixed_whole, extension_whole, opaque_parts}
 
 -- ---- what is spelled is read
 
-twice : (count : ℕ) → 2 * suc count ≡ suc (suc (2 * count))
+pub twice : (count : ℕ) → 2 * suc count ≡ suc (suc (2 * count))
 twice count = omega arith
+
+-- bytes behind a head that announces them
+bytes_again : (at announced size : ℕ) (content rest : List ℕ) → announced ≤ most_length → length content ≡ size → after_bytes at announced size (content ++ rest) ≡ Ok rest
+bytes_again at announced size content rest few len =
+    let short : ltb most_length announced ≡ false = le-ltb _ _ few in
+    let long : ltb (length (content ++ rest)) size ≡ false = le-ltb _ _ (omega (arith, length-append content rest)) in
+    rw (short, long, drop_at content rest size len) refl
+
+-- values behind a head that announces them
+inside_again : (one : List ℕ → Result (List ℕ) Bad) (at announced values : ℕ) (bytes rest : List ℕ) → announced ≤ most_length → after_all one values bytes ≡ Ok rest
+    → after_inside (Some one) at announced values bytes ≡ Ok rest
+inside_again one at announced values bytes rest few e = rw (le-ltb most_length announced few) e
+
+-- a value from a head on that is spelled
+begun : (total room : ℕ) (head : Head) (front content rest : List ℕ) → SpellsHead head front
+    → after_value total room ((front ++ content) ++ rest) ≡ after_content (inside_of total room) (total - length ((front ++ content) ++ rest)) head (content ++ rest)
+begun total room head front content rest s =
+    let bytes = (front ++ content) ++ rest in
+    value_begins total room bytes head (content ++ rest)
+    (ap (head_at (total - length bytes)) (append_assoc front content rest) ∙ head_again (total - length bytes) head front (content ++ rest) s)
+
+-- a value that is all head
+begun_whole : (total room : ℕ) (head : Head) (front rest : List ℕ) → SpellsHead head front
+    → after_value total room (front ++ rest) ≡ after_content (inside_of total room) (total - length (front ++ rest)) head rest
+begun_whole total room head front rest s = value_begins total room (front ++ rest) head rest (head_again (total - length (front ++ rest)) head front rest s)
+
+opaque_again : (total room : ℕ) (bytes rest : List ℕ) → FixedParts bytes ⊎ ExtensionParts bytes → after_value total room (bytes ++ rest) ≡ Ok rest
+opaque_again total room bytes rest (inl p) =
+    rw p.parts (begun total room (Fixed p.size) p.front p.content rest p.head ∙ bytes_again _ p.size p.size p.content rest p.few p.many)
+opaque_again total room bytes rest (inr p) =
+    rw p.parts (begun total room (Extension p.size) p.front p.content rest p.head ∙ bytes_again _ p.size (suc p.size) p.content rest p.few p.many)
 
 mutual
   pub value_again : (total room : ℕ) (value : Value) (front rest : List ℕ) → Spells room value front → after_value total room (front ++ rest) ≡ Ok rest
-  value_again total room (grammar.Int number) front rest (unsigned, n, s) =
-      value_begins total room (front ++ rest) (Int unsigned) rest (head_again (total - length (front ++ rest)) (Int unsigned) front rest s)
-  value_again total room (grammar.Str text) front rest (lt, e) =
-      let bytes = (0xa0 + length text) ∷ (text ++ rest) in
-      let long : ltb (length (text ++ rest)) (length text) ≡ false = le-ltb _ _ (omega (arith, length-append text rest)) in
-      rw e
-      (value_begins total room bytes (Str (length text)) (text ++ rest) (head_again (total - length bytes) (Str (length text)) ((0xa0 + length text) ∷ []) (text ++ rest) (lt, refl))
-      ∙ rw (long, drop_at text rest (length text) refl) refl)
+  value_again total room grammar.Nil front rest s = begun_whole total room Nil front rest s
+  value_again total room (grammar.Boolean truth) front rest s = begun_whole total room (Boolean truth) front rest s
+  value_again total room (grammar.Int number) front rest s = begun_whole total room (Int number) front rest s
+  value_again total room (grammar.Str text) front rest (head, h, few, e) =
+      rw e (begun total room (Str (length text)) head text rest h ∙ bytes_again _ (length text) (length text) text rest few refl)
+  value_again total room (grammar.Bin content) front rest (head, h, few, e) =
+      rw e (begun total room (Bin (length content)) head content rest h ∙ bytes_again _ (length content) (length content) content rest few refl)
   value_again total zero (grammar.Array values) front rest s = absurd s
-  value_again total (suc room) (grammar.Array values) front rest (content, lt, e, s) =
-      let bytes = (0x90 + value_count values) ∷ (content ++ rest) in
+  value_again total (suc room) (grammar.Array values) front rest (head, content, h, few, e, s) =
       rw e
-      (value_begins total (suc room) bytes (Array (value_count values)) (content ++ rest)
-      (head_again (total - length bytes) (Array (value_count values)) ((0x90 + value_count values) ∷ []) (content ++ rest) (lt, refl))
-      ∙ all_again total room values content rest s)
+      (begun total (suc room) (Array (value_count values)) head content rest h
+      ∙ inside_again (after_value total room) _ (value_count values) (value_count values) (content ++ rest) rest few (all_again total room values content rest s))
   value_again total zero (grammar.Map pairs) front rest s = absurd s
-  value_again total (suc room) (grammar.Map pairs) front rest (content, lt, e, s) =
-      let bytes = (0x80 + pair_count pairs) ∷ (content ++ rest) in
+  value_again total (suc room) (grammar.Map pairs) front rest (head, content, h, few, e, s) =
       rw e
-      (value_begins total (suc room) bytes (Map (pair_count pairs)) (content ++ rest)
-      (head_again (total - length bytes) (Map (pair_count pairs)) ((0x80 + pair_count pairs) ∷ []) (content ++ rest) (lt, refl))
-      ∙ pairs_again total room pairs content rest s)
+      (begun total (suc room) (Map (pair_count pairs)) head content rest h
+      ∙ inside_again (after_value total room) _ (pair_count pairs) (2 * pair_count pairs) (content ++ rest) rest few (pairs_again total room pairs content rest s))
+  value_again total room (grammar.Opaque spelling) front rest (o, e) = rw e (opaque_again total room spelling rest (opaque_parts spelling o))
 
   pub all_again : (total room : ℕ) (values : Values) (front rest : List ℕ) → SpellsAll room values front
       → after_all (after_value total room) (value_count values) (front ++ rest) ≡ Ok rest
@@ -89,7 +116,7 @@ pub record FrontPairs (room count : ℕ) (bytes rest : List ℕ) : Type 0 where
   pub many : pair_count pairs ≡ count
   pub spelled : SpellsPairs room pairs front
 
-joined : (bytes front middle more rest : List ℕ) → bytes ≡ front ++ middle → middle ≡ more ++ rest → bytes ≡ (front ++ more) ++ rest
+pub joined : (bytes front middle more rest : List ℕ) → bytes ≡ front ++ middle → middle ≡ more ++ rest → bytes ≡ (front ++ more) ++ rest
 joined bytes front middle more rest e f = e ∙ ap (λ (x : List ℕ). front ++ x) f ∙ sym (append_assoc front more rest)
 
 pairs_joined : (bytes key middle value more others rest : List ℕ) → bytes ≡ key ++ middle → middle ≡ value ++ more → more ≡ others ++ rest → bytes ≡ ((key ++ value) ++ others) ++ rest
@@ -132,12 +159,16 @@ pairs_spelled room one claim (suc count) bytes rest e =
 
 -- what is shown is this value, whose containers have this much room
 abbrev pub ShowsIn : ℕ → Shown → Value → Type 0
+ShowsIn room ShownNil value = value ≡ grammar.Nil
+ShowsIn room (ShownBool truth) value = value ≡ grammar.Boolean truth
 ShowsIn room (ShownInt number) value = value ≡ grammar.Int number
 ShowsIn room (ShownStr text) value = value ≡ grammar.Str text
+ShowsIn room (ShownBin content) value = value ≡ grammar.Bin content
 ShowsIn zero (ShownArray count items) value = ⊥
 ShowsIn (suc room) (ShownArray count items) value = (values : Values) × (value ≡ grammar.Array values) × (count ≡ value_count values) × SpellsAll room values items
 ShowsIn zero (ShownMap count items) value = ⊥
 ShowsIn (suc room) (ShownMap count items) value = (pairs : Pairs) × (value ≡ grammar.Map pairs) × (count ≡ pair_count pairs) × SpellsPairs room pairs items
+ShowsIn room (ShownOpaque spelling) value = value ≡ grammar.Opaque spelling
 
 -- what stands behind a head that these bytes spell
 pub record Content (room : ℕ) (head : Head) (front after rest : List ℕ) : Type 0 where
@@ -145,47 +176,90 @@ pub record Content (room : ℕ) (head : Head) (front after rest : List ℕ) : Ty
   pub content : List ℕ
   pub parts : after ≡ content ++ rest
   pub spelled : Spells room value (front ++ content)
-  pub shows : ShowsIn room (shown head content) value
+  pub shows : ShowsIn room (shown head content (front ++ content)) value
 
 -- the claim for the depth below, where there is one
 abbrev Below : ℕ → ℕ → Type 0
 Below total zero = Unit {0}
 Below total (suc room) = Claim room (after_value total room)
 
+-- bytes that a head announces, and the bytes after them
+record Announced (announced size : ℕ) (after rest : List ℕ) : Type 0 where
+  few : announced ≤ most_length
+  many : length (take size after) ≡ size
+  parts : after ≡ take size after ++ rest
+
+bytes_announced : (at announced size : ℕ) (after rest : List ℕ) → after_bytes at announced size after ≡ Ok rest → Announced announced size after rest
+bytes_announced at announced size after rest e =
+    let f = guard_then (ltb most_length announced) (Long at) _ rest e in
+    let g = guard_ok (ltb (length after) size) Short (drop size after) rest f.1 in
+    let long : size ≤ length after = ltb-false _ _ g.0 in
+    record {
+      few = ltb-false _ _ f.0;
+      many = omega (arith, length-take size after);
+      parts = sym (take-append-drop size after) ∙ ap (λ (x : List ℕ). take size after ++ x) g.1;
+    }
+
+-- values that a head announces
+inside_announced : (one : List ℕ → Result (List ℕ) Bad) (at announced values : ℕ) (after rest : List ℕ) → after_inside (Some one) at announced values after ≡ Ok rest
+    → (announced ≤ most_length) × (after_all one values after ≡ Ok rest)
+inside_announced one at announced values after rest e =
+    let f = guard_then (ltb most_length announced) (Long at) (after_all one values after) rest e in
+    (ltb-false _ _ f.0, f.1)
+
 content_spelled : (total room at : ℕ) (head : Head) (front after rest : List ℕ) → Below total room → SpellsHead head front
     → after_content (inside_of total room) at head after ≡ Ok rest → Content room head front after rest
+content_spelled total room at Nil front after rest below s e =
+    record { value = grammar.Nil; content = []; parts = ok_is after rest e; spelled = rw (append-nil front) s; shows = refl }
+content_spelled total room at (Boolean truth) front after rest below s e =
+    record { value = grammar.Boolean truth; content = []; parts = ok_is after rest e; spelled = rw (append-nil front) s; shows = refl }
 content_spelled total room at (Int number) front after rest below s e =
-    record { value = grammar.Int (pos number); content = []; parts = ok_is after rest e; spelled = (number, refl, rw (append-nil front) s); shows = refl }
+    record { value = grammar.Int number; content = []; parts = ok_is after rest e; spelled = rw (append-nil front) s; shows = refl }
 content_spelled total room at (Str size) front after rest below s e =
-    let g = guard_ok (ltb (length after) size) Short (drop size after) rest e in
-    let long : size ≤ length after = ltb-false _ _ g.0 in
-    let len : length (take size after) ≡ size = omega (arith, length-take size after) in
-    record {
-      value = grammar.Str (take size after);
-      content = take size after;
-      parts = sym (take-append-drop size after) ∙ ap (λ (x : List ℕ). take size after ++ x) g.1;
-      spelled = (rw len s.0, rw (len, s.1) refl);
-      shows = refl;
-    }
+    let g = bytes_announced at size size after rest e in
+    record { value = grammar.Str (take size after); content = take size after; parts = g.parts; spelled = (front, rw g.many s, rw g.many g.few, refl); shows = refl }
+content_spelled total room at (Bin size) front after rest below s e =
+    let g = bytes_announced at size size after rest e in
+    record { value = grammar.Bin (take size after); content = take size after; parts = g.parts; spelled = (front, rw g.many s, rw g.many g.few, refl); shows = refl }
 content_spelled total zero at (Array count) front after rest below s e = absurd cc
 content_spelled total (suc room) at (Array count) front after rest below s e =
-    let all = all_spelled room (after_value total room) below count after rest e in
+    let g = inside_announced (after_value total room) at count count after rest e in
+    let all = all_spelled room (after_value total room) below count after rest g.1 in
     record {
       value = grammar.Array all.values;
       content = all.front;
       parts = all.parts;
-      spelled = (all.front, rw all.many s.0, rw (all.many, s.1) refl, all.spelled);
+      spelled = (front, all.front, rw all.many s, rw all.many g.0, refl, all.spelled);
       shows = (all.values, refl, sym all.many, all.spelled);
     }
 content_spelled total zero at (Map count) front after rest below s e = absurd cc
 content_spelled total (suc room) at (Map count) front after rest below s e =
-    let all = pairs_spelled room (after_value total room) below count after rest e in
+    let g = inside_announced (after_value total room) at count (2 * count) after rest e in
+    let all = pairs_spelled room (after_value total room) below count after rest g.1 in
     record {
       value = grammar.Map all.pairs;
       content = all.front;
       parts = all.parts;
-      spelled = (all.front, rw all.many s.0, rw (all.many, s.1) refl, all.spelled);
+      spelled = (front, all.front, rw all.many s, rw all.many g.0, refl, all.spelled);
       shows = (all.pairs, refl, sym all.many, all.spelled);
+    }
+content_spelled total room at (Fixed size) front after rest below s e =
+    let g = bytes_announced at size size after rest e in
+    record {
+      value = grammar.Opaque (front ++ take size after);
+      content = take size after;
+      parts = g.parts;
+      spelled = (fixed_whole size front (take size after) s g.many, refl);
+      shows = refl;
+    }
+content_spelled total room at (Extension size) front after rest below s e =
+    let g = bytes_announced at size (suc size) after rest e in
+    record {
+      value = grammar.Opaque (front ++ take (suc size) after);
+      content = take (suc size) after;
+      parts = g.parts;
+      spelled = (extension_whole size front (take (suc size) after) s g.few g.many, refl);
+      shows = refl;
     }
 
 -- the value that stands first, by its head and its content
@@ -199,7 +273,7 @@ pub record Stands (total room : ℕ) (bytes rest : List ℕ) : Type 0 where
   pub parts : after ≡ content ++ rest
   pub whole : bytes ≡ front ++ rest
   pub spelled : Spells room value front
-  pub shows : ShowsIn room (shown head content) value
+  pub shows : ShowsIn room (shown head content front) value
 
 stands_over : (total room : ℕ) → Below total room → (bytes rest : List ℕ) → after_value total room bytes ≡ Ok rest → Stands total room bytes rest
 stands_over total room below bytes rest e =

@@ -1,0 +1,28 @@
+-- What can be written: numbers and lengths within the limits.
+use Rattle.std.specs.Prelude.{◌^◌, ◌<◌, ◌≤◌, ℤ, pos, negsuc, ⊤}
+use Rattle.mx_msgpack.specs.Grammar.{Value, Nil, Boolean, Int, Str, Bin, Array, Map, Opaque, Values, NoValue, MoreValues, Pairs, NoPair, MorePairs, value_count, pair_count, most_length}
+use Rattle.std.specs.Prelude.{length}
+
+-- from -2^63 up to 2^64 - 1
+abbrev pub Fits64 : ℤ → Type 0
+Fits64 (pos number) = number < 2 ^ 64
+Fits64 (negsuc below) = below < 2 ^ 63
+
+abbrev mutual
+  pub IsWritable : Value → Type 0
+  IsWritable Nil = ⊤
+  IsWritable (Boolean truth) = ⊤
+  IsWritable (Int number) = Fits64 number
+  IsWritable (Str text) = length text ≤ most_length
+  IsWritable (Bin content) = length content ≤ most_length
+  IsWritable (Array values) = (value_count values ≤ most_length) × AreWritable values
+  IsWritable (Map pairs) = (pair_count pairs ≤ most_length) × ArePairsWritable pairs
+  IsWritable (Opaque spelling) = ⊤
+
+  pub AreWritable : Values → Type 0
+  AreWritable NoValue = ⊤
+  AreWritable (MoreValues value others) = IsWritable value × AreWritable others
+
+  pub ArePairsWritable : Pairs → Type 0
+  ArePairsWritable NoPair = ⊤
+  ArePairsWritable (MorePairs key value others) = IsWritable key × IsWritable value × ArePairsWritable others
