@@ -32,10 +32,18 @@ unfolding reading_of head_at after_value
 first_is_tuple = record {
   values = MoreValues (Int (pos 1)) (MoreValues (Str (0x61 ∷ [])) NoValue);
   spelled = (
+    0x92 ∷ [],
     0x01 ∷ 0xa1 ∷ 0x61 ∷ [],
+    inl (omega arith, refl),
     omega arith,
     refl,
-    (0x01 ∷ [], 0xa1 ∷ 0x61 ∷ [], refl, (1, refl, inl (omega arith, refl)), (0xa1 ∷ 0x61 ∷ [], [], refl, (omega arith, refl), refl)),
+    (
+      0x01 ∷ [],
+      0xa1 ∷ 0x61 ∷ [],
+      refl,
+      inl (1, refl, inl (omega arith, refl)),
+      (0xa1 ∷ 0x61 ∷ [], [], refl, (0xa1 ∷ [], inl (omega arith, refl), omega arith, refl), refl),
+    ),
   );
   numbered = ap is_some (unsigned_read 1 (0x01 ∷ []) (0xa1 ∷ 0x61 ∷ []) (inl (omega arith, refl)));
 }

@@ -1,11 +1,11 @@
 -- The pairs of a map: which value stands under a key.
-use Rattle.std.proofs.Common.{◌≡◌, ℕ, suc, ◌+◌, ◌<◌, ◌==◌, List, [], ◌∷◌, ◌++◌, length, drop, Option, Some, None, Result, Ok, Err, refl, sym, ap, ◌∙◌, arith}
+use Rattle.std.proofs.Common.{inl, ◌≡◌, ℕ, suc, ◌+◌, ◌<◌, ◌==◌, List, [], ◌∷◌, ◌++◌, length, drop, Option, Some, None, Result, Ok, Err, refl, sym, ap, ◌∙◌, arith}
 use Rattle.std.specs.Prelude.{pos, if◌then◌else◌}
 use Rattle.std.proofs.lemmas.List.{append-nil, drop_at}
 use Rattle.mx_msgpack.specs.declared.bad.Bad.{Bad}
 use Rattle.mx_msgpack.specs.Grammar as grammar
 use Rattle.mx_msgpack.specs.Grammar.{Value, Pairs, pair_count, SpellsUnsigned, Spells, SpellsPairs}
-use Rattle.mx_msgpack.specs.Reading.{Shown, ShownInt, ShownStr, ShownArray, ShownMap, reading_of}
+use Rattle.mx_msgpack.specs.Reading.{Shown, ShownInt, ShownStr, ShownArray, ShownMap, reading_of, ShownNil, ShownBool, ShownBin, ShownOpaque}
 use Rattle.mx_msgpack.specs.Readers.{Advances, unsigned_at}
 use Rattle.mx_msgpack.proofs.Options.{same_some}
 use Rattle.mx_msgpack.proofs.UnsignedLaws.{unsigned_read}
@@ -28,11 +28,15 @@ map_again pairs content rest few s =
 map_from : (bytes : List ℕ) (read : Result (Shown × ℕ) Bad) (found : (ℕ × List ℕ) × List ℕ) → map_shown bytes read ≡ Some found
     → (what : Shown) × (size : ℕ) × (read ≡ Ok (what, size)) × (found.1 ≡ drop size bytes)
 map_from bytes (Err bad) found e = absurd cc
+map_from bytes (Ok (ShownNil, size)) found e = absurd cc
+map_from bytes (Ok (ShownBool truth, size)) found e = absurd cc
 map_from bytes (Ok (ShownInt number, size)) found e = absurd cc
 map_from bytes (Ok (ShownStr text, size)) found e = absurd cc
+map_from bytes (Ok (ShownBin content, size)) found e = absurd cc
 map_from bytes (Ok (ShownArray count items, size)) found e = absurd cc
 map_from bytes (Ok (ShownMap count pairs, size)) found e =
     (ShownMap count pairs, size, refl, sym (ap (λ (x : (ℕ × List ℕ) × List ℕ). x.1) (same_some ((count, pairs), drop size bytes) found e)))
+map_from bytes (Ok (ShownOpaque spelling, size)) found e = absurd cc
 
 pub map_at-Advances : Advances map_at
 unfolding map_at
@@ -52,7 +56,7 @@ pub first_pair : (wanted count key : ℕ) (value : Value) (front middle others :
     → value_under wanted (suc count) (front ++ (middle ++ others)) ≡ later (if key == wanted then Some (middle ++ others) else None) (value_under wanted count others)
 first_pair wanted count key value front middle others s t =
     let read = unsigned_read key front (middle ++ others) s in
-    let behind = after_one_again (grammar.Int (pos key)) front (middle ++ others) (key, refl, s) in
+    let behind = after_one_again (grammar.Int (pos key)) front (middle ++ others) (inl (key, refl, s)) in
     let next = ap after_one behind ∙ after_one_again value middle others t in
     λ i. pair_under wanted count (read i) (behind i) (next i)
 

@@ -88,10 +88,10 @@ small number few = inl (few, refl)
 
 pair_spelled : (key : ℕ) (value : grammar.Value) (middle others : List ℕ) (pairs : Pairs) → key < 0x80 → Spells 63 value middle → SpellsPairs 63 pairs others
     → SpellsPairs 63 (MorePairs (number_value key) value pairs) (key ∷ (middle ++ others))
-pair_spelled key value middle others pairs few s ss = (key ∷ [], middle, others, refl, (key, refl, small key few), s, ss)
+pair_spelled key value middle others pairs few s ss = (key ∷ [], middle, others, refl, inl (key, refl, small key few), s, ss)
 
 last_spelled : (key : ℕ) (value : grammar.Value) (middle : List ℕ) → key < 0x80 → Spells 63 value middle → SpellsPairs 63 (MorePairs (number_value key) value NoPair) (key ∷ middle)
-last_spelled key value middle few s = (key ∷ [], middle, [], sym (append-nil (key ∷ middle)), (key, refl, small key few), s, refl)
+last_spelled key value middle few s = (key ∷ [], middle, [], sym (append-nil (key ∷ middle)), inl (key, refl, small key few), s, refl)
 
 -- ---- the header of a row
 
@@ -115,9 +115,9 @@ header_value replica lsn = MorePairs (number_value type_key) (number_value repla
 module _ (replica lsn : ℕ) (few : replica < 2 ^ 64) (below : lsn < 2 ^ 64) where
   header_spelled : SpellsPairs 63 (header_value replica lsn) (header_pairs replica lsn)
   header_spelled =
-      pair_spelled type_key (number_value replace_type) (replace_type ∷ []) (replica_key ∷ (shortest_unsigned replica ++ lsn_pair lsn)) (id_value replica lsn) (omega arith) (replace_type, refl, small replace_type (omega arith))
-      (pair_spelled replica_key (number_value replica) (shortest_unsigned replica) (lsn_pair lsn) (lsn_value lsn) (omega arith) (replica, refl, shortest_spelled replica few)
-      (last_spelled lsn_key (number_value lsn) (shortest_unsigned lsn) (omega arith) (lsn, refl, shortest_spelled lsn below)))
+      pair_spelled type_key (number_value replace_type) (replace_type ∷ []) (replica_key ∷ (shortest_unsigned replica ++ lsn_pair lsn)) (id_value replica lsn) (omega arith) (inl (replace_type, refl, small replace_type (omega arith)))
+      (pair_spelled replica_key (number_value replica) (shortest_unsigned replica) (lsn_pair lsn) (lsn_value lsn) (omega arith) (inl (replica, refl, shortest_spelled replica few))
+      (last_spelled lsn_key (number_value lsn) (shortest_unsigned lsn) (omega arith) (inl (lsn, refl, shortest_spelled lsn below))))
 
   -- what stands under a key in the header
   under : ℕ → Option (List ℕ)
@@ -130,10 +130,10 @@ module _ (replica lsn : ℕ) (few : replica < 2 ^ 64) (below : lsn < 2 ^ 64) whe
   unfolding under
   header_under wanted =
       let first = first_pair wanted 2 type_key (number_value replace_type) (type_key ∷ []) (replace_type ∷ []) (replica_key ∷ (shortest_unsigned replica ++ lsn_pair lsn))
-      (small type_key (omega arith)) (replace_type, refl, small replace_type (omega arith)) in
+      (small type_key (omega arith)) (inl (replace_type, refl, small replace_type (omega arith))) in
       let second = first_pair wanted 1 replica_key (number_value replica) (replica_key ∷ []) (shortest_unsigned replica) (lsn_pair lsn)
-      (small replica_key (omega arith)) (replica, refl, shortest_spelled replica few) in
-      let third = last_pair wanted lsn_key (number_value lsn) (lsn_key ∷ []) (shortest_unsigned lsn) (small lsn_key (omega arith)) (lsn, refl, shortest_spelled lsn below) in
+      (small replica_key (omega arith)) (inl (replica, refl, shortest_spelled replica few)) in
+      let third = last_pair wanted lsn_key (number_value lsn) (lsn_key ∷ []) (shortest_unsigned lsn) (small lsn_key (omega arith)) (inl (lsn, refl, shortest_spelled lsn below)) in
       first
       ∙ ap (later (if type_key == wanted then Some (replace_type ∷ replica_key ∷ (shortest_unsigned replica ++ lsn_pair lsn)) else None))
       (second ∙ ap (later (if replica_key == wanted then Some (shortest_unsigned replica ++ lsn_pair lsn) else None)) third)
@@ -181,14 +181,14 @@ module _ (space : ℕ) (tuple : List ℕ) (below : space < 2 ^ 64) (is : IsTuple
   body_spelled : SpellsPairs 63 body_value (body_pairs space tuple)
   unfolding body_value
   body_spelled =
-      pair_spelled space_key (number_value space) (shortest_unsigned space) (tuple_pair tuple) (tuple_value is.values) (omega arith) (space, refl, shortest_spelled space below)
+      pair_spelled space_key (number_value space) (shortest_unsigned space) (tuple_pair tuple) (tuple_value is.values) (omega arith) (inl (space, refl, shortest_spelled space below))
       (last_spelled tuple_key (grammar.Array is.values) tuple (omega arith) is.spelled)
 
   body_under : (wanted : ℕ) → value_under wanted 2 (body_pairs space tuple)
       ≡ later (if space_key == wanted then Some (shortest_unsigned space ++ tuple_pair tuple) else None) (if tuple_key == wanted then Some tuple else None)
   body_under wanted =
       let first = first_pair wanted 1 space_key (number_value space) (space_key ∷ []) (shortest_unsigned space) (tuple_pair tuple)
-      (small space_key (omega arith)) (space, refl, shortest_spelled space below) in
+      (small space_key (omega arith)) (inl (space, refl, shortest_spelled space below)) in
       let second = last_pair wanted tuple_key (grammar.Array is.values) (tuple_key ∷ []) tuple (small tuple_key (omega arith)) (roomier 63 (grammar.Array is.values) tuple is.spelled) in
       first ∙ ap (later (if space_key == wanted then Some (shortest_unsigned space ++ tuple_pair tuple) else None)) second
 

@@ -2,7 +2,7 @@
 use Rattle.std.specs.Prelude.{◌≡◌, ⊤, ℕ, zero, suc, ◌≤◌, ◌<◌, ◌^◌, Bool, true, false, ◌&&◌, List, [], ◌∷◌, ◌++◌, length, take, drop, Option, Some, None, Result, Ok, Err, is_some, nat_lt, nat_le, ◌==◌, if◌then◌else◌}
 use Rattle.mx_msgpack.specs.declared.bad.Bad.{Bad}
 use Rattle.mx_msgpack.specs.Grammar.{Array, Values, Spells}
-use Rattle.mx_msgpack.specs.Reading.{Shown, ShownInt, ShownStr, ShownArray, ShownMap, reading_of, measured}
+use Rattle.mx_msgpack.specs.Reading.{Shown, ShownNil, ShownBool, ShownInt, ShownStr, ShownBin, ShownArray, ShownMap, ShownOpaque, reading_of, measured}
 use Rattle.mx_msgpack.specs.Readers.{Reader, ◌>>=◌, all_from, unsigned_at, unsigned_32_at}
 use Rattle.mx_msgpack.specs.Spelling.{shortest_unsigned}
 use Rattle.mx_model.specs.Keys.{items_in}
@@ -79,10 +79,14 @@ pub record IsTransaction (transaction : Tx) : Type 0 where
 
 abbrev pub map_shown : List ℕ → Result (Shown × ℕ) Bad → Option ((ℕ × List ℕ) × List ℕ)
 map_shown bytes (Err bad) = None
+map_shown bytes (Ok (ShownNil, size)) = None
+map_shown bytes (Ok (ShownBool truth, size)) = None
 map_shown bytes (Ok (ShownInt number, size)) = None
 map_shown bytes (Ok (ShownStr text, size)) = None
+map_shown bytes (Ok (ShownBin content, size)) = None
 map_shown bytes (Ok (ShownArray count items, size)) = None
 map_shown bytes (Ok (ShownMap count pairs, size)) = Some ((count, pairs), drop size bytes)
+map_shown bytes (Ok (ShownOpaque spelling, size)) = None
 
 -- a map: how many pairs it has, and their bytes
 unfoldable pub map_at : Reader (ℕ × List ℕ)

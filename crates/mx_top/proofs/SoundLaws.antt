@@ -6,15 +6,15 @@ use Rattle.std.specs.List.{AllByRecursion}
 use Rattle.std.proofs.lemmas.Bool.{eqb-true, ltb-true, ltb-false}
 use Rattle.std.proofs.lemmas.List.{length-append, length-take}
 use Rattle.mx_msgpack.specs.declared.bad.Bad.{Bad}
-use Rattle.mx_msgpack.specs.Grammar.{Values, Spells, SpellsUnsigned}
+use Rattle.mx_msgpack.specs.Grammar.{Values, Spells, SpellsInt}
 use Rattle.mx_msgpack.specs.Grammar as grammar
-use Rattle.mx_msgpack.specs.Reading.{after_all, after_value, measured, reading_of, Shown, ShownInt, ShownStr, ShownArray, ShownMap}
+use Rattle.mx_msgpack.specs.Reading.{after_all, after_value, measured, reading_of, Shown, ShownNil, ShownBool, ShownInt, ShownStr, ShownBin, ShownArray, ShownMap, ShownOpaque}
 use Rattle.mx_msgpack.specs.Readers.{◌>>=◌, first_and_others, some_from, all_from, after_byte, bytes_at, unsigned_at, unsigned_32_at}
 use Rattle.mx_msgpack.specs.Spelling.{shortest_unsigned}
 use Rattle.mx_msgpack.proofs.Options.{bind_some, allowed, passed, same_some}
 use Rattle.mx_msgpack.proofs.Results.{bind_ok}
-use Rattle.mx_msgpack.proofs.Values.{read_ok}
-use Rattle.mx_msgpack.proofs.Laws.{value_again}
+use Rattle.mx_msgpack.proofs.ValueLaws.{read_ok}
+use Rattle.mx_msgpack.proofs.GrammarLaws.{value_again}
 use Rattle.mx_msgpack.proofs.PieceLaws.{first_byte, after_byte-shorter}
 use Rattle.mx_msgpack.proofs.UnsignedLaws.{unsigned_spelled, unsigned_at-Advances, unsigned_32_parts}
 use Rattle.mx_msgpack.proofs.ContainerLaws.{map_content, array_spelled}
@@ -49,10 +49,14 @@ record BeginsArray (bytes : List ℕ) : Type 0 where
 -- only an array has items
 has_items : (bytes : List ℕ) (read : Result (Shown × ℕ) Bad) → reading_of bytes ≡ read → 1 ≤ length (items_shown read) → BeginsArray bytes
 has_items bytes (Err bad) e some = absurd (omega arith)
+has_items bytes (Ok (ShownNil, size)) e some = absurd (omega arith)
+has_items bytes (Ok (ShownBool truth, size)) e some = absurd (omega arith)
 has_items bytes (Ok (ShownInt number, size)) e some = absurd (omega arith)
 has_items bytes (Ok (ShownStr text, size)) e some = absurd (omega arith)
+has_items bytes (Ok (ShownBin content, size)) e some = absurd (omega arith)
 has_items bytes (Ok (ShownArray count items, size)) e some = record { count = count; items = items; size = size; is = e }
 has_items bytes (Ok (ShownMap count items, size)) e some = absurd (omega arith)
+has_items bytes (Ok (ShownOpaque spelling, size)) e some = absurd (omega arith)
 
 -- ---- a REPLACE
 
@@ -63,7 +67,7 @@ record Replaces (body : List ℕ) (ask : Ask) : Type 0 where
   pub tuple : List ℕ
   pub first : ℕ × List ℕ
   pub whole : body ≡ 0x82 ∷ 0x10 ∷ (number ++ 0x21 ∷ tuple)
-  pub spelled : SpellsUnsigned space number
+  pub spelled : SpellsInt (pos space) number
   pub small : space < 2 ^ 32
   pub numbered : unsigned_at (items_in tuple) ≡ Some first
   pub is : Asks (Replace space tuple) ≡ ask
@@ -105,16 +109,16 @@ replace_parts body ask e =
 
 -- a number in one byte, and the bytes after it
 after_small : (total number : ℕ) (rest : List ℕ) → number < 0x80 → after_value total 63 (number ∷ rest) ≡ Ok rest
-after_small total number rest small = value_again total 63 (grammar.Int (pos number)) (number ∷ []) rest (number, refl, inl (small, refl))
+after_small total number rest small = value_again total 63 (grammar.Int (pos number)) (number ∷ []) rest (inl (number, refl, inl (small, refl)))
 
 -- where the body is one value, its tuple is one
-last_value : (total : ℕ) (space : ℕ) (number tuple rest : List ℕ) → SpellsUnsigned space number
+last_value : (total : ℕ) (space : ℕ) (number tuple rest : List ℕ) → SpellsInt (pos space) number
     → after_value total 64 (0x82 ∷ 0x10 ∷ (number ++ 0x21 ∷ tuple)) ≡ Ok rest → after_value total 63 tuple ≡ Ok rest
 last_value total space number tuple rest s e =
     let pairs = 0x10 ∷ (number ++ 0x21 ∷ tuple) in
     let four : after_all (after_value total 63) 4 pairs ≡ Ok rest = map_content total 63 2 pairs rest (omega arith) e in
     let three = rw (after_small total 0x10 (number ++ 0x21 ∷ tuple) (omega arith)) at four in
-    let two = rw (value_again total 63 (grammar.Int (pos space)) number (0x21 ∷ tuple) (space, refl, s)) at three in
+    let two = rw (value_again total 63 (grammar.Int (pos space)) number (0x21 ∷ tuple) s) at three in
     let one = rw (after_small total 0x21 tuple (omega arith)) at two in
     let b = bind_ok (after_value total 63 tuple) (after_all (after_value total 63) 0) rest one in
     b.1 ∙ b.2

@@ -444,6 +444,30 @@ fn commits_are_found_by_the_next_run(rt: HostRuntime) -> Result<(), Fail> {
     Ok(())
 }
 
+/// A tuple with a value of every kind: numbers, nil, a truth, bytes, texts, a float, an extension,
+/// and an array and a map of wide heads.
+const EVERY_KIND: &[u8] =
+    b"\x9c\x01\xc0\xc3\xff\xd0\xdf\xc4\x01\x00\xa0\xd9\x01a\xca\x3f\x80\x00\x00\
+    \xd4\x07\x00\xdc\x00\x01\xc2\xde\x00\x01\x01\xc0";
+
+#[test]
+fn tuples_hold_values_of_every_kind(rt: HostRuntime) -> Result<(), Fail> {
+    let alloc = rt.alloc();
+    let trace = ["trace", "d"];
+    let replace = packet(
+        alloc,
+        &[b"\x82\x00\x03\x01\x01\x82\x10\xcd\x02\x00\x21", EVERY_KIND],
+    )?;
+    let put = run_on(alloc, &trace, &unit(alloc, ON_ONE, &[&replace])?, NONE)?;
+    let answer = found(alloc, 1, EVERY_KIND)?;
+    assert_eq!(rt; put.output, unit(alloc, TO_ONE, &[GREETING, &answer])?);
+    let dir = directory_of(put)?;
+    let again = run_in(alloc, dir, &trace, &unit(alloc, ON_ONE, &[SELECT])?, NONE)?;
+    let answer = found(alloc, 2, EVERY_KIND)?;
+    assert_eq!(rt; again.output, unit(alloc, TO_ONE, &[GREETING, &answer])?);
+    Ok(())
+}
+
 #[test]
 fn each_call_on_the_directory_may_fail(rt: HostRuntime) -> Result<(), Fail> {
     let alloc = rt.alloc();
