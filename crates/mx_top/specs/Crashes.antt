@@ -32,8 +32,8 @@ NoFewerSurvive transactions older newer = (least : ℕ) → Survive transactions
 abbrev pub FollowFromNew : List Tx → Type 0
 FollowFromNew transactions = AllFollow first_state nothing_yet.clock transactions
 
--- The directory stands for these transactions, and whatever a crash leaves of it for the first ones of them. So it is after
--- any stop of this program.
+-- The directory stands for these transactions, and whatever a crash leaves of it for the first ones of them. So it is with a
+-- new directory, and with what a crash leaves of a run.
 pub record Recovers (transactions : List Tx) (states : Option (List Disk)) : Type 0 where
   pub follow : FollowFromNew transactions
   pub told : IfTold states (λ disk past. StandsAfter transactions disk.now × Survive transactions 0 disk)
