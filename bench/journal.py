@@ -9,10 +9,9 @@ units have one commit each.
 
 import argparse
 import re
-import subprocess
 import sys
 
-from requests import ROOT, instructions_in, new_folder, replace, traced, unit, units
+from requests import input_unit, instructions_in, is_built, new_folder, replace, traced, units
 
 SIZES = (1_000, 10_000, 100_000)
 UNITS = 1_000
@@ -37,7 +36,7 @@ def measure(count, base):
 
 def count_calls():
     """Prints how many system calls a unit of one commit makes."""
-    given = b"".join(map(unit, commits(UNITS)))
+    given = b"".join(map(input_unit, commits(UNITS)))
     with new_folder() as folder:
         ended = traced(["strace", "-f", "-c"], given, folder)
     told = ended.stderr.decode(errors="replace")
@@ -55,9 +54,7 @@ def main():
     parser = argparse.ArgumentParser(description=__doc__.splitlines()[0])
     parser.add_argument("--sizes", type=int, nargs="+", default=SIZES, help="numbers of commits")
     options = parser.parse_args()
-    # The script at the top builds the program where it is older than its sources.
-    built = subprocess.run([ROOT / "vurandy", "--version"], stdout=subprocess.DEVNULL)
-    if built.returncode != 0:
+    if not is_built():
         sys.exit("the program is not built")
     with new_folder() as folder:
         base, _ = instructions_in(b"", folder)

@@ -7,7 +7,6 @@ server whose work on a request doesn't grow with the number of requests has a ra
 """
 
 import argparse
-import os
 import re
 import subprocess
 import sys
@@ -15,8 +14,11 @@ import tempfile
 from pathlib import Path
 
 ROOT = Path(__file__).resolve().parent.parent
+sys.path.append(str(ROOT / "tests"))
+
+from units import SEED, environment, input_unit, is_built, number  # noqa: E402
+
 PROGRAM = ROOT / "crates" / "mx_program" / "out" / "mx_program"
-SEED = "000102030405060708090a0b0c0d0e0f101112131415161718191a1b1c1d1e1f"
 SPACE = 512
 KEYS = 1000
 # Without a common factor with KEYS, so that steps of it come to every key.
@@ -28,16 +30,6 @@ SHAPES = {
     "key": "one unit, one key",
     "units": "a unit per pair",
 }
-
-
-def number(value):
-    """A number in its shortest MessagePack."""
-    if value < 0x80:
-        return bytes([value])
-    for mark, size in ((0xCC, 1), (0xCD, 2), (0xCE, 4)):
-        if value < 1 << 8 * size:
-            return bytes([mark]) + value.to_bytes(size, "big")
-    raise ValueError(value)
 
 
 def packet(kind, sync, body):
@@ -60,21 +52,16 @@ def select(sync, key):
     return packet(1, sync, body)
 
 
-def unit(packets):
-    """A unit of input with these bytes."""
-    return b"\x00" + (1).to_bytes(4, "big") + len(packets).to_bytes(4, "big") + packets
-
-
 def units(pieces):
     """As few units as hold the pieces, each of which is whole packets."""
     made, held = [], bytearray()
     for piece in pieces:
         if len(held) + len(piece) > MOST_BYTES:
-            made.append(unit(held))
+            made.append(input_unit(held))
             held = bytearray()
         held += piece
     if held:
-        made.append(unit(held))
+        made.append(input_unit(held))
     return b"".join(made)
 
 
@@ -94,7 +81,7 @@ def pairs(shape, count):
 def requests(shape, count):
     """The input with this many pairs."""
     asked = pairs(shape, count)
-    return setting() + (b"".join(map(unit, asked)) if shape == "units" else units(asked))
+    return setting() + (b"".join(map(input_unit, asked)) if shape == "units" else units(asked))
 
 
 def output_bytes(output):
@@ -132,7 +119,7 @@ def traced(tool, given, folder):
             stdin=file,
             capture_output=True,
             cwd=folder,
-            env={**os.environ, "VURANDY_SEED": SEED},
+            env=environment(SEED),
         )
 
 
@@ -173,9 +160,7 @@ def main():
     options = parser.parse_args()
     if any(count < 1 for count in options.sizes):
         parser.error("a size is 1 at least")
-    # The script at the top builds the program where it is older than its sources.
-    built = subprocess.run([ROOT / "vurandy", "--version"], stdout=subprocess.DEVNULL)
-    if built.returncode != 0:
+    if not is_built():
         sys.exit("the program is not built")
     base, _ = instructions(setting())
     print(f"setting {KEYS:,} keys: {base:,} instructions")

@@ -1,4 +1,5 @@
-"""How the checks start the program, and units of its input and output as the formats spell them.
+"""How checks and measurements start the program, and units of its input and output as the formats
+spell them.
 
 docs/FORMATS.md has the formats. Nothing here asks the program for bytes.
 """
@@ -19,7 +20,7 @@ SPACE = bytes.fromhex("cd0200")
 
 
 def is_built():
-    """Builds the program where it isn't, which may take far longer than the checks."""
+    """Whether the program is built. It is built first where it is older than its sources."""
     return subprocess.run([PROGRAM, "--version"], stdout=subprocess.DEVNULL).returncode == 0
 
 
