@@ -1,6 +1,6 @@
 //! Bytes that are owned, which a contract sees as a list of numbers.
 
-ghost use Rattle.std.specs.Prelude.{◌≡◌, ◌++◌, [], length, IfOk, IsTrue, MatchResult, ◌↔◌, nat_eq};
+ghost use Rattle.std.specs.Prelude.{◌≡◌, ◌++◌, [], length, take, IfOk, IsTrue, MatchResult, ◌↔◌, nat_eq};
 ghost use Rattle.std.specs.Cmp.{partial_equiv_from_equiv};
 ghost use Rattle.std.specs.Cmp.Lexicographic.{pointwise};
 ghost use Rattle.std.proofs.lemmas.Cmp.{nat_list_eq_equiv};
@@ -79,6 +79,16 @@ impl Bytes {
         self.items.as_slice()
     }
 
+    /// Makes room for so many further bytes, which are then added without growing again.
+    ///
+    /// # Errors
+    /// Memory ran out.
+    pub fn reserve(&mut self, additional: usize) -> Result<(), AllocError>
+        ensures { self.new ≡ self.old }
+    {
+        self.items.reserve(additional)
+    }
+
     /// Adds these bytes at the end.
     ///
     /// # Errors
@@ -87,6 +97,13 @@ impl Bytes {
         ensures { MatchResult result (λ _. self.new ≡ self.old ++ bytes.now) (λ _. self.new ≡ self.old) }
     {
         self.items.extend_from_slice(bytes)
+    }
+
+    /// Keeps the first `len` bytes; does nothing where there are no more.
+    pub fn truncate(&mut self, len: usize)
+        ensures { self.new ≡ take len self.old }
+    {
+        self.items.truncate(len);
     }
 
     /// How many bytes there are.

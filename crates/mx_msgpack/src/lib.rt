@@ -24,7 +24,7 @@ pub use skipping::skip;
 pub use tuples::Tuples;
 pub use value::{Pairs, Value, Values};
 pub use value_ref::{ValueRef, read_ref};
-pub use writing::{write_unsigned, write_value};
+pub use writing::{write_map_head, write_str_head, write_unsigned, write_value};
 
 #[cfg(test)]
 mod outside_cases;

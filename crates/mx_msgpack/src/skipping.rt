@@ -1,6 +1,6 @@
 //! The length of a value, found without recursion.
 
-ghost use Rattle.std.specs.Prelude.{◌≡◌, ◌<◌, ◌≤◌, ℕ, Ok, take, length, IfOk, IfErr, IfSome, Some};
+ghost use Rattle.std.specs.Prelude.{◌≡◌, ◌<◌, ◌≤◌, ℕ, true, List, ◌∷◌, Ok, take, length, IfOk, IfErr, IfSome, Some, None};
 ghost use Rattle.mx_msgpack.specs.Grammar.{Value, Spells, most_nested};
 ghost use Rattle.mx_msgpack.specs.Reading.{Gives, after_bytes, measured, first_fault};
 ghost use Rattle.mx_msgpack.specs.Steps.{step_over};
@@ -84,6 +84,11 @@ fn step_over(at: usize, bytes: &[u8]) -> Result<(Option<Inside>, &[u8]), Bad>
     ensures shorter { IfOk result (λ x. length x.1.now < length bytes.now) }
     ensures each { IfOk result (λ x. IfSome x.0 (λ inside. inside.each ≤ 2)) }
 {
+    if let Some((leading, rest)) = bytes.split_first() {
+        if is_whole(*leading) {
+            return Ok((None, rest));
+        }
+    }
     let (head, rest) = head_at(at, bytes)?;
     match head {
         Head::Nil => Ok((None, rest)),
@@ -99,6 +104,14 @@ fn step_over(at: usize, bytes: &[u8]) -> Result<(Option<Inside>, &[u8]), Bad>
         )),
         Head::Extension(size) => Ok((None, after_bytes(at, size, size as usize + 1, rest)?)),
     }
+}
+
+/// Whether a value ends with its leading byte: a small Int.
+#[tactic(auto, unfolding(crate::specs::Reading::head_at))]
+fn is_whole(leading: u8) -> bool
+    ensures whole { result ≡ true → (at : ℕ) (rest : List ℕ) → step_over at (leading ∷ rest) ≡ Ok (None, rest) }
+{
+    leading < 0x80 || leading >= 0xe0
 }
 
 /// The bytes after so many, behind a head at this place that announces this length.

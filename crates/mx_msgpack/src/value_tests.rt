@@ -197,3 +197,22 @@ fn holds_values(rt: HostRuntime) -> Result<(), Fail> {
     assert!(rt; matches!(pairs.as_slice(), [(Value::Bool(true), Value::Array(_))]));
     Ok(())
 }
+
+#[test]
+fn writes_heads_and_truncates(rt: HostRuntime) -> Result<(), Fail> {
+    // The bytes of a text, the pairs of a map, how many bytes of both heads are kept, and these.
+    let table: [(u8, u8, usize, &[u8]); 4] = [
+        (31, 15, 2, &[0xbf, 0x8f]),
+        (32, 16, 5, &[0xd9, 0x20, 0xde, 0, 0x10]),
+        (32, 16, 4, &[0xd9, 0x20, 0xde, 0]),
+        (31, 16, 9, &[0xbf, 0xde, 0, 0x10]),
+    ];
+    for (size, count, kept, heads) in table {
+        let mut out = Bytes::new(rt.alloc());
+        write_str_head(usize::from(size), &mut out)?;
+        write_map_head(usize::from(count), &mut out)?;
+        out.truncate(kept);
+        assert_eq!(rt; out.as_slice(), heads, "of {size} bytes and {count} pairs");
+    }
+    Ok(())
+}

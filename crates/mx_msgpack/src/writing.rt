@@ -1,6 +1,6 @@
 //! Writing values, each in its shortest spelling (MessagePack specification, "Formats").
 
-ghost use Rattle.std.specs.Prelude.{◌≡◌, ◌++◌, ◌∷◌, ◌<◌, ◌≤◌, ◌^◌, OnOk};
+ghost use Rattle.std.specs.Prelude.{◌≡◌, ◌++◌, ◌∷◌, ◌<◌, ◌≤◌, ◌^◌, length, take, MatchResult};
 ghost use Rattle.byteorder.specs.Endian.{big_bytes};
 ghost use Rattle.mx_msgpack.specs.Grammar.{most_length};
 ghost use Rattle.mx_msgpack.specs.Owned.{list_view, pair_list_view, value_view};
@@ -15,10 +15,10 @@ use std::alloc::AllocError;
 /// Adds an Int in the fewest bytes that spell it, which are 1 to 9.
 ///
 /// # Errors
-/// Memory ran out.
+/// Memory ran out; nothing was added.
 #[tactic(auto, unfolding(crate::specs::Spelling::shortest_unsigned))]
 pub fn write_unsigned(number: u64, out: &mut Bytes) -> Result<(), AllocError>
-    ensures { OnOk result (out.new ≡ out.old ++ shortest_unsigned number) }
+    ensures { MatchResult result (λ _. out.new ≡ out.old ++ shortest_unsigned number) (λ _. out.new ≡ out.old) }
 {
     match number {
         0..0x80 => out.extend_from_slice(&[number as u8])?,
@@ -45,19 +45,24 @@ pub fn write_unsigned(number: u64, out: &mut Bytes) -> Result<(), AllocError>
 /// Adds a value in the fewest bytes that spell it.
 ///
 /// # Errors
-/// Memory ran out. The front of the spelling may have been added.
+/// Memory ran out; nothing was added.
 pub fn write_value(value: &Value, out: &mut Bytes) -> Result<(), AllocError>
     requires { IsSpellable (value_view value.now) }
-    ensures { OnOk result (out.new ≡ out.old ++ shortest (value_view value.now)) }
+    ensures { MatchResult result (λ _. out.new ≡ out.old ++ shortest (value_view value.now)) (λ _. out.new ≡ out.old) }
 {
-    write_any(value, out)
+    let before = out.len();
+    let written = write_any(value, out);
+    if written.is_err() {
+        out.truncate(before);
+    }
+    written
 }
 
-/// As `write_value`.
+/// As `write_value`, but where memory ran out the front of the spelling may have been added.
 #[cycle(write)]
 fn write_any(value: &Value, out: &mut Bytes) -> Result<(), AllocError>
     requires { IsWritable (value_view value.now) }
-    ensures { OnOk result (out.new ≡ out.old ++ shortest (value_view value.now)) }
+    ensures { MatchResult result (λ _. out.new ≡ out.old ++ shortest (value_view value.now)) (λ _. take (length out.old) out.new ≡ out.old) }
 {
     match value {
         Value::Nil => out.extend_from_slice(&[0xc0])?,
@@ -88,7 +93,7 @@ fn write_any(value: &Value, out: &mut Bytes) -> Result<(), AllocError>
 #[cycle(write)]
 fn write_all(values: &[Value], out: &mut Bytes) -> Result<(), AllocError>
     requires { AreWritable (list_view values.now) }
-    ensures { OnOk result (out.new ≡ out.old ++ shortest_all (list_view values.now)) }
+    ensures { MatchResult result (λ _. out.new ≡ out.old ++ shortest_all (list_view values.now)) (λ _. take (length out.old) out.new ≡ out.old) }
 {
     for value in values {
         write_any(value, out)?;
@@ -100,7 +105,7 @@ fn write_all(values: &[Value], out: &mut Bytes) -> Result<(), AllocError>
 #[cycle(write)]
 fn write_pairs(pairs: &[(Value, Value)], out: &mut Bytes) -> Result<(), AllocError>
     requires { ArePairsWritable (pair_list_view pairs.now) }
-    ensures { OnOk result (out.new ≡ out.old ++ shortest_pairs (pair_list_view pairs.now)) }
+    ensures { MatchResult result (λ _. out.new ≡ out.old ++ shortest_pairs (pair_list_view pairs.now)) (λ _. take (length out.old) out.new ≡ out.old) }
 {
     for (key, value) in pairs {
         write_any(key, out)?;
@@ -112,7 +117,7 @@ fn write_pairs(pairs: &[(Value, Value)], out: &mut Bytes) -> Result<(), AllocErr
 /// Adds an Int in the fewest bytes that spell it.
 fn write_int(number: i128, out: &mut Bytes) -> Result<(), AllocError>
     requires { Fits64 number }
-    ensures { OnOk result (out.new ≡ out.old ++ shortest_int number) }
+    ensures { MatchResult result (λ _. out.new ≡ out.old ++ shortest_int number) (λ _. out.new ≡ out.old) }
 {
     if number >= 0 {
         write_unsigned(number as u64, out)
@@ -125,7 +130,7 @@ fn write_int(number: i128, out: &mut Bytes) -> Result<(), AllocError>
 #[tactic(auto, unfolding(crate::specs::Spelling::shortest_negative))]
 fn write_negative(below: u64, out: &mut Bytes) -> Result<(), AllocError>
     requires { below < 2 ^ 63 }
-    ensures { OnOk result (out.new ≡ out.old ++ shortest_negative below) }
+    ensures { MatchResult result (λ _. out.new ≡ out.old ++ shortest_negative below) (λ _. out.new ≡ out.old) }
 {
     match below {
         0..0x20 => out.extend_from_slice(&[0xff - below as u8])?,
@@ -137,11 +142,15 @@ fn write_negative(below: u64, out: &mut Bytes) -> Result<(), AllocError>
     Ok(())
 }
 
-/// Adds the shortest head of a Str of so many bytes.
+/// Adds the shortest head of a Str whose text has `size` bytes. The head has 1, 2, 3 or 5 bytes, and
+/// the text is to follow.
+///
+/// # Errors
+/// Memory ran out; nothing was added.
 #[tactic(auto, unfolding(crate::specs::Spelling::str_head))]
-fn write_str_head(size: usize, out: &mut Bytes) -> Result<(), AllocError>
+pub fn write_str_head(size: usize, out: &mut Bytes) -> Result<(), AllocError>
     requires { size ≤ most_length }
-    ensures { OnOk result (out.new ≡ out.old ++ str_head size) }
+    ensures { MatchResult result (λ _. out.new ≡ out.old ++ str_head size) (λ _. out.new ≡ out.old) }
 {
     match size {
         0..0x20 => out.extend_from_slice(&[0xa0 + size as u8])?,
@@ -156,7 +165,7 @@ fn write_str_head(size: usize, out: &mut Bytes) -> Result<(), AllocError>
 #[tactic(auto, unfolding(crate::specs::Spelling::bin_head))]
 fn write_bin_head(size: usize, out: &mut Bytes) -> Result<(), AllocError>
     requires { size ≤ most_length }
-    ensures { OnOk result (out.new ≡ out.old ++ bin_head size) }
+    ensures { MatchResult result (λ _. out.new ≡ out.old ++ bin_head size) (λ _. out.new ≡ out.old) }
 {
     match size {
         0..0x100 => write_8(0xc4, size as u8, out)?,
@@ -170,7 +179,7 @@ fn write_bin_head(size: usize, out: &mut Bytes) -> Result<(), AllocError>
 #[tactic(auto, unfolding(crate::specs::Spelling::array_head))]
 fn write_array_head(count: usize, out: &mut Bytes) -> Result<(), AllocError>
     requires { count ≤ most_length }
-    ensures { OnOk result (out.new ≡ out.old ++ array_head count) }
+    ensures { MatchResult result (λ _. out.new ≡ out.old ++ array_head count) (λ _. out.new ≡ out.old) }
 {
     match count {
         0..0x10 => out.extend_from_slice(&[0x90 + count as u8])?,
@@ -180,11 +189,15 @@ fn write_array_head(count: usize, out: &mut Bytes) -> Result<(), AllocError>
     Ok(())
 }
 
-/// Adds the shortest head of a Map of so many pairs.
+/// Adds the shortest head of a Map of `count` pairs. The head has 1, 3 or 5 bytes, and the pairs are
+/// to follow, each a key and then a value.
+///
+/// # Errors
+/// Memory ran out; nothing was added.
 #[tactic(auto, unfolding(crate::specs::Spelling::map_head))]
-fn write_map_head(count: usize, out: &mut Bytes) -> Result<(), AllocError>
+pub fn write_map_head(count: usize, out: &mut Bytes) -> Result<(), AllocError>
     requires { count ≤ most_length }
-    ensures { OnOk result (out.new ≡ out.old ++ map_head count) }
+    ensures { MatchResult result (λ _. out.new ≡ out.old ++ map_head count) (λ _. out.new ≡ out.old) }
 {
     match count {
         0..0x10 => out.extend_from_slice(&[0x80 + count as u8])?,
@@ -196,14 +209,14 @@ fn write_map_head(count: usize, out: &mut Bytes) -> Result<(), AllocError>
 
 /// Adds a leading byte and a number of 8 bits.
 fn write_8(leading: u8, number: u8, out: &mut Bytes) -> Result<(), AllocError>
-    ensures { OnOk result (out.new ≡ out.old ++ leading ∷ big_bytes 1 number) }
+    ensures { MatchResult result (λ _. out.new ≡ out.old ++ leading ∷ big_bytes 1 number) (λ _. out.new ≡ out.old) }
 {
     out.extend_from_slice(&[leading, number])
 }
 
 /// Adds a leading byte and a number of 16 bits, the highest first.
 fn write_16(leading: u8, number: u16, out: &mut Bytes) -> Result<(), AllocError>
-    ensures { OnOk result (out.new ≡ out.old ++ leading ∷ big_bytes 2 number) }
+    ensures { MatchResult result (λ _. out.new ≡ out.old ++ leading ∷ big_bytes 2 number) (λ _. out.new ≡ out.old) }
 {
     let mut spelled = [leading, 0, 0];
     BigEndian::write_u16(&mut spelled[1..], number);
@@ -212,7 +225,7 @@ fn write_16(leading: u8, number: u16, out: &mut Bytes) -> Result<(), AllocError>
 
 /// Adds a leading byte and a number of 32 bits, the highest first.
 fn write_32(leading: u8, number: u32, out: &mut Bytes) -> Result<(), AllocError>
-    ensures { OnOk result (out.new ≡ out.old ++ leading ∷ big_bytes 4 number) }
+    ensures { MatchResult result (λ _. out.new ≡ out.old ++ leading ∷ big_bytes 4 number) (λ _. out.new ≡ out.old) }
 {
     let mut spelled = [leading, 0, 0, 0, 0];
     BigEndian::write_u32(&mut spelled[1..], number);
@@ -221,7 +234,7 @@ fn write_32(leading: u8, number: u32, out: &mut Bytes) -> Result<(), AllocError>
 
 /// Adds a leading byte and a number of 64 bits, the highest first.
 fn write_64(leading: u8, number: u64, out: &mut Bytes) -> Result<(), AllocError>
-    ensures { OnOk result (out.new ≡ out.old ++ leading ∷ big_bytes 8 number) }
+    ensures { MatchResult result (λ _. out.new ≡ out.old ++ leading ∷ big_bytes 8 number) (λ _. out.new ≡ out.old) }
 {
     let mut spelled = [leading, 0, 0, 0, 0, 0, 0, 0, 0];
     BigEndian::write_u64(&mut spelled[1..], number);
