@@ -3,6 +3,7 @@ pub mod Fitting
 pub mod IdLaws
 pub mod LsnLaws
 pub mod OneClock
+pub mod PairLaws
 pub mod ReadLaws
 pub mod StepLaws
 pub mod Steps

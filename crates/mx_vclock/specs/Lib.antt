@@ -1,3 +1,4 @@
 pub mod Places
 pub mod Text
 pub mod Vclocks
+pub mod Spelling

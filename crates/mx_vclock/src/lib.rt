@@ -4,6 +4,7 @@
 mod gap;
 mod place;
 mod reading;
+mod spelling;
 mod text;
 mod vclock;
 

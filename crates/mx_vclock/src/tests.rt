@@ -1,4 +1,5 @@
 use super::*;
+use mx_msgpack::Bytes;
 use std::cmp::Ordering;
 use std::process::Abort;
 use std::test::*;
@@ -30,6 +31,44 @@ fn shows(rt: HostRuntime) {
             .expect(&rt, "no memory");
         assert_eq!(rt; text.as_slice(), shown.as_bytes(), "at {places:?}");
     }
+}
+
+#[test]
+fn spells(rt: HostRuntime) {
+    let table: [(&[(u8, u64)], &[u8]); 5] = [
+        (&[], &[0x80]),
+        (&[(0, 3)], &[0x80]),
+        (&[(1, 5), (2, 7), (0, 3)], &[0x82, 0x01, 0x05, 0x02, 0x07]),
+        (&[(31, 128)], &[0x81, 0x1f, 0xcc, 0x80]),
+        (
+            &[(7, 1 << 58), (3, 127)],
+            &[0x82, 0x03, 0x7f, 0x07, 0xcf, 0x04, 0, 0, 0, 0, 0, 0, 0],
+        ),
+    ];
+    for (lsns, spelled) in table {
+        let mut clock = Vclock::new();
+        for (id, lsn) in lsns {
+            assert!(rt; *id < 32 && *lsn <= 1 << 58);
+            clock.set(*id, *lsn);
+        }
+        let mut out = Bytes::new(rt.alloc());
+        clock.write(&mut out).expect(&rt, "no memory");
+        assert_eq!(rt; out.as_slice(), spelled, "at {lsns:?}");
+    }
+}
+
+#[test]
+fn spells_31_components_behind_what_is_there(rt: HostRuntime) {
+    let mut clock = Vclock::new();
+    for id in 0..32_u8 {
+        clock.set(id, 32 - u64::from(id));
+    }
+    let mut out = Bytes::from_slice(rt.alloc(), b"kept").expect(&rt, "no memory");
+    clock.write(&mut out).expect(&rt, "no memory");
+    let spelled = out.as_slice();
+    assert_eq!(rt; spelled.len(), 4 + 3 + 31 * 2);
+    assert!(rt; spelled.starts_with(b"kept\xde\x00\x1f\x01\x1f\x02\x1e"));
+    assert!(rt; spelled.ends_with(b"\x1e\x02\x1f\x01"));
 }
 
 #[test]

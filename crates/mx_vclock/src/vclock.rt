@@ -1,7 +1,7 @@
 //! The vclock, which a contract sees as the list of its 32 lsns.
 
-ghost use Rattle.std.specs.Prelude.{◌≡◌, ◌<◌, length, IsTrue, ◌↔◌, MatchResult, sum, replicate, slice_index, slice_set};
-ghost use Rattle.mx_vclock.specs.Vclocks.{replicas, Covers, IsNext, Compares};
+ghost use Rattle.std.specs.Prelude.{◌≡◌, ◌<◌, ◌≤◌, length, IsTrue, ◌↔◌, MatchResult, sum, replicate, slice_index, slice_set};
+ghost use Rattle.mx_vclock.specs.Vclocks.{replicas, most_lsn, Covers, IsNext, Compares};
 
 use crate::gap::Gap;
 use std::cmp::Ordering;
@@ -48,6 +48,15 @@ impl Vclock {
         ensures { result ≡ slice_index self.now id }
     {
         self.lsns[usize::from(id)]
+    }
+
+    /// Sets the lsn of a replica id.
+    pub fn set(&mut self, id: u8, lsn: u64)
+        requires id { id < replicas }
+        requires lsn { lsn ≤ most_lsn }
+        ensures { self.new ≡ slice_set self.old id lsn }
+    {
+        self.lsns[usize::from(id)] = lsn;
     }
 
     /// The lsns in place, by replica id.

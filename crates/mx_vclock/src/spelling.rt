@@ -1,0 +1,66 @@
+//! A vclock as a map of MessagePack.
+
+ghost use Rattle.std.specs.Prelude.{◌≡◌, [], ◌∷◌, ◌++◌, ◌≤◌, ℕ, length, map, take, MatchResult};
+ghost use Rattle.std.specs.List.{concat};
+ghost use Rattle.mx_vclock.specs.Spelling.{clock_map, pair_text, pairs_from};
+
+use crate::vclock::Vclock;
+use mx_msgpack::{Bytes, write_map_head, write_unsigned};
+use std::alloc::AllocError;
+
+impl Vclock {
+    /// Adds the vclock as a map of replica ids to lsns, in the fewest bytes: its components that
+    /// aren't 0, by rising replica id, without that of the replica id 0.
+    ///
+    /// # Errors
+    /// Memory ran out; nothing was added.
+    pub fn write(&self, out: &mut Bytes) -> Result<(), AllocError>
+        ensures { MatchResult result (λ _. out.new ≡ out.old ++ clock_map self.now) (λ _. out.new ≡ out.old) }
+    {
+        let before = out.len();
+        let written = write_map(self, out);
+        if written.is_err() {
+            out.truncate(before);
+        }
+        written
+    }
+}
+
+/// As `Vclock::write`, but where memory ran out the front of the map may have been added.
+fn write_map(clock: &Vclock, out: &mut Bytes) -> Result<(), AllocError>
+    ensures { MatchResult result (λ _. out.new ≡ out.old ++ clock_map clock.now) (λ _. take (length out.old) out.new ≡ out.old) }
+{
+    let (_, lsns) = clock.lsns().split_at(1);
+    write_map_head(pair_count(lsns), out)?;
+    write_pairs(lsns, out)?;
+    Ok(())
+}
+
+/// How many of the lsns have a pair in a map.
+fn pair_count(lsns: &[u64]) -> usize
+    ensures exact { (id : ℕ) → result ≡ length (pairs_from id lsns.now) }
+    ensures most { result ≤ length lsns.now }
+{
+    lsns.iter().filter(|lsn| **lsn != 0).count()
+}
+
+/// Adds the pairs of these lsns, which are those of the replica ids from 1 on.
+fn write_pairs(lsns: &[u64], out: &mut Bytes) -> Result<(), AllocError>
+    ensures { MatchResult result (λ _. out.new ≡ out.old ++ concat (map pair_text (pairs_from 1 lsns.now))) (λ _. take (length out.old) out.new ≡ out.old) }
+{
+    for (place, lsn) in lsns.iter().enumerate() {
+        write_component(place as u64 + 1, *lsn, out)?;
+    }
+    Ok(())
+}
+
+/// Adds the pair of a replica id and its lsn, which is none where the lsn is 0.
+fn write_component(id: u64, lsn: u64, out: &mut Bytes) -> Result<(), AllocError>
+    ensures { MatchResult result (λ _. out.new ≡ out.old ++ concat (map pair_text (pairs_from id (lsn ∷ [])))) (λ _. take (length out.old) out.new ≡ out.old) }
+{
+    if lsn != 0 {
+        write_unsigned(id, out)?;
+        write_unsigned(lsn, out)?;
+    }
+    Ok(())
+}
