@@ -1,0 +1,4 @@
+pub mod Packets
+pub mod Spelled
+pub mod Streams
+pub mod Views

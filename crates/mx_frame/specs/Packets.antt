@@ -1,0 +1,79 @@
+-- The packets of a connection (IPROTO, "Packet structure"): a size as an unsigned of MessagePack, and that many bytes.
+use Rattle.std.specs.Prelude.{ℕ, zero, suc, Bool, true, false, List, [], ◌∷◌, length, take, drop, Option, Some, None, nat_lt, ◌==◌, if◌then◌else◌}
+use Rattle.byteorder.specs.Endian.{big_number}
+use Rattle.mx_msgpack.specs.Readers.{Reader, all_from}
+
+-- the most bytes of a packet, without its size
+abbrev pub longest_packet : ℕ
+longest_packet = 2097152
+
+-- how many bytes of a number follow the leading byte of an unsigned: none where the byte is the number itself
+abbrev pub width_behind : ℕ → Option ℕ
+width_behind leading =
+    if nat_lt leading 0x80 then Some 0
+    else if leading == 0xcc then Some 1
+    else if leading == 0xcd then Some 2
+    else if leading == 0xce then Some 4
+    else if leading == 0xcf then Some 8
+    else None
+
+-- what the bytes begin with, where a packet's size is expected: a size and the bytes after it, the front of one, or none
+-- that a packet may have
+pub data Size : Type 0 where
+  Whole : (size : ℕ) (rest : List ℕ) → Size
+  Part : Size
+  Wrong : Size
+
+-- a number above the limit is no size
+abbrev pub allowed : ℕ → List ℕ → Size
+allowed size rest = if nat_lt longest_packet size then Wrong else Whole size rest
+
+abbrev pub size_behind : (leading : ℕ) → Option ℕ → List ℕ → Size
+size_behind leading None rest = Wrong
+size_behind leading (Some zero) rest = Whole leading rest
+size_behind leading (Some (suc width)) rest =
+    if nat_lt (length rest) (suc width) then Part else allowed (big_number (suc width) (take (suc width) rest)) (drop (suc width) rest)
+
+unfoldable pub size_at : List ℕ → Size
+size_at [] = Part
+size_at (leading ∷ rest) = size_behind leading (width_behind leading) rest
+
+-- what the bytes begin with: a packet and the bytes after it, the front of one, or no packet's size
+pub data First : Type 0 where
+  Packet : (content rest : List ℕ) → First
+  NeedMore : First
+  Broken : First
+
+abbrev pub first_behind : Size → First
+first_behind (Whole size rest) = if nat_lt (length rest) size then NeedMore else Packet (take size rest) (drop size rest)
+first_behind Part = NeedMore
+first_behind Wrong = Broken
+
+unfoldable pub first_of : List ℕ → First
+first_of bytes = first_behind (size_at bytes)
+
+abbrev pub packet_found : First → Option (List ℕ × List ℕ)
+packet_found (Packet content rest) = Some (content, rest)
+packet_found NeedMore = None
+packet_found Broken = None
+
+-- the packet that stands first, without its size, and the bytes after it
+abbrev pub packet_at : Reader (List ℕ)
+packet_at bytes = packet_found (first_of bytes)
+
+-- the whole packets that begin the bytes
+abbrev pub packets_of : List ℕ → List (List ℕ)
+packets_of bytes = (all_from packet_at bytes).0
+
+-- the bytes after them
+abbrev pub rest_of : List ℕ → List ℕ
+rest_of bytes = (all_from packet_at bytes).1
+
+abbrev pub is_broken : First → Bool
+is_broken (Packet content rest) = false
+is_broken NeedMore = false
+is_broken Broken = true
+
+-- no packet's size follows them
+abbrev pub breaks_off : List ℕ → Bool
+breaks_off bytes = is_broken (first_of (rest_of bytes))
