@@ -1,0 +1,390 @@
+-- What is read can be asked: its numbers are in their ranges, its arrays are whole, its operations have their shape.
+use Rattle.std.proofs.Common.{◌≡◌, ℕ, ◌-◌, ◌*◌, ◌+◌, ◌^◌, ◌<◌, ◌≤◌, List, [], ◌∷◌, length, get_or, Option, Some, None, Result, Ok, Err, refl, sym, ap, ◌∙◌, subst, inl, inr, length-set, arith}
+use Rattle.std.specs.Prelude.{true, nat_lt, nat_le, ◌==◌, ◌&&◌, if◌then◌else◌, replicate, slice_set, slice_index}
+use Rattle.std.specs.List.{list_all}
+use Rattle.std.proofs.lemmas.Bool.{and_parts, cases_lt, cond_both, eqb-true, leb-true}
+use Rattle.std.proofs.lemmas.Bool.Decides.{nat_tests}
+use Rattle.std.proofs.lemmas.List.{get_or_past}
+use Rattle.std.proofs.lemmas.List.Elements.{All-set, All-replicate}
+use Rattle.std.proofs.lemmas.List.Sums.{AllPass-from_list_all}
+use Rattle.uuid.specs.Text.{by_index, parsed_simple, parsed_hyphenated, digits_of, has_hyphens, is_hex_digit, value_of, byte_of_digits}
+use Rattle.uuid.proofs.TextLemmas.{by_index_length, by_index_at}
+use Rattle.mx_base.specs.declared.refusal.Refusal.{Refusal}
+use Rattle.mx_msgpack.specs.declared.bad.Bad.{Bad}
+use Rattle.mx_msgpack.specs.Reading.{reading_of, Shown, ShownNil, ShownBool, ShownInt, ShownStr, ShownBin, ShownArray, ShownMap, ShownOpaque}
+use Rattle.mx_msgpack.proofs.Options.{bind_some, allowed, same_some}
+use Rattle.mx_vclock.specs.Vclocks.{replicas, most_lsn, IsVclock}
+use Rattle.mx_request.specs.declared.request.Head3.{Head3}
+use Rattle.mx_request.specs.declared.request.Request.{Request}
+use Rattle.mx_request.specs.declared.request.Request.TheVariants.{Nop, Ping, Commit, Rollback, Id}
+use Rattle.mx_request.specs.Maps.{Pair, pairs_from, pairs_in, value_under}
+use Rattle.mx_request.specs.Kinds.{unsigned_in, number_to, number_32, array_shown, array_in, uuid_shown, uuid_in, clock_from, clock_shown, clock_in}
+use Rattle.mx_request.specs.Operators.{shape_fault}
+use Rattle.mx_request.specs.Requests.{◌>>=◌, right_kind, required_value, optional_value, required, optional, shaped, operations_in, select_in, insert_in, replace_in, update_in, delete_in, upsert_in, begin_in, join_in, subscribe_in, ack_in, Kind, AckKind, SelectKind, InsertKind, ReplaceKind, UpdateKind, DeleteKind, UpsertKind, NopKind, BeginKind, CommitKind, RollbackKind, PingKind, JoinKind, SubscribeKind, IdKind, zero_kind, kind_of, body_ask, asked_in}
+use Rattle.mx_request.specs.Spelling.{IsInnerArray, IsUuid, AreOperations, IsAskable, kind_number}
+use Rattle.mx_request.proofs.InnerLaws.{IsInner, AreInner, under_inner, array_inner, body_inner}
+
+-- ---- steps that may refuse
+
+bind_ok : {A B : Type 0} (r : Result A Refusal) (f : A → Result B Refusal) (y : B) → (r >>= f) ≡ Ok y → (x : A) × (r ≡ Ok x) × (f x ≡ Ok y)
+bind_ok (Ok x) f y e = (x, refl, e)
+bind_ok (Err refusal) f y e = absurd cc
+
+abbrev done : {A : Type 0} → A → Result A Refusal
+done x = Ok x
+
+ok_is : {A : Type 0} (x y : A) → done x ≡ done y → x ≡ y
+ok_is x y e = cc
+
+right_is : {X : Type 0} (key : ℕ) (o : Option X) (x : X) → right_kind key o ≡ Ok x → o ≡ Some x
+right_is key None x e = absurd cc
+right_is key (Some y) x e = cc
+
+-- what a value has in common with each of its kind, where it is there
+required_is : {X : Type 0} (P : X → Type 0) (key : ℕ) (kind : List ℕ → Option X) (found : Option (List ℕ)) (x : X)
+    → ((value : List ℕ) → found ≡ Some value → kind value ≡ Some x → P x) → required_value key kind found ≡ Ok x → P x
+required_is P key kind None x each e = absurd cc
+required_is P key kind (Some value) x each e = each value refl (right_is key (kind value) x e)
+
+optional_is : {X : Type 0} (P : X → Type 0) (key : ℕ) (default : X) (kind : List ℕ → Option X) (found : Option (List ℕ)) (x : X) → P default
+    → ((value : List ℕ) → kind value ≡ Some x → P x) → optional_value key default kind found ≡ Ok x → P x
+optional_is P key default kind None x given each e = subst P (ok_is default x e) given
+optional_is P key default kind (Some value) x given each e = each value (right_is key (kind value) x e)
+
+-- ---- the kinds
+
+number_most : (most : ℕ) (value : List ℕ) (x : ℕ) → number_to most value ≡ Some x → x ≤ most
+number_most most value x e =
+    let b = bind_some (unsigned_in value) (λ number. if nat_le number most then Some number else None) x e in
+    let t = allowed (nat_le b.0 most) (Some b.0) x b.2 in
+    subst (λ (n : ℕ). n ≤ most) (same_some b.0 x t.1) (leb-true b.0 most t.0)
+
+required_number : (most key : ℕ) (pairs : List Pair) (x : ℕ) → required key (number_to most) pairs ≡ Ok x → x ≤ most
+required_number most key pairs x e =
+    required_is (λ (n : ℕ). n ≤ most) key (number_to most) (value_under key pairs) x (λ value _ k. number_most most value x k) e
+
+optional_number : (most key default : ℕ) (pairs : List Pair) (x : ℕ) → default ≤ most → optional key default (number_to most) pairs ≡ Ok x → x ≤ most
+optional_number most key default pairs x given e =
+    optional_is (λ (n : ℕ). n ≤ most) key default (number_to most) (value_under key pairs) x given (λ value k. number_most most value x k) e
+
+array_is : (value : List ℕ) (read : Result (Shown × ℕ) Bad) (x : List ℕ) → IsInner value → reading_of value ≡ read → array_shown value read ≡ Some x → IsInnerArray x
+array_is value (Err bad) x inner r e = absurd cc
+array_is value (Ok (ShownNil, size)) x inner r e = absurd cc
+array_is value (Ok (ShownBool truth, size)) x inner r e = absurd cc
+array_is value (Ok (ShownInt number, size)) x inner r e = absurd cc
+array_is value (Ok (ShownStr text, size)) x inner r e = absurd cc
+array_is value (Ok (ShownBin content, size)) x inner r e = absurd cc
+array_is value (Ok (ShownArray count items, size)) x inner r e = subst IsInnerArray (same_some value x e) (array_inner value count items size inner r)
+array_is value (Ok (ShownMap count items, size)) x inner r e = absurd cc
+array_is value (Ok (ShownOpaque spelling, size)) x inner r e = absurd cc
+
+required_array : (key : ℕ) (pairs : List Pair) (x : List ℕ) → AreInner pairs → required key array_in pairs ≡ Ok x → IsInnerArray x
+required_array key pairs x inner e =
+    required_is IsInnerArray key array_in (value_under key pairs) x
+    (λ value u k. array_is value (reading_of value) x (under_inner key pairs value inner u) refl k) e
+
+shaped_is : (operations x : List ℕ) → operations_in operations ≡ Ok x → (shape_fault operations ≡ None) × (operations ≡ x)
+shaped_is operations x e = by_fault (shape_fault operations) refl e
+  where
+    by_fault : (fault : Option Refusal) → shape_fault operations ≡ fault → shaped operations fault ≡ Ok x → (shape_fault operations ≡ None) × (operations ≡ x)
+    by_fault None f e = (f, ok_is operations x e)
+    by_fault (Some refusal) f e = absurd cc
+
+operations_are : (operations x : List ℕ) → IsInnerArray operations → operations_in operations ≡ Ok x → AreOperations x
+operations_are operations x inner e = let s = shaped_is operations x e in subst AreOperations s.1 (inner, s.0)
+
+-- a digit of sixteen
+digit_small : (c : ℕ) → is_hex_digit c ≡ true → value_of c < 16
+digit_small c e = grind (arith, nat_tests)
+
+digits_small : (text : List ℕ) (i : ℕ) → list_all is_hex_digit text ≡ true → i < length text → value_of (slice_index text i) < 16
+digits_small text i e within = digit_small (slice_index text i) (AllPass-from_list_all is_hex_digit text e i 0 within)
+
+simple_bytes : (text : List ℕ) (i : ℕ) → length text ≡ 32 → list_all is_hex_digit text ≡ true → get_or (by_index 16 (byte_of_digits text)) i 0 < 2 ^ 8
+simple_bytes text i len e =
+    elim (cases_lt i 16) [
+      | inl under ↦
+          let high = digits_small text (2 * i) e (omega arith) in
+          let low = digits_small text (2 * i + 1) e (omega arith) in
+          let at = by_index_at 16 (byte_of_digits text) i 0 under in
+          omega arith
+      | inr over ↦
+          let len = by_index_length 16 (byte_of_digits text) in
+          let at = get_or_past (by_index 16 (byte_of_digits text)) i 0 (omega arith) in
+          omega arith
+    ]
+
+simple_is : (text x : List ℕ) → parsed_simple text ≡ Some x → IsUuid x
+simple_is text x e =
+    let t = allowed ((length text == 32) && list_all is_hex_digit text) (Some (by_index 16 (byte_of_digits text))) x e in
+    let p = and_parts (length text == 32) (list_all is_hex_digit text) t.0 in
+    let len = eqb-true (length text) 32 p.0 in
+    subst IsUuid (same_some (by_index 16 (byte_of_digits text)) x t.1) (by_index_length 16 (byte_of_digits text), λ i. simple_bytes text i len p.1)
+
+hyphenated_is : (text x : List ℕ) → parsed_hyphenated text ≡ Some x → IsUuid x
+hyphenated_is text x e = simple_is (digits_of text) x (allowed ((length text == 36) && has_hyphens text) (parsed_simple (digits_of text)) x e).1
+
+uuid_is : (read : Result (Shown × ℕ) Bad) (x : List ℕ) → uuid_shown read ≡ Some x → IsUuid x
+uuid_is (Err bad) x e = absurd cc
+uuid_is (Ok (ShownNil, size)) x e = absurd cc
+uuid_is (Ok (ShownBool truth, size)) x e = absurd cc
+uuid_is (Ok (ShownInt number, size)) x e = absurd cc
+uuid_is (Ok (ShownStr text, size)) x e = hyphenated_is text x e
+uuid_is (Ok (ShownBin content, size)) x e = absurd cc
+uuid_is (Ok (ShownArray count items, size)) x e = absurd cc
+uuid_is (Ok (ShownMap count items, size)) x e = absurd cc
+uuid_is (Ok (ShownOpaque spelling, size)) x e = absurd cc
+
+required_uuid : (key : ℕ) (pairs : List Pair) (x : List ℕ) → required key uuid_in pairs ≡ Ok x → IsUuid x
+required_uuid key pairs x e = required_is IsUuid key uuid_in (value_under key pairs) x (λ value _ k. uuid_is (reading_of value) x k) e
+
+clock_set : (clock : List ℕ) (id lsn : ℕ) → IsVclock clock → lsn ≤ most_lsn → IsVclock (slice_set clock id lsn)
+clock_set clock id lsn c most = record {
+  whole = length-set clock id lsn ∙ c.whole;
+  bounded = All-set (λ n. n ≤ most_lsn) clock id lsn most c.bounded;
+}
+
+clock_more : (clock : List ℕ) (pairs : List Pair) (x : List ℕ) → IsVclock clock → clock_from clock pairs ≡ Some x → IsVclock x
+clock_more clock [] x c e = subst (λ (l : List ℕ). IsVclock l) (same_some clock x e) c
+clock_more clock (pair ∷ others) x c e =
+    let id = bind_some pair.key _ x e in
+    let lsn = bind_some (number_to most_lsn pair.value) (λ lsn. if nat_lt id.0 replicas then clock_from (slice_set clock id.0 lsn) others else None) x id.2 in
+    let t = allowed (nat_lt id.0 replicas) (clock_from (slice_set clock id.0 lsn.0) others) x lsn.2 in
+    clock_more (slice_set clock id.0 lsn.0) others x (clock_set clock id.0 lsn.0 c (number_most most_lsn pair.value lsn.0 lsn.1)) t.1
+
+clock_empty : IsVclock (replicate replicas 0)
+clock_empty = record { whole = refl; bounded = All-replicate (λ n. n ≤ most_lsn) replicas 0 (omega arith) }
+
+clock_is : (read : Result (Shown × ℕ) Bad) (x : List ℕ) → clock_shown read ≡ Some x → IsVclock x
+clock_is (Err bad) x e = absurd cc
+clock_is (Ok (ShownNil, size)) x e = absurd cc
+clock_is (Ok (ShownBool truth, size)) x e = absurd cc
+clock_is (Ok (ShownInt number, size)) x e = absurd cc
+clock_is (Ok (ShownStr text, size)) x e = absurd cc
+clock_is (Ok (ShownBin content, size)) x e = absurd cc
+clock_is (Ok (ShownArray count items, size)) x e = absurd cc
+clock_is (Ok (ShownMap count items, size)) x e = clock_more (replicate replicas 0) (pairs_from count items) x clock_empty e
+clock_is (Ok (ShownOpaque spelling, size)) x e = absurd cc
+
+required_clock : (key : ℕ) (pairs : List Pair) (x : List ℕ) → required key clock_in pairs ≡ Ok x → IsVclock x
+required_clock key pairs x e =
+    required_is (λ (l : List ℕ). IsVclock l) key clock_in (value_under key pairs) x (λ value _ k. clock_is (reading_of value) x k) e
+
+-- ---- the requests
+
+-- it can be asked, and has this number
+abbrev Asks : ℕ → Request → Type 0
+Asks number request = IsAskable request × (number ≡ kind_number request)
+
+-- so is what is read, where it is this request
+asks : (number : ℕ) (one request : Request) → done one ≡ done request → Asks number one → Asks number request
+asks number one request e a = subst (Asks number) (ok_is one request e) a
+
+module _ (body : List Pair) (request : Request) (inner : AreInner body) where
+  select_askable : select_in body ≡ Ok request → Asks 1 request
+  unfolding select_in
+  select_askable e =
+      let space = bind_ok (required 0x10 number_32 body) _ request e in
+      let index = bind_ok (optional 0x11 0 number_32 body) _ request space.2 in
+      let limit = bind_ok (optional 0x12 (2 ^ 32 - 1) number_32 body) _ request index.2 in
+      let offset = bind_ok (optional 0x13 0 number_32 body) _ request limit.2 in
+      let iterator = bind_ok (optional 0x14 0 (number_to 6) body) _ request offset.2 in
+      let key = bind_ok (required 0x20 array_in body) _ request iterator.2 in
+      asks 1 _ request key.2 (
+        (
+          omega (arith, required_number (2 ^ 32 - 1) 0x10 body space.0 space.1),
+          omega (arith, optional_number (2 ^ 32 - 1) 0x11 0 body index.0 (omega arith) index.1),
+          omega (arith, optional_number (2 ^ 32 - 1) 0x12 (2 ^ 32 - 1) body limit.0 (omega arith) limit.1),
+          omega (arith, optional_number (2 ^ 32 - 1) 0x13 0 body offset.0 (omega arith) offset.1),
+          optional_number 6 0x14 0 body iterator.0 (omega arith) iterator.1,
+          required_array 0x20 body key.0 inner key.1,
+        ),
+        refl,
+      )
+
+  insert_askable : insert_in body ≡ Ok request → Asks 2 request
+  unfolding insert_in
+  insert_askable e =
+      let space = bind_ok (required 0x10 number_32 body) _ request e in
+      let tuple = bind_ok (required 0x21 array_in body) _ request space.2 in
+      asks 2 _ request tuple.2 ((omega (arith, required_number (2 ^ 32 - 1) 0x10 body space.0 space.1), required_array 0x21 body tuple.0 inner tuple.1), refl)
+
+  replace_askable : replace_in body ≡ Ok request → Asks 3 request
+  unfolding replace_in
+  replace_askable e =
+      let space = bind_ok (required 0x10 number_32 body) _ request e in
+      let tuple = bind_ok (required 0x21 array_in body) _ request space.2 in
+      asks 3 _ request tuple.2 ((omega (arith, required_number (2 ^ 32 - 1) 0x10 body space.0 space.1), required_array 0x21 body tuple.0 inner tuple.1), refl)
+
+  update_askable : update_in body ≡ Ok request → Asks 4 request
+  unfolding update_in
+  update_askable e =
+      let space = bind_ok (required 0x10 number_32 body) _ request e in
+      let index = bind_ok (optional 0x11 0 number_32 body) _ request space.2 in
+      let base = bind_ok (optional 0x15 0 (number_to 1) body) _ request index.2 in
+      let key = bind_ok (required 0x20 array_in body) _ request base.2 in
+      let array = bind_ok (required 0x21 array_in body) _ request key.2 in
+      let operations = bind_ok (operations_in array.0) _ request array.2 in
+      asks 4 _ request operations.2 (
+        (
+          omega (arith, required_number (2 ^ 32 - 1) 0x10 body space.0 space.1),
+          omega (arith, optional_number (2 ^ 32 - 1) 0x11 0 body index.0 (omega arith) index.1),
+          optional_number 1 0x15 0 body base.0 (omega arith) base.1,
+          required_array 0x20 body key.0 inner key.1,
+          operations_are array.0 operations.0 (required_array 0x21 body array.0 inner array.1) operations.1,
+        ),
+        refl,
+      )
+
+  delete_askable : delete_in body ≡ Ok request → Asks 5 request
+  unfolding delete_in
+  delete_askable e =
+      let space = bind_ok (required 0x10 number_32 body) _ request e in
+      let index = bind_ok (optional 0x11 0 number_32 body) _ request space.2 in
+      let key = bind_ok (required 0x20 array_in body) _ request index.2 in
+      asks 5 _ request key.2 (
+        (
+          omega (arith, required_number (2 ^ 32 - 1) 0x10 body space.0 space.1),
+          omega (arith, optional_number (2 ^ 32 - 1) 0x11 0 body index.0 (omega arith) index.1),
+          required_array 0x20 body key.0 inner key.1,
+        ),
+        refl,
+      )
+
+  upsert_askable : upsert_in body ≡ Ok request → Asks 9 request
+  unfolding upsert_in
+  upsert_askable e =
+      let space = bind_ok (required 0x10 number_32 body) _ request e in
+      let base = bind_ok (optional 0x15 0 (number_to 1) body) _ request space.2 in
+      let tuple = bind_ok (required 0x21 array_in body) _ request base.2 in
+      let array = bind_ok (required 0x28 array_in body) _ request tuple.2 in
+      let operations = bind_ok (operations_in array.0) _ request array.2 in
+      asks 9 _ request operations.2 (
+        (
+          omega (arith, required_number (2 ^ 32 - 1) 0x10 body space.0 space.1),
+          optional_number 1 0x15 0 body base.0 (omega arith) base.1,
+          required_array 0x21 body tuple.0 inner tuple.1,
+          operations_are array.0 operations.0 (required_array 0x28 body array.0 inner array.1) operations.1,
+        ),
+        refl,
+      )
+
+  begin_askable : begin_in body ≡ Ok request → Asks 14 request
+  unfolding begin_in
+  begin_askable e =
+      let level = bind_ok (optional 0x59 0 (number_to 4) body) _ request e in
+      asks 14 _ request level.2 (tt, refl)
+
+  join_askable : join_in body ≡ Ok request → Asks 65 request
+  unfolding join_in
+  join_askable e =
+      let instance = bind_ok (required 0x24 uuid_in body) _ request e in
+      asks 65 _ request instance.2 (required_uuid 0x24 body instance.0 instance.1, refl)
+
+  subscribe_askable : subscribe_in body ≡ Ok request → Asks 66 request
+  unfolding subscribe_in
+  subscribe_askable e =
+      let instance = bind_ok (required 0x24 uuid_in body) _ request e in
+      let set = bind_ok (required 0x25 uuid_in body) _ request instance.2 in
+      let clock = bind_ok (required 0x26 clock_in body) _ request set.2 in
+      asks 66 _ request clock.2 (
+        (
+          required_uuid 0x24 body instance.0 instance.1,
+          required_uuid 0x25 body set.0 set.1,
+          required_clock 0x26 body clock.0 clock.1,
+        ),
+        refl,
+      )
+
+  ack_askable : ack_in body ≡ Ok request → Asks 0 request
+  unfolding ack_in
+  ack_askable e =
+      let clock = bind_ok (required 0x26 clock_in body) _ request e in
+      asks 0 _ request clock.2 (required_clock 0x26 body clock.0 clock.1, refl)
+
+-- the number of a kind
+abbrev type_of : Kind → ℕ
+type_of AckKind = 0
+type_of SelectKind = 1
+type_of InsertKind = 2
+type_of ReplaceKind = 3
+type_of UpdateKind = 4
+type_of DeleteKind = 5
+type_of UpsertKind = 9
+type_of NopKind = 12
+type_of BeginKind = 14
+type_of CommitKind = 15
+type_of RollbackKind = 16
+type_of PingKind = 64
+type_of JoinKind = 65
+type_of SubscribeKind = 66
+type_of IdKind = 73
+
+ask_askable : (kind : Kind) (body : List Pair) (request : Request) → AreInner body → body_ask kind body ≡ Ok request → Asks (type_of kind) request
+ask_askable AckKind body request inner e = ack_askable body request inner e
+ask_askable SelectKind body request inner e = select_askable body request inner e
+ask_askable InsertKind body request inner e = insert_askable body request inner e
+ask_askable ReplaceKind body request inner e = replace_askable body request inner e
+ask_askable UpdateKind body request inner e = update_askable body request inner e
+ask_askable DeleteKind body request inner e = delete_askable body request inner e
+ask_askable UpsertKind body request inner e = upsert_askable body request inner e
+ask_askable NopKind body request inner e = asks 12 Nop request e (tt, refl)
+ask_askable BeginKind body request inner e = begin_askable body request inner e
+ask_askable CommitKind body request inner e = asks 15 Commit request e (tt, refl)
+ask_askable RollbackKind body request inner e = asks 16 Rollback request e (tt, refl)
+ask_askable PingKind body request inner e = asks 64 Ping request e (tt, refl)
+ask_askable JoinKind body request inner e = join_askable body request inner e
+ask_askable SubscribeKind body request inner e = subscribe_askable body request inner e
+ask_askable IdKind body request inner e = asks 73 Id request e (tt, refl)
+
+-- ---- the type
+
+zero_is : (found : Option (List ℕ)) (kind : Kind) → zero_kind found ≡ Ok kind → type_of kind ≡ 0
+zero_is None kind e = absurd cc
+zero_is (Some clock) kind e = ap type_of (sym (ok_is AckKind kind e))
+
+-- the number that was tested is this kind's
+picked : (number : ℕ) (one kind : Kind) → (number == type_of one) ≡ true → done one ≡ done kind → number ≡ type_of kind
+picked number one kind t e = eqb-true number (type_of one) t ∙ ap type_of (ok_is one kind e)
+
+kind_is : (number : ℕ) (body : List Pair) (kind : Kind) → kind_of number body ≡ Ok kind → number ≡ type_of kind
+unfolding kind_of
+kind_is number body kind e =
+    let P = λ (r : Result Kind Refusal). r ≡ Ok kind → number ≡ type_of kind in
+    (cond_both (number == 0) _ _ P (λ t k. eqb-true number 0 t ∙ sym (zero_is (value_under 0x26 body) kind k)) (λ _.
+    cond_both (number == 1) _ _ P (picked number SelectKind kind) (λ _.
+    cond_both (number == 2) _ _ P (picked number InsertKind kind) (λ _.
+    cond_both (number == 3) _ _ P (picked number ReplaceKind kind) (λ _.
+    cond_both (number == 4) _ _ P (picked number UpdateKind kind) (λ _.
+    cond_both (number == 5) _ _ P (picked number DeleteKind kind) (λ _.
+    cond_both (number == 7) _ _ P (λ _ k. absurd cc) (λ _.
+    cond_both (number == 9) _ _ P (picked number UpsertKind kind) (λ _.
+    cond_both (number == 12) _ _ P (picked number NopKind kind) (λ _.
+    cond_both (number == 14) _ _ P (picked number BeginKind kind) (λ _.
+    cond_both (number == 15) _ _ P (picked number CommitKind kind) (λ _.
+    cond_both (number == 16) _ _ P (picked number RollbackKind kind) (λ _.
+    cond_both (number == 64) _ _ P (picked number PingKind kind) (λ _.
+    cond_both (number == 65) _ _ P (picked number JoinKind kind) (λ _.
+    cond_both (number == 66) _ _ P (picked number SubscribeKind kind) (λ _.
+    cond_both (number == 73) _ _ P (picked number IdKind kind) (λ _ k. absurd cc))))))))))))))))) e
+
+-- ---- the law
+
+pub pairs_askable : (header body : List Pair) (head : Head3) (request : Request) → AreInner body → asked_in header body ≡ Ok (head, request)
+    → IsAskable request × (head.kind ≡ kind_number request)
+unfolding asked_in
+pairs_askable header body head request inner e =
+    let number = bind_ok (optional 0x00 0 unsigned_in header) _ (head, request) e in
+    let kind = bind_ok (kind_of number.0 body) _ (head, request) number.2 in
+    let sync = bind_ok (optional 0x01 0 unsigned_in header) _ (head, request) kind.2 in
+    let stream = bind_ok (optional 0x0a 0 unsigned_in header) _ (head, request) sync.2 in
+    let asked = bind_ok (body_ask kind.0 body) _ (head, request) stream.2 in
+    let same = ok_is _ (head, request) asked.2 in
+    let a = ask_askable kind.0 body asked.0 inner asked.1 in
+    let is = ap (λ (x : Head3 × Request). x.1) same in
+    let number-is : head.kind ≡ number.0 = sym (ap (λ (x : Head3 × Request). x.0.kind) same) in
+    (subst (λ (r : Request). IsAskable r) is a.0, number-is ∙ kind_is number.0 body kind.0 kind.1 ∙ a.1 ∙ ap (λ (r : Request). kind_number r) is)
+
+pub asked_is_askable : (header body : List ℕ) (head : Head3) (request : Request) → asked_in (pairs_in header) (pairs_in body) ≡ Ok (head, request)
+    → IsAskable request × (head.kind ≡ kind_number request)
+asked_is_askable header body head request e = pairs_askable (pairs_in header) (pairs_in body) head request (body_inner body) e

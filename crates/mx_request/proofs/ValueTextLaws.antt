@@ -1,0 +1,114 @@
+-- The values of keys are whole as they are written, and are read again.
+use Rattle.std.proofs.Common.{◌≡◌, ℕ, ◌-◌, ◌^◌, ◌<◌, ◌≤◌, List, [], length, Some, Ok, All, refl, sym, ap, ◌∙◌, subst, inl, arith}
+use Rattle.std.specs.Prelude.{pos}
+use Rattle.std.proofs.lemmas.Bool.{le-leb}
+use Rattle.std.proofs.lemmas.List.{append-nil, take_all, length-append, get_or_default}
+use Rattle.uuid.specs.Text.{hyphenated_text, lower, parsed_hyphenated}
+use Rattle.uuid.proofs.RoundTrips.{parses_hyphenated_text}
+use Rattle.mx_msgpack.specs.Grammar.{Value, Int, Str, Array, Values, Spells}
+use Rattle.mx_msgpack.specs.Reading.{head_at, after_value, reading_of, Shown, ShownNil, ShownBool, ShownInt, ShownStr, ShownBin, ShownArray, ShownMap, ShownOpaque}
+use Rattle.mx_msgpack.specs.Spelling.{shortest_unsigned, str_head}
+use Rattle.mx_msgpack.specs.View.{Shows}
+use Rattle.mx_msgpack.proofs.FrontLaws.{roomier}
+use Rattle.mx_msgpack.proofs.GrammarLaws.{value_again, value_stands}
+use Rattle.mx_msgpack.proofs.Heads.{head_spelled}
+use Rattle.mx_msgpack.proofs.NumberSpellings.{str_head_spelled}
+use Rattle.mx_msgpack.proofs.PrefixLaws.{one_value}
+use Rattle.mx_msgpack.proofs.Shown.{Seen, value_seen}
+use Rattle.mx_msgpack.proofs.SpellingLaws.{shortest_spelled, unsigned_again}
+use Rattle.mx_msgpack.proofs.ValueLaws.{measured_ok}
+use Rattle.mx_request.specs.Maps.{number_of}
+use Rattle.mx_request.specs.Kinds.{unsigned_in, number_to, array_shown, array_in, uuid_shown, uuid_in}
+use Rattle.mx_request.specs.Spelling.{IsInnerArray, IsUuid, uuid_str}
+use Rattle.mx_request.proofs.InnerLaws.{IsInner}
+use Rattle.mx_request.proofs.WriterLaws.{uuid_length}
+
+-- ---- a value that stands alone
+
+-- what is shown of it
+record Alone (value : Value) (bytes : List ℕ) : Type 0 where
+  what : Shown
+  size : ℕ
+  read : reading_of bytes ≡ Ok (what, size)
+  shows : Shows what value
+
+seen_alone : (value : Value) (bytes : List ℕ) (what : Shown) → Spells 64 value bytes → Seen bytes what (length bytes) → Alone value bytes
+seen_alone value bytes what s seen =
+    let v = seen.spelled.1 in
+    let whole = take_all (length bytes) bytes (omega arith) in
+    let same : v ≡ value = one_value 64 v value bytes (subst (λ (l : List ℕ). Spells 64 v l) whole seen.spelled.2) s in
+    record { what = what; size = length bytes; read = seen.exact; shows = subst (λ (x : Value). Shows what x) same seen.spelled.3 }
+
+alone : (value : Value) (bytes : List ℕ) → Spells 63 value bytes → Alone value bytes
+alone value bytes inner =
+    let s = roomier 63 value bytes inner in
+    let after : after_value (length bytes) 64 bytes ≡ Ok [] =
+    ap (after_value (length bytes) 64) (sym (append-nil bytes)) ∙ value_again (length bytes) 64 value bytes [] s in
+    let v = value_stands (length bytes) 64 bytes [] after in
+    let at : length bytes - length bytes ≡ 0 = omega arith in
+    let size : length bytes - length {A = ℕ} [] ≡ length bytes = omega arith in
+    let begins = ap (λ (k : ℕ). head_at k bytes) (sym at) ∙ v.begins in
+    let h = head_spelled 0 bytes v.head v.after begins in
+    let l = ap length h.1 ∙ length-append h.0 v.after in
+    let short : length v.after ≤ length bytes = omega arith in
+    let m = sym (measured_ok bytes [] after) ∙ ap Ok size in
+    seen_alone value bytes _ s (value_seen bytes v.head v.after (length bytes) short begins m _ _ _ refl refl refl)
+
+-- ---- numbers
+
+pub number_inner : (number : ℕ) → number < 2 ^ 64 → IsInner (shortest_unsigned number)
+number_inner number fits = (Int (pos number), inl (number, refl, shortest_spelled number fits))
+
+pub unsigned_read_again : (number : ℕ) → number < 2 ^ 64 → unsigned_in (shortest_unsigned number) ≡ Some number
+unsigned_read_again number fits =
+    ap unsigned_in (sym (append-nil (shortest_unsigned number))) ∙ ap number_of (unsigned_again number [] fits)
+
+pub number_read_again : (most number : ℕ) → number ≤ most → number < 2 ^ 64 → number_to most (shortest_unsigned number) ≡ Some number
+number_read_again most number within fits = rw (unsigned_read_again number fits, le-leb number most within) refl
+
+-- ---- arrays
+
+pub array_inner_value : (bytes : List ℕ) → IsInnerArray bytes → IsInner bytes
+array_inner_value bytes (values, s) = (Array values, s)
+
+array_read : (values : Values) (bytes : List ℕ) (what : Shown) (size : ℕ) → Shows what (Array values) → array_shown bytes (Ok (what, size)) ≡ Some bytes
+array_read values bytes ShownNil size s = absurd cc
+array_read values bytes (ShownBool truth) size s = absurd cc
+array_read values bytes (ShownInt number) size s = absurd cc
+array_read values bytes (ShownStr text) size s = absurd cc
+array_read values bytes (ShownBin content) size s = absurd cc
+array_read values bytes (ShownArray count items) size s = refl
+array_read values bytes (ShownMap count items) size (pairs, e, n, s) = absurd cc
+array_read values bytes (ShownOpaque spelling) size s = absurd cc
+
+pub array_read_again : (bytes : List ℕ) → IsInnerArray bytes → array_in bytes ≡ Some bytes
+array_read_again bytes (values, s) =
+    let a = alone (Array values) bytes s in
+    ap (array_shown bytes) a.read ∙ array_read values bytes a.what a.size a.shows
+
+-- ---- UUIDs
+
+uuid_spelled : (id : List ℕ) → Spells 63 (Str (hyphenated_text lower id)) (uuid_str id)
+uuid_spelled id =
+    let text = hyphenated_text lower id in
+    let size : length text ≡ 36 = uuid_length id in
+    (str_head 36, rw size (str_head_spelled 36 (omega arith)), rw size (omega arith), refl)
+
+pub uuid_inner : (id : List ℕ) → IsInner (uuid_str id)
+uuid_inner id = (Str (hyphenated_text lower id), uuid_spelled id)
+
+uuid_read : (text : List ℕ) (what : Shown) (size : ℕ) → Shows what (Str text) → uuid_shown (Ok (what, size)) ≡ parsed_hyphenated text
+uuid_read text ShownNil size s = absurd cc
+uuid_read text (ShownBool truth) size s = absurd cc
+uuid_read text (ShownInt number) size s = absurd cc
+uuid_read text (ShownStr other) size s = let same : other ≡ text = cc in ap parsed_hyphenated same
+uuid_read text (ShownBin content) size s = absurd cc
+uuid_read text (ShownArray count items) size (values, e, n, s) = absurd cc
+uuid_read text (ShownMap count items) size (pairs, e, n, s) = absurd cc
+uuid_read text (ShownOpaque spelling) size s = absurd cc
+
+pub uuid_read_again : (id : List ℕ) → IsUuid id → uuid_in (uuid_str id) ≡ Some id
+uuid_read_again id (len, each) =
+    let a = alone (Str (hyphenated_text lower id)) (uuid_str id) (uuid_spelled id) in
+    let bytes : All (λ b. b < 256) id = λ i d within. rw (get_or_default id i d 0 within) (omega (arith, each i)) in
+    ap uuid_shown a.read ∙ uuid_read (hyphenated_text lower id) a.what a.size a.shows ∙ sym (parses_hyphenated_text lower id (inl refl) len bytes)

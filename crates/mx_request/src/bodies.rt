@@ -1,0 +1,228 @@
+//! What the body of each type of request asks.
+
+ghost use Rattle.mx_request.specs.Maps.{pairs_in};
+ghost use Rattle.mx_request.specs.Requests.{ack_in, begin_in, body_ask, delete_in, insert_in, join_in, operations_in, replace_in, select_in, subscribe_in, update_in, upsert_in};
+ghost use Rattle.mx_request.specs.Views.{Gives, request_view, type_view};
+
+use crate::fields::{
+    optional_number, required_array, required_clock, required_number, required_uuid,
+};
+use crate::keys;
+use crate::maps::values_under;
+use crate::operators::shape_fault;
+use crate::request::Request;
+use crate::request_ref::RequestRef;
+use crate::request_type::RequestType;
+use mx_base::{IndexId, Refusal, SpaceId};
+
+/// The greatest number of an iterator.
+const MOST_ITERATOR: u32 = 6;
+
+/// The greatest number of a tuple's first field.
+const MOST_BASE: u32 = 1;
+
+/// The greatest number of an isolation level.
+const MOST_ISOLATION: u32 = 4;
+
+/// What a body asks with this type of request: its keys in rising order, then its operations.
+pub(crate) fn request_in(request_type: RequestType, body: &[u8]) -> Result<RequestRef<'_>, Refusal>
+    ensures { Gives request_view result (body_ask (type_view request_type) (pairs_in body.now)) }
+{
+    match request_type {
+        RequestType::Ack => ack_in(body),
+        RequestType::Select => select_in(body),
+        RequestType::Insert => insert_in(body),
+        RequestType::Replace => replace_in(body),
+        RequestType::Update => update_in(body),
+        RequestType::Delete => delete_in(body),
+        RequestType::Upsert => upsert_in(body),
+        RequestType::Nop => Ok(RequestRef::Plain(Request::Nop)),
+        RequestType::Begin => begin_in(body),
+        RequestType::Commit => Ok(RequestRef::Plain(Request::Commit)),
+        RequestType::Rollback => Ok(RequestRef::Plain(Request::Rollback)),
+        RequestType::Ping => Ok(RequestRef::Plain(Request::Ping)),
+        RequestType::Join => join_in(body),
+        RequestType::Subscribe => subscribe_in(body),
+        RequestType::Id => Ok(RequestRef::Plain(Request::Id)),
+    }
+}
+
+/// What a SELECT asks.
+#[tactic(auto, unfolding(crate::specs::Requests::select_in))]
+fn select_in(body: &[u8]) -> Result<RequestRef<'_>, Refusal>
+    ensures { Gives request_view result (select_in (pairs_in body.now)) }
+{
+    let mut values = [None; 6];
+    values_under(
+        &[
+            keys::SPACE,
+            keys::INDEX,
+            keys::LIMIT,
+            keys::OFFSET,
+            keys::ITERATOR,
+            keys::KEY,
+        ],
+        body,
+        &mut values,
+    );
+    let [space, index, limit, offset, iterator, key] = values;
+    Ok(RequestRef::Select {
+        space: SpaceId(required_number(keys::SPACE, space)?),
+        index: IndexId(optional_number(keys::INDEX, 0, u32::MAX, index)?),
+        limit: optional_number(keys::LIMIT, u32::MAX, u32::MAX, limit)?,
+        offset: optional_number(keys::OFFSET, 0, u32::MAX, offset)?,
+        iterator: optional_number(keys::ITERATOR, 0, MOST_ITERATOR, iterator)? as u8,
+        key: required_array(keys::KEY, key)?,
+    })
+}
+
+/// What an INSERT asks.
+#[tactic(auto, unfolding(crate::specs::Requests::insert_in))]
+fn insert_in(body: &[u8]) -> Result<RequestRef<'_>, Refusal>
+    ensures { Gives request_view result (insert_in (pairs_in body.now)) }
+{
+    let mut values = [None; 2];
+    values_under(&[keys::SPACE, keys::TUPLE], body, &mut values);
+    let [space, tuple] = values;
+    Ok(RequestRef::Insert {
+        space: SpaceId(required_number(keys::SPACE, space)?),
+        tuple: required_array(keys::TUPLE, tuple)?,
+    })
+}
+
+/// What a REPLACE asks.
+#[tactic(auto, unfolding(crate::specs::Requests::replace_in))]
+fn replace_in(body: &[u8]) -> Result<RequestRef<'_>, Refusal>
+    ensures { Gives request_view result (replace_in (pairs_in body.now)) }
+{
+    let mut values = [None; 2];
+    values_under(&[keys::SPACE, keys::TUPLE], body, &mut values);
+    let [space, tuple] = values;
+    Ok(RequestRef::Replace {
+        space: SpaceId(required_number(keys::SPACE, space)?),
+        tuple: required_array(keys::TUPLE, tuple)?,
+    })
+}
+
+/// What an UPDATE asks.
+#[tactic(auto, unfolding(crate::specs::Requests::update_in))]
+fn update_in(body: &[u8]) -> Result<RequestRef<'_>, Refusal>
+    ensures { Gives request_view result (update_in (pairs_in body.now)) }
+{
+    let mut values = [None; 5];
+    values_under(
+        &[keys::SPACE, keys::INDEX, keys::BASE, keys::KEY, keys::TUPLE],
+        body,
+        &mut values,
+    );
+    let [space, index, base, key, ops] = values;
+    Ok(RequestRef::Update {
+        space: SpaceId(required_number(keys::SPACE, space)?),
+        index: IndexId(optional_number(keys::INDEX, 0, u32::MAX, index)?),
+        base: optional_number(keys::BASE, 0, MOST_BASE, base)?,
+        key: required_array(keys::KEY, key)?,
+        ops: shaped(required_array(keys::TUPLE, ops)?)?,
+    })
+}
+
+/// What a DELETE asks.
+#[tactic(auto, unfolding(crate::specs::Requests::delete_in))]
+fn delete_in(body: &[u8]) -> Result<RequestRef<'_>, Refusal>
+    ensures { Gives request_view result (delete_in (pairs_in body.now)) }
+{
+    let mut values = [None; 3];
+    values_under(&[keys::SPACE, keys::INDEX, keys::KEY], body, &mut values);
+    let [space, index, key] = values;
+    Ok(RequestRef::Delete {
+        space: SpaceId(required_number(keys::SPACE, space)?),
+        index: IndexId(optional_number(keys::INDEX, 0, u32::MAX, index)?),
+        key: required_array(keys::KEY, key)?,
+    })
+}
+
+/// What an UPSERT asks.
+#[tactic(auto, unfolding(crate::specs::Requests::upsert_in))]
+fn upsert_in(body: &[u8]) -> Result<RequestRef<'_>, Refusal>
+    ensures { Gives request_view result (upsert_in (pairs_in body.now)) }
+{
+    let mut values = [None; 4];
+    values_under(
+        &[keys::SPACE, keys::BASE, keys::TUPLE, keys::OPERATIONS],
+        body,
+        &mut values,
+    );
+    let [space, base, tuple, ops] = values;
+    Ok(RequestRef::Upsert {
+        space: SpaceId(required_number(keys::SPACE, space)?),
+        base: optional_number(keys::BASE, 0, MOST_BASE, base)?,
+        tuple: required_array(keys::TUPLE, tuple)?,
+        ops: shaped(required_array(keys::OPERATIONS, ops)?)?,
+    })
+}
+
+/// What a BEGIN asks. The isolation level is judged and not kept, since there is one.
+#[tactic(auto, unfolding(crate::specs::Requests::begin_in))]
+fn begin_in(body: &[u8]) -> Result<RequestRef<'_>, Refusal>
+    ensures { Gives request_view result (begin_in (pairs_in body.now)) }
+{
+    let mut values = [None; 1];
+    values_under(&[keys::ISOLATION], body, &mut values);
+    let [level] = values;
+    optional_number(keys::ISOLATION, 0, MOST_ISOLATION, level)?;
+    Ok(RequestRef::Plain(Request::Begin))
+}
+
+/// What a JOIN asks.
+#[tactic(auto, unfolding(crate::specs::Requests::join_in))]
+fn join_in(body: &[u8]) -> Result<RequestRef<'_>, Refusal>
+    ensures { Gives request_view result (join_in (pairs_in body.now)) }
+{
+    let mut values = [None; 1];
+    values_under(&[keys::INSTANCE], body, &mut values);
+    let [instance] = values;
+    Ok(RequestRef::Plain(Request::Join {
+        instance: required_uuid(keys::INSTANCE, instance)?,
+    }))
+}
+
+/// What a SUBSCRIBE asks.
+#[tactic(auto, unfolding(crate::specs::Requests::subscribe_in))]
+fn subscribe_in(body: &[u8]) -> Result<RequestRef<'_>, Refusal>
+    ensures { Gives request_view result (subscribe_in (pairs_in body.now)) }
+{
+    let mut values = [None; 3];
+    values_under(
+        &[keys::INSTANCE, keys::REPLICA_SET, keys::CLOCK],
+        body,
+        &mut values,
+    );
+    let [instance, set, clock] = values;
+    Ok(RequestRef::Plain(Request::Subscribe {
+        instance: required_uuid(keys::INSTANCE, instance)?,
+        set: required_uuid(keys::REPLICA_SET, set)?,
+        clock: required_clock(keys::CLOCK, clock)?,
+    }))
+}
+
+/// What an acknowledgement tells.
+#[tactic(auto, unfolding(crate::specs::Requests::ack_in))]
+fn ack_in(body: &[u8]) -> Result<RequestRef<'_>, Refusal>
+    ensures { Gives request_view result (ack_in (pairs_in body.now)) }
+{
+    let mut values = [None; 1];
+    values_under(&[keys::CLOCK], body, &mut values);
+    let [clock] = values;
+    Ok(RequestRef::Plain(Request::Ack {
+        clock: required_clock(keys::CLOCK, clock)?,
+    }))
+}
+
+/// The operations, where each has the shape of one.
+fn shaped(operations: &[u8]) -> Result<&[u8], Refusal>
+    ensures { Gives (λ shaped. shaped.now) result (operations_in operations.now) }
+{
+    match shape_fault(operations) {
+        None => Ok(operations),
+        Some(fault) => Err(fault),
+    }
+}

@@ -1,0 +1,98 @@
+//! The values under keys that have to be there, and under keys that have defaults.
+
+ghost use Rattle.std.specs.Prelude.{◌≡◌, ◌≤◌, IfOk};
+ghost use Rattle.std.specs.Option.{option_copied};
+ghost use Rattle.mx_request.specs.Kinds.{array_in, clock_in, number_32, number_to, unsigned_in, uuid_in};
+ghost use Rattle.mx_request.specs.Requests.{optional_value, required_value, right_kind};
+ghost use Rattle.mx_request.specs.Views.{Gives};
+
+use crate::kinds::{array_in, clock_in, number_to, unsigned_in, uuid_in};
+use mx_base::Refusal;
+use mx_vclock::Vclock;
+use uuid::Uuid;
+
+/// The number of 0 or more under a key; 0 where the key isn't there.
+pub(crate) fn optional_unsigned(key: u8, value: Option<&[u8]>) -> Result<u64, Refusal>
+    ensures { result ≡ optional_value key 0 unsigned_in (option_copied value.entry) }
+{
+    match value {
+        Some(value) => right_kind(key, unsigned_in(value)),
+        None => Ok(0),
+    }
+}
+
+/// The number from 0 to `most` under a key; `default` where the key isn't there.
+pub(crate) fn optional_number(
+    key: u8,
+    default: u32,
+    most: u32,
+    value: Option<&[u8]>,
+) -> Result<u32, Refusal>
+    requires { default ≤ most }
+    ensures value { result ≡ optional_value key default (number_to most) (option_copied value.entry) }
+    ensures most { IfOk result (λ number. number ≤ most) }
+{
+    match value {
+        Some(value) => number_under(key, most, value),
+        None => Ok(default),
+    }
+}
+
+/// The number of 32 bits under a key that has to be there.
+pub(crate) fn required_number(key: u8, value: Option<&[u8]>) -> Result<u32, Refusal>
+    ensures { result ≡ required_value key number_32 (option_copied value.entry) }
+{
+    match value {
+        Some(value) => number_under(key, u32::MAX, value),
+        None => Err(Refusal::MissingKey { key }),
+    }
+}
+
+/// The array under a key that has to be there.
+pub(crate) fn required_array(key: u8, value: Option<&[u8]>) -> Result<&[u8], Refusal>
+    ensures { Gives (λ array. array.now) result (required_value key array_in (option_copied value.entry)) }
+{
+    match value {
+        Some(value) => right_kind(key, array_in(value)),
+        None => Err(Refusal::MissingKey { key }),
+    }
+}
+
+/// The UUID under a key that has to be there.
+pub(crate) fn required_uuid(key: u8, value: Option<&[u8]>) -> Result<Uuid, Refusal>
+    ensures { result ≡ required_value key uuid_in (option_copied value.entry) }
+{
+    match value {
+        Some(value) => right_kind(key, uuid_in(value)),
+        None => Err(Refusal::MissingKey { key }),
+    }
+}
+
+/// The vclock under a key that has to be there.
+pub(crate) fn required_clock(key: u8, value: Option<&[u8]>) -> Result<Vclock, Refusal>
+    ensures { result ≡ required_value key clock_in (option_copied value.entry) }
+{
+    match value {
+        Some(value) => right_kind(key, clock_in(value)),
+        None => Err(Refusal::MissingKey { key }),
+    }
+}
+
+/// The number from 0 to `most` that stands first under a key.
+fn number_under(key: u8, most: u32, value: &[u8]) -> Result<u32, Refusal>
+    ensures value { result ≡ right_kind key (number_to most value.now) }
+    ensures most { IfOk result (λ number. number ≤ most) }
+{
+    let number = right_kind(key, number_to(u64::from(most), value))?;
+    Ok(number as u32)
+}
+
+/// The value under a key, where it is of the right kind.
+fn right_kind<X>(key: u8, value: Option<X>) -> Result<X, Refusal>
+    ensures { result ≡ right_kind key value }
+{
+    match value {
+        Some(value) => Ok(value),
+        None => Err(Refusal::IllegalValue { key }),
+    }
+}

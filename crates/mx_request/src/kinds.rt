@@ -1,0 +1,98 @@
+//! Values of the kinds that the keys of requests take.
+
+ghost use Rattle.std.specs.Prelude.{◌≡◌, ◌≤◌, IfSome, replicate};
+ghost use Rattle.std.specs.Option.{option_copied};
+ghost use Rattle.mx_vclock.specs.Vclocks.{replicas};
+ghost use Rattle.mx_request.specs.Maps.{pairs_from};
+ghost use Rattle.mx_request.specs.Kinds.{array_in, clock_from, clock_in, number_to, unsigned_in, uuid_in};
+
+use crate::maps::{Row, first_pair};
+use mx_msgpack::{ValueRef, read_ref, unsigned_at};
+use mx_vclock::Vclock;
+use uuid::Uuid;
+
+/// How many replica ids there are.
+const REPLICAS: u64 = 32;
+
+/// The greatest lsn.
+const MOST_LSN: u64 = 1 << 58;
+
+/// How many bytes the hyphenated text of a UUID has.
+const UUID_TEXT: usize = 36;
+
+/// The number of 0 or more that stands first.
+pub(crate) fn unsigned_in(value: &[u8]) -> Option<u64>
+    ensures { result ≡ unsigned_in value.now }
+{
+    let (number, _) = unsigned_at(value)?;
+    Some(number)
+}
+
+/// The number from 0 to this one that stands first.
+pub(crate) fn number_to(most: u64, value: &[u8]) -> Option<u64>
+    ensures value { result ≡ number_to most value.now }
+    ensures most { IfSome result (λ number. number ≤ most) }
+{
+    let number = unsigned_in(value)?;
+    if number > most {
+        return None;
+    }
+    Some(number)
+}
+
+/// The bytes, where an array stands first in them.
+pub(crate) fn array_in(value: &[u8]) -> Option<&[u8]>
+    ensures { option_copied result ≡ array_in value.now }
+{
+    match read_ref(value) {
+        Ok((ValueRef::Array { .. }, _)) => Some(value),
+        _ => None,
+    }
+}
+
+/// The UUID whose text stands first: with its hyphens, in letters of either case.
+pub(crate) fn uuid_in(value: &[u8]) -> Option<Uuid>
+    ensures { result ≡ uuid_in value.now }
+{
+    match read_ref(value) {
+        Ok((ValueRef::Str(text), _)) if text.len() == UUID_TEXT => {
+            Uuid::try_parse_ascii(text).ok()
+        }
+        _ => None,
+    }
+}
+
+/// The vclock whose map of replica ids to lsns stands first.
+pub(crate) fn clock_in(value: &[u8]) -> Option<Vclock>
+    ensures { result ≡ clock_in value.now }
+{
+    match read_ref(value) {
+        Ok((ValueRef::Map { count, items }, _)) => clock_from(Row {
+            count,
+            bytes: items,
+        }),
+        _ => None,
+    }
+}
+
+/// The vclock of pairs of replica ids and lsns. Of an id that comes more than once the last lsn counts,
+/// and one that doesn't come has 0.
+fn clock_from(pairs: Row<'_>) -> Option<Vclock>
+    ensures { result ≡ clock_from (replicate replicas 0) (pairs_from pairs.entry.count pairs.entry.bytes.now) }
+{
+    let mut clock = Vclock::new();
+    let mut left = pairs.count;
+    let mut rest = pairs.bytes;
+    while left > 0 {
+        let (pair, others) = first_pair(rest);
+        let id = pair.key?;
+        let lsn = number_to(MOST_LSN, pair.value)?;
+        if id >= REPLICAS {
+            return None;
+        }
+        clock.set(id as u8, lsn);
+        rest = others;
+        left -= 1;
+    }
+    Some(clock)
+}

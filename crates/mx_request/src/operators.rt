@@ -1,0 +1,206 @@
+//! The shape of update operations: an operator, a field number, and what the operator takes behind it.
+
+ghost use Rattle.std.specs.Prelude.{◌≡◌, ◌≤◌, ◌&&◌, ℕ};
+ghost use Rattle.std.specs.Option.{option_copied, option_map, option_map_or};
+ghost use Rattle.mx_msgpack.specs.Reading.{reading_of};
+ghost use Rattle.mx_request.specs.Maps.{after_value, first_value, values_from};
+ghost use Rattle.mx_request.specs.Operators.{are_arguments, are_operands, arguments_of, elements_in, first_fault_from, is_int, is_one_or_more, is_text, operands_fault, operation_fault, shape_fault, text_shown};
+ghost use Rattle.mx_request.specs.Kinds.{unsigned_in};
+ghost use Rattle.mx_request.specs.Views.{argument_count, arguments_view};
+
+use crate::kinds::unsigned_in;
+use crate::maps::{Row, parted};
+use mx_base::Refusal;
+use mx_msgpack::{ValueRef, read_ref};
+
+/// The most operations of a request.
+const MOST_OPERATIONS: u32 = 4_000;
+
+/// What an operator takes behind the field number.
+#[derive(Clone, Copy)]
+enum Arguments {
+    /// One value of any kind.
+    AnyValue,
+    /// How many fields, 1 or more.
+    Count,
+    /// One Int.
+    OneInt,
+    /// One Int of 0 or more.
+    OneUnsigned,
+    /// Where a text is cut, how many bytes are cut out, and the text that comes in their place.
+    Splice,
+}
+
+/// Why an array isn't one of update operations: the fault of the first that has one.
+pub(crate) fn shape_fault(operations: &[u8]) -> Option<Refusal>
+    ensures { result ≡ shape_fault operations.now }
+{
+    match elements_in(operations) {
+        Some(row) => first_fault(row),
+        None => None,
+    }
+}
+
+/// The fault of the first operation that has one. The 4,001st is one too many.
+fn first_fault(operations: Row<'_>) -> Option<Refusal>
+    ensures { result ≡ first_fault_from 0 (values_from operations.entry.count operations.entry.bytes.now) }
+{
+    let mut rest = operations.bytes;
+    for place in 0..operations.count {
+        if place >= MOST_OPERATIONS {
+            return Some(Refusal::BadArgument { operation: place });
+        }
+        let (operation, others) = parted(rest);
+        if let Some(fault) = operation_fault(place, operation) {
+            return Some(fault);
+        }
+        rest = others;
+    }
+    None
+}
+
+/// Why the operation at this place has no shape of one.
+fn operation_fault(place: u32, operation: &[u8]) -> Option<Refusal>
+    ensures { result ≡ operation_fault place operation.now }
+{
+    match operator_of(operation) {
+        Some((letter, operands)) => operands_fault(place, letter, operands),
+        None => Some(Refusal::BadArgument { operation: place }),
+    }
+}
+
+/// The letter of an operation's operator, and what stands behind it.
+fn operator_of(operation: &[u8]) -> Option<(u8, Row<'_>)>
+    ensures { (place : ℕ) → operation_fault place operation.now
+        ≡ option_map_or (λ x. operands_fault place (arguments_of x.0) (values_from x.1.count x.1.bytes.now)) result (Some (Refusal.BadArgument place)) }
+{
+    let elements = elements_in(operation)?;
+    if elements.count == 0 {
+        return None;
+    }
+    let (operator, operands) = parted(elements.bytes);
+    let [letter] = text_in(operator)? else {
+        return None;
+    };
+    let operands = Row {
+        count: elements.count - 1,
+        bytes: operands,
+    };
+    Some((*letter, operands))
+}
+
+/// Why these are no operands of the operator with this letter.
+fn operands_fault(place: u32, letter: u8, operands: Row<'_>) -> Option<Refusal>
+    ensures { result ≡ operands_fault place (arguments_of letter) (values_from operands.entry.count operands.entry.bytes.now) }
+{
+    let Some(arguments) = arguments_of(letter) else {
+        return Some(Refusal::UnknownOperator);
+    };
+    if are_operands(arguments, operands) {
+        None
+    } else {
+        Some(Refusal::BadArgument { operation: place })
+    }
+}
+
+/// What the operator with this letter takes behind the field number.
+fn arguments_of(letter: u8) -> Option<Arguments>
+    ensures { option_map arguments_view result ≡ arguments_of letter }
+{
+    match letter {
+        b'=' | b'!' => Some(Arguments::AnyValue),
+        b'#' => Some(Arguments::Count),
+        b'+' | b'-' => Some(Arguments::OneInt),
+        b'&' | b'|' | b'^' => Some(Arguments::OneUnsigned),
+        b':' => Some(Arguments::Splice),
+        _ => None,
+    }
+}
+
+/// Whether these are a field number, and then these arguments.
+fn are_operands(arguments: Arguments, operands: Row<'_>) -> bool
+    ensures { result ≡ are_operands (arguments_view arguments) (values_from operands.entry.count operands.entry.bytes.now) }
+{
+    if operands.count != 1 + how_many(arguments) {
+        return false;
+    }
+    let (field, values) = parted(operands.bytes);
+    is_int(field) && are_arguments(arguments, values)
+}
+
+/// How many values these arguments are.
+fn how_many(arguments: Arguments) -> u32
+    ensures count { result ≡ argument_count (arguments_view arguments) }
+    ensures small { result ≤ 3 }
+{
+    match arguments {
+        Arguments::AnyValue => 1,
+        Arguments::Count => 1,
+        Arguments::OneInt => 1,
+        Arguments::OneUnsigned => 1,
+        Arguments::Splice => 3,
+    }
+}
+
+/// Whether the values that stand here, of which there are enough, are these arguments.
+fn are_arguments(arguments: Arguments, values: &[u8]) -> bool
+    ensures { result ≡ are_arguments (arguments_view arguments) (values_from (argument_count (arguments_view arguments)) values.now) }
+{
+    let (first, others) = parted(values);
+    match arguments {
+        Arguments::AnyValue => true,
+        Arguments::Count => is_one_or_more(first),
+        Arguments::OneInt => is_int(first),
+        Arguments::OneUnsigned => unsigned_in(first).is_some(),
+        Arguments::Splice => is_int(first) && is_cut(others),
+    }
+}
+
+/// Whether an Int and a text stand first.
+fn is_cut(bytes: &[u8]) -> bool
+    ensures { result ≡ (is_int (first_value bytes.now) && is_text (first_value (after_value bytes.now))) }
+{
+    let (cut, others) = parted(bytes);
+    let (text, _) = parted(others);
+    is_int(cut) && text_in(text).is_some()
+}
+
+/// What the array that stands first holds.
+fn elements_in(value: &[u8]) -> Option<Row<'_>>
+    ensures { option_map (λ row. values_from row.count row.bytes.now) result ≡ elements_in value.now }
+{
+    match read_ref(value) {
+        Ok((ValueRef::Array { count, items }, _)) => Some(Row {
+            count,
+            bytes: items,
+        }),
+        _ => None,
+    }
+}
+
+/// The text that stands first.
+fn text_in(value: &[u8]) -> Option<&[u8]>
+    ensures { option_copied result ≡ text_shown (reading_of value.now) }
+{
+    match read_ref(value) {
+        Ok((ValueRef::Str(text), _)) => Some(text),
+        _ => None,
+    }
+}
+
+/// Whether an Int stands first.
+fn is_int(value: &[u8]) -> bool
+    ensures { result ≡ is_int value.now }
+{
+    matches!(read_ref(value), Ok((ValueRef::Int(_), _)))
+}
+
+/// Whether an Int of 1 or more stands first.
+fn is_one_or_more(value: &[u8]) -> bool
+    ensures { result ≡ is_one_or_more (unsigned_in value.now) }
+{
+    match unsigned_in(value) {
+        Some(number) => number >= 1,
+        None => false,
+    }
+}
