@@ -1,0 +1,2 @@
+pub mod GreetingLaws
+pub mod ReplyLaws

@@ -1,0 +1,108 @@
+//! The packet of a reply: its size, its header and its body.
+
+ghost use Rattle.std.specs.Prelude.{◌≡◌, ◌+◌, ◌<◌, ◌++◌, ◌∷◌, ◌-◌, ◌^◌, length, min, take, OnOk, MatchResult};
+ghost use Rattle.std.specs.List.{concat};
+ghost use Rattle.byteorder.specs.Endian.{big_bytes};
+ghost use Rattle.mx_reply.specs.Replies.{reply_header, reply_packet};
+
+use byteorder::{BigEndian, ByteOrder};
+use mx_base::SyncId;
+use mx_msgpack::Bytes;
+use std::alloc::AllocError;
+
+/// The bytes of a header, without the five of the packet's size before it.
+const HEADER_SIZE: usize = 23;
+
+/// What the header of a reply says.
+#[derive(Clone, Copy, Debug, Drop)]
+pub(crate) struct Header {
+    /// The schema version.
+    pub(crate) schema: u32,
+    /// The sync of the request.
+    pub(crate) sync: SyncId,
+    /// The type, which is 0 for an answer.
+    pub(crate) kind: u32,
+}
+
+/// Adds the packet whose body is the front and then the parts, one after the other.
+///
+/// # Errors
+/// Memory ran out, or the packet has more than 2^32 - 1 bytes behind its size; nothing was added.
+pub(crate) fn write_packet(
+    header: Header,
+    front: &[u8],
+    parts: &[Bytes],
+    out: &mut Bytes,
+) -> Result<(), AllocError>
+    ensures written { MatchResult result
+        (λ _. out.new ≡ out.old ++ reply_packet header.schema header.sync.0 header.kind (front.now ++ concat parts.now))
+        (λ _. out.new ≡ out.old) }
+    ensures fits { OnOk result (23 + length (front.now ++ concat parts.now) < 2 ^ 32) }
+{
+    let before = out.len();
+    let written = write_pieces(header, front, parts, out);
+    if written.is_err() {
+        out.truncate(before);
+    }
+    written
+}
+
+/// As `write_packet`, but where memory ran out the front of the packet may have been added.
+fn write_pieces(
+    header: Header,
+    front: &[u8],
+    parts: &[Bytes],
+    out: &mut Bytes,
+) -> Result<(), AllocError>
+    ensures written { MatchResult result
+        (λ _. out.new ≡ out.old ++ reply_packet header.schema header.sync.0 header.kind (front.now ++ concat parts.now))
+        (λ _. take (length out.old) out.new ≡ out.old) }
+    ensures fits { OnOk result (23 + length (front.now ++ concat parts.now) < 2 ^ 32) }
+{
+    let body_size = total_size(parts).saturating_add(front.len());
+    let Ok(size) = u32::try_from(body_size.saturating_add(HEADER_SIZE)) else {
+        return Err(AllocError);
+    };
+    let head = packet_head(size, header);
+    out.reserve(body_size.saturating_add(head.len()))?;
+    out.extend_from_slice(&head)?;
+    out.extend_from_slice(front)?;
+    write_each(parts, out)?;
+    Ok(())
+}
+
+/// How many bytes the parts have together, or the greatest number there is.
+fn total_size(parts: &[Bytes]) -> usize
+    ensures { result ≡ min (length (concat parts.now)) (2 ^ 64 - 1) }
+{
+    let mut size = 0_usize;
+    for part in parts {
+        size = size.saturating_add(part.len());
+    }
+    size
+}
+
+/// Adds the bytes of each part; where memory ran out those of some first ones may have been added.
+fn write_each(parts: &[Bytes], out: &mut Bytes) -> Result<(), AllocError>
+    ensures { MatchResult result (λ _. out.new ≡ out.old ++ concat parts.now) (λ _. take (length out.old) out.new ≡ out.old) }
+{
+    for part in parts {
+        out.extend_from_slice(part.as_slice())?;
+    }
+    Ok(())
+}
+
+/// The bytes of a packet before its body.
+fn packet_head(size: u32, header: Header) -> [u8; 28]
+    ensures { result ≡ (0xce ∷ big_bytes 4 size) ++ reply_header header.schema header.sync.0 header.kind }
+{
+    let mut head = [
+        0xce, 0, 0, 0, 0, 0x83, 0x00, 0xce, 0, 0, 0, 0, 0x01, 0xcf, 0, 0, 0, 0, 0, 0, 0, 0, 0x05,
+        0xce, 0, 0, 0, 0,
+    ];
+    BigEndian::write_u32(&mut head[1..], size);
+    BigEndian::write_u32(&mut head[8..], header.kind);
+    BigEndian::write_u64(&mut head[14..], header.sync.0);
+    BigEndian::write_u32(&mut head[24..], header.schema);
+    head
+}

@@ -1,0 +1,105 @@
+//! Replies as packets (IPROTO, "Response structure").
+
+ghost use Rattle.std.specs.Prelude.{◌≡◌, ◌+◌, ◌<◌, ◌^◌, ◌++◌, length, OnOk, MatchResult};
+ghost use Rattle.mx_reply.specs.Replies.{body_text, error_packet, id_packet, ok_packet, refusal_body};
+
+use crate::body::ReplyBody;
+use crate::packet::{Header, write_packet};
+use byteorder::{BigEndian, ByteOrder};
+use mx_base::{Refusal, SyncId, code_of, text_of};
+use mx_msgpack::{Bytes, write_str_head};
+use std::alloc::{AllocError, Global};
+
+/// The most bytes that a Str may have.
+const MOST_TEXT: usize = 2_097_152;
+
+/// Adds the reply of an answer: a packet of type 0 with this sync and schema version, and the body's
+/// map.
+///
+/// # Errors
+/// Memory ran out, or the packet has more than 2^32 - 1 bytes; nothing was added.
+pub fn write_ok(
+    alloc: Global,
+    sync: SyncId,
+    schema: u32,
+    body: &ReplyBody,
+    out: &mut Bytes,
+) -> Result<(), AllocError>
+    ensures written { MatchResult result (λ _. out.new ≡ out.old ++ ok_packet schema sync.0 body.now) (λ _. out.new ≡ out.old) }
+    ensures fits { OnOk result (23 + length (body_text body.now) < 2 ^ 32) }
+{
+    let header = Header {
+        schema,
+        sync,
+        kind: 0,
+    };
+    match body {
+        ReplyBody::Empty => write_packet(header, &[0x80], &[], out),
+        ReplyBody::Tuples(tuples) => {
+            let Ok(count) = u32::try_from(tuples.len()) else {
+                return Err(AllocError);
+            };
+            let mut front = [0x81, 0x30, 0xdd, 0, 0, 0, 0];
+            BigEndian::write_u32(&mut front[3..], count);
+            write_packet(header, &front, tuples.as_slice(), out)
+        }
+        ReplyBody::Clock(clock) => {
+            // The map is made first, since its size stands before it.
+            let mut map = Bytes::new(alloc);
+            clock.write(&mut map)?;
+            write_packet(header, &[0x81, 0x26], &[map], out)
+        }
+    }
+}
+
+/// Adds the reply of a refusal: a packet whose type is 0x8000 and the refusal's number, with this
+/// sync and schema version, and the refusal's text in a map.
+///
+/// # Errors
+/// Memory ran out, or the text has more than 2,097,152 bytes; nothing was added.
+pub fn write_error(
+    alloc: Global,
+    sync: SyncId,
+    schema: u32,
+    refusal: &Refusal,
+    out: &mut Bytes,
+) -> Result<(), AllocError>
+    ensures written { MatchResult result (λ _. out.new ≡ out.old ++ error_packet schema sync.0 refusal.now) (λ _. out.new ≡ out.old) }
+    ensures fits { OnOk result (23 + length (refusal_body refusal.now) < 2 ^ 32) }
+{
+    let text = text_of(alloc, refusal)?;
+    if text.len() > MOST_TEXT {
+        return Err(AllocError);
+    }
+    let mut head = Bytes::new(alloc);
+    write_str_head(text.len(), &mut head)?;
+    let kind = 0x8000 + u32::from(code_of(refusal));
+    write_packet(
+        Header { schema, sync, kind },
+        &[0x81, 0x31],
+        &[head, text],
+        out,
+    )
+}
+
+/// Adds the reply to a request for the protocol's version and features: a packet of type 0 with this
+/// sync and schema version, and both in a map.
+///
+/// # Errors
+/// Memory ran out; nothing was added.
+pub fn write_id(
+    _alloc: Global,
+    sync: SyncId,
+    schema: u32,
+    out: &mut Bytes,
+) -> Result<(), AllocError>
+    ensures written { MatchResult result (λ _. out.new ≡ out.old ++ id_packet schema sync.0) (λ _. out.new ≡ out.old) }
+{
+    let header = Header {
+        schema,
+        sync,
+        kind: 0,
+    };
+    let body = [0x82, 0x54, 0x01, 0x55, 0x92, 0x00, 0x01];
+    write_packet(header, &body, &[], out)
+}
