@@ -1,0 +1,2 @@
+pub mod OutboxLaws
+pub mod JobLaws

@@ -1,0 +1,93 @@
+-- What the packets of a connection come to: a job each, up to and with the first one whose bytes aren't one or two maps.
+use Rattle.std.specs.Prelude.{ℕ, Bool, true, false, List, [], ◌∷◌, take, drop, map, Option, Some, None, Result, Ok, Err, if◌then◌else◌}
+use Rattle.mx_msgpack.specs.declared.bad.Bad.{Bad}
+use Rattle.mx_msgpack.specs.Reading.{Shown, ShownNil, ShownBool, ShownInt, ShownStr, ShownBin, ShownArray, ShownMap, ShownOpaque, reading_of}
+use Rattle.mx_msgpack.specs.Readers.{◌>>=◌}
+use Rattle.mx_base.specs.declared.refusal.Refusal.{Refusal}
+use Rattle.mx_base.specs.declared.refusal.Refusal.TheVariants.{NotMessagePack}
+use Rattle.mx_frame.specs.Packets.{packets_of, breaks_off}
+use Rattle.mx_request.specs.declared.request.Ask.TheVariants.{Request, Refused}
+use Rattle.mx_request.specs.declared.request.Head3.{Head3}
+use Rattle.mx_request.specs.declared.request.Request as request
+use Rattle.mx_request.specs.Maps.{Pair, pairs_in}
+use Rattle.mx_request.specs.Requests.{asked_in, sync_in, stream_in}
+use Rattle.mx_session.specs.declared.job.Job.{Job}
+
+abbrev pub map_parted : List ℕ → Result (Shown × ℕ) Bad → Option (List ℕ × List ℕ)
+map_parted bytes (Err bad) = None
+map_parted bytes (Ok (ShownNil, size)) = None
+map_parted bytes (Ok (ShownBool truth, size)) = None
+map_parted bytes (Ok (ShownInt number, size)) = None
+map_parted bytes (Ok (ShownStr text, size)) = None
+map_parted bytes (Ok (ShownBin content, size)) = None
+map_parted bytes (Ok (ShownArray count items, size)) = None
+map_parted bytes (Ok (ShownMap count items, size)) = Some (take size bytes, drop size bytes)
+map_parted bytes (Ok (ShownOpaque spelling, size)) = None
+
+-- the map that stands first, and the bytes after it
+abbrev pub map_at : List ℕ → Option (List ℕ × List ℕ)
+map_at bytes = map_parted bytes (reading_of bytes)
+
+abbrev pub only_whole : List ℕ × List ℕ → Option (List ℕ)
+only_whole (map, []) = Some map
+only_whole (map, byte ∷ rest) = None
+
+-- a body: no bytes, or one map
+abbrev pub body_in : List ℕ → Option (List ℕ)
+body_in [] = Some []
+body_in (byte ∷ bytes) = map_at (byte ∷ bytes) >>= only_whole
+
+-- the header and the body of a packet, where its bytes are one map, or two, and nothing else
+unfoldable pub maps_in : List ℕ → Option (List ℕ × List ℕ)
+maps_in packet = do
+  header ← map_at packet
+  body ← body_in header.1
+  Some (header.0, body)
+
+-- a refusal in the words of a header
+abbrev pub refused_job : (connection : ℕ) → List Pair → Refusal → Job
+refused_job connection header refusal = record {
+  name = record { conn = record { 0 = connection }; stream = record { 0 = stream_in header } };
+  sync = record { 0 = sync_in header };
+  ask = Refused refusal;
+}
+
+abbrev pub asked_job : (connection : ℕ) → List Pair → Result (Head3 × request.Request) Refusal → Job
+asked_job connection header (Ok asked) = record {
+  name = record { conn = record { 0 = connection }; stream = asked.0.stream };
+  sync = asked.0.sync;
+  ask = Request asked.1;
+}
+asked_job connection header (Err refusal) = refused_job connection header refusal
+
+-- a job, and whether the connection ends with it
+abbrev pub job_by : (connection : ℕ) → (packet : List ℕ) → Option (List ℕ × List ℕ) → Job × Bool
+job_by connection packet None = (refused_job connection (pairs_in packet) NotMessagePack, true)
+job_by connection packet (Some maps) = (asked_job connection (pairs_in maps.0) (asked_in (pairs_in maps.0) (pairs_in maps.1)), false)
+
+-- what a packet comes to, and whether the connection ends with it
+abbrev pub job_in : (connection : ℕ) → (packet : List ℕ) → Job × Bool
+job_in connection packet = job_by connection packet (maps_in packet)
+
+-- what a size that no packet may have comes to
+abbrev pub broken_job : (connection : ℕ) → Job
+broken_job connection = refused_job connection [] NotMessagePack
+
+-- the jobs up to and with the first that ends the connection, or these at the end
+abbrev pub up_to_end : List (Job × Bool) → List Job → List Job
+up_to_end [] last = last
+up_to_end ((job, true) ∷ jobs) last = job ∷ []
+up_to_end ((job, false) ∷ jobs) last = job ∷ up_to_end jobs last
+
+-- the jobs of all bytes that came on a connection
+abbrev pub jobs_of : (connection : ℕ) → List ℕ → List Job
+jobs_of connection bytes = up_to_end (map (job_in connection) (packets_of bytes)) (if breaks_off bytes then broken_job connection ∷ [] else [])
+
+abbrev pub some_ends : List (Job × Bool) → Bool
+some_ends [] = false
+some_ends ((job, true) ∷ jobs) = true
+some_ends ((job, false) ∷ jobs) = some_ends jobs
+
+-- the connection ended with one of these jobs
+abbrev pub ends : (connection : ℕ) → List ℕ → Bool
+ends connection bytes = if some_ends (map (job_in connection) (packets_of bytes)) then true else breaks_off bytes

@@ -1,0 +1,15 @@
+//! A connection's session: bytes in, jobs out; replies in, bytes out once they may leave (IPROTO, "Packet structure").
+#![tactic(auto)]
+
+mod job;
+mod laws;
+mod outbox;
+mod packet;
+mod session;
+
+pub use job::Job;
+pub use laws::jobs_are_those_of_the_stream;
+pub use session::{Next, Session};
+
+#[cfg(test)]
+mod tests;

@@ -1,0 +1,42 @@
+//! The maps of a packet (IPROTO, "Packet structure").
+
+ghost use Rattle.std.specs.Prelude.{◌≡◌};
+ghost use Rattle.std.specs.Option.{option_copied, option_map};
+ghost use Rattle.mx_session.specs.Jobs.{body_in, map_at, maps_in};
+
+use mx_msgpack::{ValueRef, read_ref};
+
+/// The header and the body of a packet that is one map, or two, and nothing else. A packet of one map
+/// has a body of no bytes.
+#[tactic(auto, unfolding(crate::specs::Jobs::maps_in))]
+pub(crate) fn maps_in(packet: &[u8]) -> Option<(&[u8], &[u8])>
+    ensures { option_map (λ x. (x.0.now, x.1.now)) result ≡ maps_in packet.now }
+{
+    let (header, rest) = map_at(packet)?;
+    let body = body_in(rest)?;
+    Some((header, body))
+}
+
+/// A body: no bytes, or one map and nothing else.
+fn body_in(bytes: &[u8]) -> Option<&[u8]>
+    ensures { option_copied result ≡ body_in bytes.now }
+{
+    if bytes.is_empty() {
+        return Some(bytes);
+    }
+    let (body, rest) = map_at(bytes)?;
+    if !rest.is_empty() {
+        return None;
+    }
+    Some(body)
+}
+
+/// The map that stands first, and the bytes after it.
+fn map_at(bytes: &[u8]) -> Option<(&[u8], &[u8])>
+    ensures { option_map (λ x. (x.0.now, x.1.now)) result ≡ map_at bytes.now }
+{
+    match read_ref(bytes) {
+        Ok((ValueRef::Map { .. }, size)) => Some(bytes.split_at(size)),
+        _ => None,
+    }
+}

@@ -1,0 +1,167 @@
+//! The session.
+
+ghost use Rattle.std.specs.Prelude.{◌≡◌, ◌≤◌, ◌++◌, ◌∷◌, [], length, drop, false, IfOk, MatchResult, if◌then◌else◌};
+ghost use Rattle.mx_request.specs.declared.request.Ask.TheVariants as ask;
+ghost use Rattle.mx_session.specs.Sessions.{first_front, released};
+ghost use Rattle.mx_session.specs.Tells.{TellsNext};
+
+use crate::job::{Job, broken_job, job_in};
+use crate::outbox::Outbox;
+use mx_base::{ConnId, StreamId, SyncId, TxnName};
+use mx_frame::{Framed, Framer};
+use mx_msgpack::Bytes;
+use mx_request::Ask;
+use std::alloc::{AllocError, Global};
+use std::marker::Model;
+
+/// What comes next on a connection.
+#[derive(Debug, Drop)]
+pub enum Next {
+    /// What the next packet comes to.
+    Job(Job),
+    /// No whole packet came yet.
+    NeedMore,
+    /// A packet came that is no MessagePack, and the connection ended with it.
+    Ended,
+}
+
+/// One connection: the bytes that came on it as jobs, and the replies to them, each of which leaves
+/// once what it saw is on the disk.
+#[derive(Debug, Drop)]
+pub struct Session {
+    alloc: Global,
+    connection: ConnId,
+    framer: Framer,
+    ended: bool,
+    outbox: Outbox,
+}
+
+impl Model for Session {
+    ghost use Rattle.mx_session.specs.Sessions.{SessionState};
+
+    ghost Value = { SessionState };
+
+    ghost view = { λ s. record { connection = s.connection.0; rest = s.framer.rest; ended = s.ended; waiting = s.outbox.waiting; out = s.outbox.out } };
+}
+
+impl Session {
+    /// The session of a new connection, on which this greeting leaves first.
+    ///
+    /// # Errors
+    /// Memory ran out.
+    pub fn new(alloc: Global, conn: ConnId, greeting: &[u8; 128]) -> Result<Session, AllocError>
+        ensures { IfOk result (λ session. session ≡ record { connection = conn.0; rest = []; ended = false; waiting = []; out = greeting.now }) }
+    {
+        Ok(Session {
+            alloc,
+            connection: conn,
+            framer: Framer::new(alloc),
+            ended: false,
+            outbox: Outbox::new(alloc, greeting)?,
+        })
+    }
+
+    /// Takes bytes that came on the connection. Once it ended they are dropped.
+    ///
+    /// # Errors
+    /// Memory ran out, and the bytes aren't taken.
+    pub fn feed(&mut self, piece: &[u8]) -> Result<(), AllocError>
+        ensures { MatchResult result
+            (λ _. self.new ≡ record self.old { rest = if self.old.ended then self.old.rest else self.old.rest ++ piece.now })
+            (λ _. self.new ≡ self.old) }
+    {
+        if self.ended {
+            return Ok(());
+        }
+        self.framer.feed(piece)
+    }
+
+    /// What the next packet comes to, which is then done with.
+    ///
+    /// # Errors
+    /// Memory ran out, and the packet is still the next one.
+    pub fn next_job(&mut self) -> Result<Next, AllocError>
+        ensures { TellsNext result self.old self.new }
+    {
+        if self.ended {
+            return Ok(Next::Ended);
+        }
+        match self.framer.next() {
+            Framed::NeedMore => Ok(Next::NeedMore),
+            Framed::Broken { .. } => {
+                self.ended = true;
+                Ok(Next::Job(broken_job(self.connection)))
+            }
+            Framed::Packet(packet) => {
+                let (job, ends) = job_in(self.alloc, self.connection, packet)?;
+                self.framer.pass();
+                self.ended = ends;
+                Ok(Next::Job(job))
+            }
+        }
+    }
+
+    /// Whether a packet came that ended the connection.
+    pub fn has_ended(&self) -> bool
+        ensures { result ≡ self.now.ended }
+    {
+        self.ended
+    }
+
+    /// Adds the reply to a job, which may leave once the first `front` steps of the history are on
+    /// the disk, and not before an earlier reply.
+    ///
+    /// # Errors
+    /// Memory ran out, and the reply isn't added.
+    pub fn push_reply(&mut self, front: u64, reply: Bytes) -> Result<(), AllocError>
+        ensures { MatchResult result
+            (λ _. self.new ≡ record self.old { waiting = self.old.waiting ++ record { front = front; reply = reply } ∷ [] })
+            (λ _. self.new ≡ self.old) }
+    {
+        self.outbox.push(front, reply.as_slice())
+    }
+
+    /// Lets replies leave, in order, up to the first whose front is above `durable`, the number of
+    /// steps that are on the disk.
+    pub fn release(&mut self, durable: u64)
+        ensures { self.new ≡ record self.old { waiting = (released durable self.old.waiting).1; out = self.old.out ++ (released durable self.old.waiting).0 } }
+    {
+        self.outbox.release(durable);
+    }
+
+    /// The front of the first reply that waits.
+    pub fn waiting(&self) -> Option<u64>
+        ensures { result ≡ first_front self.now.waiting }
+    {
+        self.outbox.first_front()
+    }
+
+    /// The bytes that may leave.
+    pub fn out(&self) -> &[u8]
+        ensures { result.now ≡ self.now.out }
+    {
+        self.outbox.out()
+    }
+
+    /// Drops the first `count` bytes of those that may leave, since they left.
+    pub fn sent(&mut self, count: usize)
+        requires { count ≤ length self.old.out }
+        ensures { self.new ≡ record self.old { out = drop count self.old.out } }
+    {
+        self.outbox.sent(count);
+    }
+
+    /// Ends the session: the job of a connection that leaves.
+    pub fn close(self) -> Job
+        ensures { result ≡ record { name = record { conn = record { 0 = self.connection }; stream = record { 0 = 0 } }; sync = record { 0 = 0 }; ask = ask.Leave } }
+    {
+        Job {
+            name: TxnName {
+                conn: self.connection,
+                stream: StreamId(0),
+            },
+            sync: SyncId(0),
+            ask: Ask::Leave,
+        }
+    }
+}
