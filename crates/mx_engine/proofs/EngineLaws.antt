@@ -1,67 +1,72 @@
 -- What a step makes of an engine, and of what it stands for.
-use Rattle.std.proofs.Common.{◌≡◌, inl, inr, ℕ, suc, ◌+◌, ◌-◌, ◌<◌, pos, Bool, true, false, not, List, [], ◌∷◌, ◌++◌, refl, sym, ap, ◌∙◌, subst, append-nil, arith}
-use Rattle.std.specs.Prelude.{◌==◌, ◌&&◌, Some, None, nat_lt, slice_index, slice_set, if◌then◌else◌}
-use Rattle.std.specs.FinMap as map
-use Rattle.std.proofs.lemmas.Bool.{eq-eqb, ne_eqb, lt-ltb, le-ltb}
+use Rattle.std.proofs.Common.{◌≡◌, inl, inr, ℕ, suc, ◌+◌, ◌-◌, ◌<◌, ◌≤◌, length, pos, Bool, true, false, not, List, [], ◌∷◌, ◌++◌, refl, true≢false, sym, ap, ◌∙◌, subst, append-nil, arith}
+use Rattle.std.specs.Prelude.{◌==◌, ◌&&◌, ◌||◌, Some, None, nat_lt, slice_index, slice_set, if◌then◌else◌}
+use Rattle.std.proofs.lemmas.Bool.{eqb-true, lt-ltb, le-ltb}
 use Rattle.mx_vclock.specs.Vclocks.{most_lsn, IsNext}
-use Rattle.mx_model.specs.declared.refusal.Refusal.{Refusal}
-use Rattle.mx_model.specs.declared.refusal.Refusal.TheVariants.{OutOfMemory, ReadOnly, SpaceMissing, LsnsUsedUp}
-use Rattle.mx_model.specs.declared.txn_name.TxnName.{TxnName}
+use Rattle.mx_base.specs.declared.ids.SpaceId.{SpaceId}
+use Rattle.mx_base.specs.declared.ids.TxnName.{TxnName}
+use Rattle.mx_base.specs.declared.refusal.Refusal.{Refusal}
+use Rattle.mx_base.specs.declared.refusal.Refusal.TheVariants.{OutOfMemory, ReadOnly, SpaceMissing, UnknownRequestType, TupleTooLong, LsnsUsedUp}
+use Rattle.mx_request.specs.declared.request.Ask.TheVariants as ask
+use Rattle.mx_request.specs.declared.request.Request.{Request}
+use Rattle.mx_request.specs.declared.request.Request.TheVariants as request
+use Rattle.mx_request.specs.Spelling.{kind_number, IsAskable}
 use Rattle.mx_model.specs.declared.reply.Reply.{Reply}
 use Rattle.mx_model.specs.declared.reply.Reply.TheVariants.{Tuples, Refused}
 use Rattle.mx_model.specs.declared.row.Row.TheVariants.{Replaced}
 use Rattle.mx_model.specs.declared.tx.Tx.{Tx}
-use Rattle.mx_model.specs.declared.ids.Ids.{Ids}
 use Rattle.mx_model.specs.declared.state.State as coded
 use Rattle.mx_model.specs.Keys.{Integer, key_in}
 use Rattle.mx_model.specs.State.{State, test_space}
 use Rattle.mx_model.specs.Stored.{Holds, stored}
-use Rattle.mx_model.specs.Requests.{Request, Select, Replace, Asks, RefusedAsk}
-use Rattle.mx_model.specs.Answers.{Answer, answer_to, in_space, replaced}
+use Rattle.mx_model.specs.Answers.{Answer, answer_to, refused, not_built, replaced, replacing, longest_tuple, begins_with_number, looked_up, put_by}
 use Rattle.mx_model.specs.Transactions.{state_after, clock_after}
-use Rattle.mx_model.specs.Rows.{IsRequest}
-use Rattle.mx_model.specs.Histories.{Base, History, Asked, node_answer, answer_in, numbered, refused, committed, commits_of, writable_node, is_want_of_memory, ledger_of, state_of, clock_of}
+use Rattle.mx_model.specs.Histories.{Base, History, Asked, Left, node_answer, answer_in, numbered, committed, is_write, commits_of, writable_node, is_want_of_memory, ledger_of, state_of, clock_of}
+use Rattle.mx_model.proofs.StateLaws.{HasOneSpace}
+use Rattle.mx_model.proofs.AnswerLaws.{space_is_missing, tuple_is_too_long, tuple_has_no_number, tuple_is_replaced, looked_up_leaves_none}
 use Rattle.mx_model.proofs.StoredLaws.{holds_same, holds_replaced}
-use Rattle.mx_model.proofs.HistoryLaws.{committed-no_row, select_no_row, select_answer, state_of-asked, clock_of-asked, untaken-asked, untaken}
+use Rattle.mx_model.proofs.HistoryLaws.{committed-no_row, state_of-asked, clock_of-asked, untaken-asked, untaken}
 use Rattle.mx_engine.specs.declared.engine.Engine.{Engine}
 use Rattle.mx_engine.specs.Standing.{EngineStandsFor}
-use Rattle.mx_engine.specs.Steps.{IsTold, Keeps, Stores, Answers, transaction_of, lsn_after, answer_by, commits_by}
+use Rattle.mx_engine.specs.Steps.{IsTold, Keeps, Stores, Answers, transaction_of, lsn_after, answer_by, commits_by, takes}
 
--- what a REPLACE is told, by the first test that it fails
-pub replace_read_only : (ids : Ids) (before : State) (lsn space : ℕ) (tuple : List ℕ) → (ids.me == writable_node) ≡ false
-    → node_answer ids before lsn (Replace space tuple) ≡ refused (ReadOnly writable_node)
-replace_read_only ids before lsn space tuple other =
-    ap (λ b. if true && not b then refused (ReadOnly writable_node)
-    else numbered lsn (answer_to before (Replace space tuple)) (answer_to before (Replace space tuple)).row) other
+both_tests : (mine writes : Bool) → (mine || not writes) ≡ true → (writes && not mine) ≡ false
+both_tests true true taken = refl
+both_tests true false taken = refl
+both_tests false true taken = sym taken
+both_tests false false taken = refl
 
-replace_there : (ids : Ids) (before : State) (lsn space : ℕ) (tuple : List ℕ) (answer : Answer) → (ids.me == writable_node) ≡ true
-    → answer_to before (Replace space tuple) ≡ answer → node_answer ids before lsn (Replace space tuple) ≡ numbered lsn answer answer.row
-replace_there ids before lsn space tuple answer same is =
-    ap (λ b. if true && not b then refused (ReadOnly writable_node)
-    else numbered lsn (answer_to before (Replace space tuple)) (answer_to before (Replace space tuple)).row) same
-    ∙ ap (λ a. numbered lsn a a.row) is
+neither_test : (mine writes : Bool) → (mine || not writes) ≡ false → (writes && not mine) ≡ true
+neither_test true writes other = absurd (true≢false other)
+neither_test false true other = refl
+neither_test false false other = absurd (true≢false other)
 
-pub replace_missing : (memory : coded.State) (before : State) (ids : Ids) (lsn space : ℕ) (tuple : List ℕ) → Holds memory before
-    → (ids.me == writable_node) ≡ true → (space == test_space) ≡ false → node_answer ids before lsn (Replace space tuple) ≡ refused (SpaceMissing space)
-replace_missing memory before ids lsn space tuple holds same other =
-    replace_there ids before lsn space tuple (refused (SpaceMissing space)) same
-    (ap (λ o. in_space space o (λ _. replaced space tuple)) (holds.others space other))
+writer : (mine writes : Bool) → (mine || not writes) ≡ true → writes ≡ true → mine ≡ true
+writer true writes taken write = refl
+writer false true taken write = taken
+writer false false taken write = write
 
-replace_numbered : (memory : coded.State) (before : State) (ids : Ids) (lsn : ℕ) (tuple : List ℕ) (used_up : Bool) → Holds memory before
-    → (ids.me == writable_node) ≡ true → nat_lt most_lsn lsn ≡ used_up
-    → node_answer ids before lsn (Replace test_space tuple) ≡ (if used_up then refused LsnsUsedUp else replaced test_space tuple)
-replace_numbered memory before ids lsn tuple used_up holds same is =
-    replace_there ids before lsn test_space tuple (replaced test_space tuple) same
-    (ap (λ o. in_space test_space o (λ _. replaced test_space tuple)) holds.test)
-    ∙ ap (λ b. if b then refused LsnsUsedUp else replaced test_space tuple) is
+module _ (engine : Engine) (before : State) (asked : Request) where
+  -- what a node that is only read tells of a request that writes
+  pub answer_read_only : takes engine.ids asked ≡ false → answer_by engine before asked ≡ refused (ReadOnly (record { 0 = writable_node }))
+  answer_read_only other =
+      ap (λ b. if b then refused (ReadOnly (record { 0 = writable_node }))
+      else numbered (lsn_after engine) (answer_to before asked) (answer_to before asked).row)
+      (neither_test (engine.ids.me == writable_node) (is_write asked) other)
 
-pub replace_used_up : (memory : coded.State) (before : State) (ids : Ids) (lsn : ℕ) (tuple : List ℕ) → Holds memory before
-    → (ids.me == writable_node) ≡ true → nat_lt most_lsn lsn ≡ true → node_answer ids before lsn (Replace test_space tuple) ≡ refused LsnsUsedUp
-replace_used_up memory before ids lsn tuple holds same above = replace_numbered memory before ids lsn tuple true holds same above
+  -- what the node tells of a request that it takes
+  pub answer_taken : (answer : Answer) → takes engine.ids asked ≡ true → answer_to before asked ≡ answer
+      → answer_by engine before asked ≡ numbered (lsn_after engine) answer answer.row
+  answer_taken answer taken is =
+      ap (λ b. if b then refused (ReadOnly (record { 0 = writable_node }))
+      else numbered (lsn_after engine) (answer_to before asked) (answer_to before asked).row)
+      (both_tests (engine.ids.me == writable_node) (is_write asked) taken)
+      ∙ ap (λ a. numbered (lsn_after engine) a a.row) is
 
-pub replace_answer : (memory : coded.State) (before : State) (ids : Ids) (lsn : ℕ) (tuple : List ℕ) → Holds memory before
-    → (ids.me == writable_node) ≡ true → nat_lt most_lsn lsn ≡ false → node_answer ids before lsn (Replace test_space tuple) ≡ replaced test_space tuple
-replace_answer memory before ids lsn tuple holds same within = replace_numbered memory before ids lsn tuple false holds same within
+  -- the same of an answer that leaves no row
+  pub answer_without_row : (answer : Answer) → takes engine.ids asked ≡ true → answer_to before asked ≡ answer → answer.row ≡ None
+      → answer_by engine before asked ≡ answer
+  answer_without_row answer taken is none = answer_taken answer taken is ∙ ap (numbered (lsn_after engine) answer) none
 
 -- an answer without a row stores nothing
 pub answers_no_row : (old new : Engine) (before : State) (request : Request) (reply : Reply) → IsTold reply (answer_by old before request)
@@ -105,27 +110,74 @@ answers_refused engine before request refusal is holds =
     answers_no_row engine engine before request (Refused refusal) (inl (sym (ap (λ a. a.reply) is))) (ap (λ a. a.row) is)
     (stores_nothing engine before holds) refl
 
--- the tests as the code makes them
-pub answers_read_only : (engine : Engine) (before : State) (space : ℕ) (tuple : List ℕ) → (engine.ids.me ≡ writable_node → ⊥)
-    → Holds engine.state before → Answers engine engine before (Replace space tuple) (Refused (ReadOnly writable_node))
-answers_read_only engine before space tuple other holds =
-    answers_refused engine before (Replace space tuple) (ReadOnly writable_node)
-    (replace_read_only engine.ids before (lsn_after engine) space tuple (ne_eqb engine.ids.me writable_node other)) holds
+-- the one space is there
+abbrev pub one_space : (memory : coded.State) (before : State) → Holds memory before → HasOneSpace before
+one_space memory before holds = record { tuples = holds.tuples; there = holds.test; others = holds.others }
 
-pub answers_missing : (engine : Engine) (before : State) (space : ℕ) (tuple : List ℕ) → engine.ids.me ≡ writable_node → (space ≡ test_space → ⊥)
-    → Holds engine.state before → Answers engine engine before (Replace space tuple) (Refused (SpaceMissing space))
-answers_missing engine before space tuple me other holds =
-    answers_refused engine before (Replace space tuple) (SpaceMissing space)
-    (replace_missing engine.state before engine.ids (lsn_after engine) space tuple holds (eq-eqb engine.ids.me writable_node me) (ne_eqb space test_space other)) holds
+-- a request that the node takes, that leaves no row and needs no memory
+pub answers_told : (engine : Engine) (before : State) (asked : Request) (reply : Reply) → takes engine.ids asked ≡ true → Holds engine.state before
+    → IsTold reply (answer_to before asked) → (answer_to before asked).row ≡ None → Answers engine engine before asked reply
+answers_told engine before asked reply taken holds told none =
+    let is = answer_without_row engine before asked (answer_to before asked) taken refl none in
+    answers_no_row engine engine before asked reply (subst (IsTold reply) (sym is) told) (ap (λ a. a.row) is ∙ none) (stores_nothing engine before holds) refl
 
-pub answers_used_up : (engine : Engine) (before : State) (space : ℕ) (tuple : List ℕ) → engine.ids.me ≡ writable_node → space ≡ test_space
-    → most_lsn < suc (slice_index engine.clock writable_node) → Holds engine.state before
-    → Answers engine engine before (Replace space tuple) (Refused LsnsUsedUp)
-answers_used_up engine before space tuple me same above holds =
-    let lsn = ap (λ id. suc (slice_index engine.clock id)) me in
-    answers_refused engine before (Replace space tuple) LsnsUsedUp
-    (ap (λ s. answer_by engine before (Replace s tuple)) same
-    ∙ replace_used_up engine.state before engine.ids (lsn_after engine) tuple holds (eq-eqb engine.ids.me writable_node me) (ap (nat_lt most_lsn) lsn ∙ lt-ltb most_lsn _ above)) holds
+-- the same of a request that isn't built
+pub answers_not_built : (engine : Engine) (before : State) (asked : Request) → takes engine.ids asked ≡ true → Holds engine.state before
+    → answer_to before asked ≡ not_built asked → Answers engine engine before asked (Refused (UnknownRequestType (kind_number asked)))
+answers_not_built engine before asked taken holds is =
+    answers_told engine before asked (Refused (UnknownRequestType (kind_number asked))) taken holds (inl (sym (ap (λ a. a.reply) is))) (ap (λ a. a.row) is)
+
+-- a SELECT that is looked up
+pub answers_looked_up : (engine : Engine) (before : State) (asked : Request) (reply : Reply) (space limit : ℕ) (key : List ℕ)
+    → takes engine.ids asked ≡ true → Holds engine.state before → answer_to before asked ≡ looked_up before space limit key
+    → IsTold reply (looked_up before space limit key) → Answers engine engine before asked reply
+answers_looked_up engine before asked reply space limit key taken holds is told =
+    answers_told engine before asked reply taken holds (subst (IsTold reply) (sym is) told)
+    (ap (λ a. a.row) is ∙ looked_up_leaves_none before space limit key)
+
+-- a REPLACE, by the first test that it fails
+module _ (engine : Engine) (before : State) (asked : Request) (space : SpaceId) (tuple : List ℕ)
+    (taken : takes engine.ids asked ≡ true) (is : asked ≡ request.Replace space tuple) (holds : Holds engine.state before) where
+  put_is : answer_to before asked ≡ put_by before asked space.0 tuple
+  put_is = ap (answer_to before) is ∙ ap (λ r. put_by before r space.0 tuple) (sym is)
+
+  refused_by : (refusal : Refusal) → put_by before asked space.0 tuple ≡ refused refusal → Answers engine engine before asked (Refused refusal)
+  refused_by refusal put =
+      answers_refused engine before asked refusal (answer_without_row engine before asked (refused refusal) taken (put_is ∙ put) refl) holds
+
+  pub answers_missing : (space.0 ≡ test_space → ⊥) → Answers engine engine before asked (Refused (SpaceMissing space))
+  answers_missing other =
+      refused_by (SpaceMissing space)
+      (space_is_missing before (one_space engine.state before holds) space.0 (λ _. replacing asked space.0 tuple) other)
+
+  module _ (same : space.0 ≡ test_space) where
+    pub answers_too_long : longest_tuple < length tuple → Answers engine engine before asked (Refused (TupleTooLong (length tuple)))
+    answers_too_long above =
+        refused_by (TupleTooLong (length tuple)) (tuple_is_too_long before (one_space engine.state before holds) asked space.0 tuple same above)
+
+    module _ (short : length tuple ≤ longest_tuple) where
+      pub answers_no_number : begins_with_number tuple ≡ false → Answers engine engine before asked (Refused (UnknownRequestType (kind_number asked)))
+      answers_no_number none =
+          refused_by (UnknownRequestType (kind_number asked))
+          (tuple_has_no_number before (one_space engine.state before holds) asked space.0 tuple same short none)
+
+      module _ (number : begins_with_number tuple ≡ true) where
+        -- the node is the one that may be written
+        pub writes_here : engine.ids.me ≡ writable_node
+        writes_here = eqb-true engine.ids.me writable_node (writer (engine.ids.me == writable_node) (is_write asked) taken (ap is_write is))
+
+        pub replaced_by : (used_up : Bool) → nat_lt most_lsn (lsn_after engine) ≡ used_up
+            → answer_by engine before asked ≡ (if used_up then refused LsnsUsedUp else replaced test_space tuple)
+        replaced_by used_up test =
+            answer_taken engine before asked (replaced space.0 tuple) taken
+            (put_is ∙ tuple_is_replaced before (one_space engine.state before holds) asked space.0 tuple same short number)
+            ∙ ap (λ s. numbered (lsn_after engine) (replaced s tuple) (Some (Replaced s tuple))) same
+            ∙ ap (λ b. if b then refused LsnsUsedUp else replaced test_space tuple) test
+
+        pub answers_used_up : most_lsn < suc (slice_index engine.clock writable_node) → Answers engine engine before asked (Refused LsnsUsedUp)
+        answers_used_up above =
+            let lsn = ap (λ id. suc (slice_index engine.clock id)) writes_here in
+            answers_refused engine before asked LsnsUsedUp (replaced_by true (ap (nat_lt most_lsn) lsn ∙ lt-ltb most_lsn _ above)) holds
 
 -- memory was missing
 pub answers_no_memory : (old new : Engine) (before : State) (request : Request) → Stores old new before [] → new.clock ≡ old.clock
@@ -133,17 +185,18 @@ pub answers_no_memory : (old new : Engine) (before : State) (request : Request) 
 answers_no_memory old new before request stores clock = record { told = inr refl; stores = stores; clock = clock }
 
 -- a REPLACE that is taken
-pub answers_replaced : (old put : Engine) (before : State) (clock : List ℕ) (lsn space : ℕ) (tuple : List ℕ) (tuples : List (List ℕ))
-    → old.ids.me ≡ writable_node → space ≡ test_space → IsNext old.clock writable_node lsn → Holds old.state before → tuples ≡ tuple ∷ []
+pub answers_replaced : (old put : Engine) (before : State) (asked : Request) (clock : List ℕ) (lsn : ℕ) (space : SpaceId) (tuple : List ℕ) (tuples : List (List ℕ))
+    → takes old.ids asked ≡ true → asked ≡ request.Replace space tuple → Holds old.state before → space.0 ≡ test_space → length tuple ≤ longest_tuple
+    → begins_with_number tuple ≡ true → IsNext old.clock writable_node lsn → tuples ≡ tuple ∷ []
     → Stores old put before (transaction_of lsn tuple ∷ []) → clock ≡ slice_set old.clock writable_node lsn
-    → Answers old (record put { clock = clock }) before (Replace space tuple) (Tuples tuples)
-answers_replaced old put before clock lsn space tuple tuples me same next holds shown stores reached =
+    → Answers old (record put { clock = clock }) before asked (Tuples tuples)
+answers_replaced old put before asked clock lsn space tuple tuples taken same holds there short numbered next shown stores reached =
+    let me = writes_here old before asked space tuple taken same holds there short numbered in
     let number : lsn_after old ≡ lsn = ap (λ id. suc (slice_index old.clock id)) me ∙ sym next.follows in
-    let is : answer_by old before (Replace space tuple) ≡ replaced test_space tuple =
-    ap (λ s. answer_by old before (Replace s tuple)) same
-    ∙ replace_answer old.state before old.ids (lsn_after old) tuple holds (eq-eqb old.ids.me writable_node me)
+    let is : answer_by old before asked ≡ replaced test_space tuple =
+    replaced_by old before asked space tuple taken same holds there short numbered false
     (ap (nat_lt most_lsn) number ∙ le-ltb most_lsn lsn next.allowed) in
-    let commits : transaction_of lsn tuple ∷ [] ≡ commits_by old before (Replace space tuple) (Tuples tuples) =
+    let commits : transaction_of lsn tuple ∷ [] ≡ commits_by old before asked (Tuples tuples) =
     sym (ap (λ a. committed old.ids.me (lsn_after old) false a.row) is
     ∙ ap (λ id. committed id (lsn_after old) false (Some (Replaced test_space tuple))) me
     ∙ ap (λ first. committed writable_node first false (Some (Replaced test_space tuple))) number) in
@@ -156,9 +209,9 @@ answers_replaced old put before clock lsn space tuple tuples me same next holds 
 
 -- an engine that answered a request stands for one step more
 pub stands_answered : (old new : Engine) (base : Base) (history : History) (name : TxnName) (request : Request) (reply : Reply)
-    → EngineStandsFor old base history → IsRequest request → Answers old new (state_of base history) request reply
+    → EngineStandsFor old base history → IsAskable request → Answers old new (state_of base history) request reply
     → new.ids ≡ old.ids → new.count ≡ old.count + 1 → new.durable ≡ old.durable
-    → EngineStandsFor new base (Asked name (Asks request) reply ∷ history)
+    → EngineStandsFor new base (Asked name (ask.Request request) reply ∷ history)
 stands_answered old new base history name request reply stands can answers ids count durable =
     let before = state_of base history in
     let memory = is_want_of_memory reply in
@@ -166,57 +219,67 @@ stands_answered old new base history name request reply stands can answers ids c
     let answer : answer_by old before request ≡ answer_in base ledger request =
     ap (λ ids. node_answer ids before (suc (slice_index old.clock ids.me)) request) stands.ids
     ∙ ap (λ clock. node_answer base.ids before (suc (slice_index clock base.ids.me)) request) stands.clock in
-    let commits : commits_by old before request reply ≡ commits_of base ledger (Asks request) reply =
+    let commits : commits_by old before request reply ≡ commits_of base ledger (ask.Request request) reply =
     ap (λ a. committed old.ids.me (lsn_after old) memory a.row) answer
     ∙ ap (λ ids. committed ids.me (suc (slice_index old.clock ids.me)) memory (answer_in base ledger request).row) stands.ids
     ∙ ap (λ clock. committed base.ids.me (suc (slice_index clock base.ids.me)) memory (answer_in base ledger request).row) stands.clock in
     record {
       legal = (stands.legal, (can, subst (IsTold reply) answer answers.told));
-      holds = subst (Holds new.state) (ap (state_after before) commits ∙ sym (state_of-asked base name (Asks request) reply history)) answers.stores.holds;
+      holds = subst (Holds new.state) (ap (state_after before) commits ∙ sym (state_of-asked base name (ask.Request request) reply history)) answers.stores.holds;
       clock = answers.clock ∙ ap (λ c. clock_after c (commits_by old before request reply)) stands.clock ∙ ap (clock_after (clock_of base history)) commits
-          ∙ sym (clock_of-asked base name (Asks request) reply history);
+          ∙ sym (clock_of-asked base name (ask.Request request) reply history);
       ids = ids ∙ stands.ids;
       count = omega (arith, count, stands.count);
       durable = durable ∙ stands.durable;
       pending = answers.stores.pending ∙ ap (λ front. front ++ commits_by old before request reply) stands.pending
-          ∙ ap (λ more. untaken ledger ++ more) commits ∙ sym (untaken-asked base name (Asks request) reply history);
+          ∙ ap (λ more. untaken ledger ++ more) commits ∙ sym (untaken-asked base name (ask.Request request) reply history);
     }
 
 -- an engine that counted a request that was refused before stands for one step more
 pub stands_refused : (engine : Engine) (base : Base) (history : History) (name : TxnName) (refusal : Refusal) → EngineStandsFor engine base history
-    → EngineStandsFor (record engine { count = engine.count + 1 }) base (Asked name (RefusedAsk refusal) (Refused refusal) ∷ history)
+    → EngineStandsFor (record engine { count = engine.count + 1 }) base (Asked name (ask.Refused refusal) (Refused refusal) ∷ history)
 stands_refused engine base history name refusal stands = record {
   legal = (stands.legal, refl);
-  holds = subst (Holds engine.state) (sym (state_of-asked base name (RefusedAsk refusal) (Refused refusal) history)) stands.holds;
-  clock = stands.clock ∙ sym (clock_of-asked base name (RefusedAsk refusal) (Refused refusal) history);
+  holds = subst (Holds engine.state) (sym (state_of-asked base name (ask.Refused refusal) (Refused refusal) history)) stands.holds;
+  clock = stands.clock ∙ sym (clock_of-asked base name (ask.Refused refusal) (Refused refusal) history);
   ids = stands.ids;
   count = omega (arith, stands.count);
   durable = stands.durable;
-  pending = stands.pending ∙ sym (append-nil _) ∙ sym (untaken-asked base name (RefusedAsk refusal) (Refused refusal) history);
+  pending = stands.pending ∙ sym (append-nil _) ∙ sym (untaken-asked base name (ask.Refused refusal) (Refused refusal) history);
 }
 
 -- the engine as it counts one step more
 abbrev pub counted : Engine → Engine
 counted engine = record engine { count = engine.count + 1 }
 
-pub stands_selected : (engine : Engine) (base : Base) (history : History) (name : TxnName) (request : Request) (reply : Reply) (space limit : ℕ) (key : List ℕ)
-    → EngineStandsFor engine base history → IsRequest request → request ≡ Select space limit key
-    → IsTold reply (answer_to (state_of base history) (Select space limit key)) → EngineStandsFor (counted engine) base (Asked name (Asks request) reply ∷ history)
-stands_selected engine base history name request reply space limit key stands can is told =
-    let before = state_of base history in
-    let same : answer_by engine before request ≡ answer_to before (Select space limit key) =
-    ap (answer_by engine before) is ∙ select_answer engine.ids before (lsn_after engine) space limit key in
-    let none = ap (λ a. a.row) same ∙ select_no_row space (map.get before space) limit key in
-    let answers = answers_no_row engine (counted engine) before request reply (subst (IsTold reply) (sym same) told) none
-    record { holds = stands.holds; pending = sym (append-nil engine.pending) } refl in
-    stands_answered engine (counted engine) base history name request reply stands can answers refl refl refl
+-- an engine that counted a connection that left stands for one step more
+pub stands_left : (engine : Engine) (base : Base) (history : History) (connection : ℕ) → EngineStandsFor engine base history
+    → EngineStandsFor (counted engine) base (Left connection ∷ history)
+stands_left engine base history connection stands = record {
+  legal = (stands.legal, tt);
+  holds = stands.holds;
+  clock = stands.clock;
+  ids = stands.ids;
+  count = omega (arith, stands.count);
+  durable = stands.durable;
+  pending = stands.pending;
+}
 
-pub stands_replaced : (engine new : Engine) (base : Base) (history : History) (name : TxnName) (request : Request) (reply : Reply) (space : ℕ) (tuple : List ℕ)
-    → EngineStandsFor engine base history → IsRequest request → request ≡ Replace space tuple
-    → Answers (counted engine) new (state_of base history) (Replace space tuple) reply → Keeps (counted engine) new
-    → EngineStandsFor new base (Asked name (Asks request) reply ∷ history)
-stands_replaced engine new base history name request reply space tuple stands can is answers keeps =
-    let same : Answers engine new (state_of base history) (Replace space tuple) reply =
-    record { told = answers.told; stores = record { holds = answers.stores.holds; pending = answers.stores.pending }; clock = answers.clock } in
-    stands_answered engine new base history name request reply stands can
-    (subst (λ r. Answers engine new (state_of base history) r reply) (sym is) same) keeps.ids keeps.count keeps.durable
+-- an engine that counted a request and then answered it stands for one step more
+pub stands_counted : (engine new : Engine) (base : Base) (history : History) (name : TxnName) (asked : Request) (reply : Reply)
+    → EngineStandsFor engine base history → IsAskable asked → Answers (counted engine) new (state_of base history) asked reply
+    → Keeps (counted engine) new → EngineStandsFor new base (Asked name (ask.Request asked) reply ∷ history)
+stands_counted engine new base history name asked reply stands can answers keeps =
+    stands_answered engine new base history name asked reply stands can
+    record { told = answers.told; stores = record { holds = answers.stores.holds; pending = answers.stores.pending }; clock = answers.clock }
+    keeps.ids keeps.count keeps.durable
+
+-- an engine that counted a request that it doesn't take stands for one step more
+pub stands_read_only : (engine : Engine) (base : Base) (history : History) (name : TxnName) (asked : Request)
+    → EngineStandsFor engine base history → IsAskable asked → takes engine.ids asked ≡ false
+    → EngineStandsFor (counted engine) base (Asked name (ask.Request asked) (Refused (ReadOnly (record { 0 = writable_node }))) ∷ history)
+stands_read_only engine base history name asked stands can other =
+    let before = state_of base history in
+    stands_counted engine (counted engine) base history name asked (Refused (ReadOnly (record { 0 = writable_node }))) stands can
+    (answers_refused (counted engine) before asked (ReadOnly (record { 0 = writable_node })) (answer_read_only (counted engine) before asked other) stands.holds)
+    record { ids = refl; count = refl; durable = refl }

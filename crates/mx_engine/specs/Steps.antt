@@ -1,21 +1,26 @@
 -- What a step leaves an engine with.
-use Rattle.std.specs.Prelude.{◌≡◌, ◌⊎◌, ℕ, suc, List, [], ◌∷◌, ◌++◌, slice_index}
-use Rattle.mx_model.specs.declared.refusal.Refusal.TheVariants.{OutOfMemory}
+use Rattle.std.specs.Prelude.{◌≡◌, ◌⊎◌, ℕ, suc, Bool, not, ◌||◌, ◌==◌, List, [], ◌∷◌, ◌++◌, slice_index}
+use Rattle.mx_base.specs.declared.refusal.Refusal.TheVariants.{OutOfMemory}
+use Rattle.mx_request.specs.declared.request.Request.{Request}
+use Rattle.mx_model.specs.declared.ids.Ids.{Ids}
 use Rattle.mx_model.specs.declared.reply.Reply.{Reply}
 use Rattle.mx_model.specs.declared.reply.Reply.TheVariants.{Refused}
 use Rattle.mx_model.specs.declared.row.Row.TheVariants.{Replaced}
 use Rattle.mx_model.specs.declared.tx.Tx.{Tx}
 use Rattle.mx_model.specs.State.{State, test_space}
 use Rattle.mx_model.specs.Stored.{Holds}
-use Rattle.mx_model.specs.Requests.{Request}
 use Rattle.mx_model.specs.Answers.{Answer}
 use Rattle.mx_model.specs.Transactions.{state_after, clock_after}
-use Rattle.mx_model.specs.Histories.{node_answer, committed, writable_node, is_want_of_memory}
+use Rattle.mx_model.specs.Histories.{node_answer, committed, writable_node, is_want_of_memory, is_write}
 use Rattle.mx_engine.specs.declared.engine.Engine.{Engine}
 
 -- the reply is this answer's, or memory was missing
 abbrev pub IsTold : Reply → Answer → Type 0
 IsTold reply answer = (reply ≡ answer.reply) ⊎ (reply ≡ Refused OutOfMemory)
+
+-- every node takes what reads, and one takes what writes
+abbrev pub takes : Ids → Request → Bool
+takes ids request = (ids.me == writable_node) || not (is_write request)
 
 -- who the node is, how many steps there were and which of them are on the disk is as it was
 pub record Keeps (old new : Engine) : Type 0 where

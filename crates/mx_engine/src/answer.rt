@@ -7,4 +7,8 @@ use mx_msgpack::Tuples;
 pub enum Answer {
     /// The tuples that were found, or the one that was put in its place.
     Tuples(Tuples),
+    /// It was done, and there is nothing to tell.
+    Empty,
+    /// The protocol's version and features.
+    Id,
 }

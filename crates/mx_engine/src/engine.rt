@@ -1,19 +1,19 @@
 //! The engine.
 
-ghost use Rattle.std.specs.Prelude.{◌≡◌, ◌<◌, ◌-◌, ◌^◌, ◌∷◌, [], ℕ, suc, pos, length, take, slice_index, slice_set, IfOk, MatchOption, MatchResult};
+ghost use Rattle.std.specs.Prelude.{◌≡◌, true, ◌<◌, ◌-◌, ◌^◌, ◌∷◌, [], ℕ, suc, pos, length, take, slice_index, slice_set, IfOk, MatchOption, MatchResult};
 ghost use Rattle.mx_vclock.specs.Vclocks.{most_lsn, IsNext};
 ghost use Rattle.std.specs.List.{Contains};
 ghost use Rattle.std.specs.Option.{option_to_list, option_copied};
 ghost use Rattle.mx_model.specs.Keys.{Integer, key_in};
 ghost use Rattle.mx_model.specs.State as plain;
 ghost use Rattle.mx_model.specs.Stored.{Holds, stored};
-ghost use Rattle.mx_model.specs.declared.refusal.Refusal.{Refusal};
+ghost use Rattle.mx_base.specs.declared.refusal.Refusal.{Refusal};
+ghost use Rattle.mx_request.specs.declared.request.Ask.TheVariants as ask;
+ghost use Rattle.mx_request.specs.declared.request.Request.TheVariants.{Replace};
+ghost use Rattle.mx_request.specs.Spelling.{IsAskable};
 ghost use Rattle.mx_model.specs.declared.reply.Reply.TheVariants.{Refused};
-ghost use Rattle.mx_model.specs.Requests.{Asks, RefusedAsk, Select, Replace};
-ghost use Rattle.mx_model.specs.Answers.{answer_to};
-ghost use Rattle.mx_model.specs.Rows.{IsRequest};
-ghost use Rattle.mx_model.specs.Views.{request_view};
-ghost use Rattle.mx_model.specs.Histories.{Base, History, Asked, Took, Confirmed, ledger_of, clock_of};
+ghost use Rattle.mx_model.specs.Answers.{looked_up};
+ghost use Rattle.mx_model.specs.Histories.{Base, History, Asked, Left, Took, Confirmed, ledger_of, clock_of, is_write};
 ghost use Rattle.mx_engine.specs.Standing.{EngineStandsFor};
 ghost use Rattle.mx_engine.specs.Steps as steps;
 ghost use Rattle.mx_engine.specs.Steps.{IsTold, Keeps, Stores, Answers};
@@ -21,8 +21,13 @@ ghost use Rattle.mx_engine.specs.Views.{reply_view};
 
 use crate::answer::Answer;
 use crate::pending::Pending;
-use mx_model::{Ids, Refusal, Request, Row, Rows, State, TEST_SPACE, Tx, TxnName, Txs, key_of};
+use mx_base::{ConnId, Refusal, ReplicaId, SpaceId, TxnName};
+use mx_model::{
+    Ids, LONGEST_TUPLE, Row, Rows, State, TEST_SPACE, Tx, Txs, begins_with_number,
+    is_by_primary_key, key_of, not_built,
+};
 use mx_msgpack::{Bytes, Tuples};
+use mx_request::Request;
 use mx_vclock::Vclock;
 use std::alloc::{AllocError, Global};
 
@@ -73,25 +78,36 @@ impl Engine {
     ///
     /// # Errors
     /// The request is refused, and the state is as it was.
-    pub fn request(&mut self, _name: TxnName, request: &Request<'_>) -> Result<Answer, Refusal>
+    pub fn request(&mut self, _name: TxnName, request: &Request) -> Result<Answer, Refusal>
         requires { self.old.count < 2 ^ 63 - 1 }
-        ensures { (base : Base) (history : History) → EngineStandsFor self.old base history → IsRequest (request_view request.now)
-            → EngineStandsFor self.new base (Asked _name (Asks (request_view request.now)) (reply_view result) ∷ history) }
+        ensures { (base : Base) (history : History) → EngineStandsFor self.old base history → IsAskable request.now
+            → EngineStandsFor self.new base (Asked _name (ask.Request request.now) (reply_view result) ∷ history) }
     {
         self.count += 1;
-        match *request {
-            Request::Select { space, limit, key } => self.select(space, limit, key),
-            Request::Replace { space, tuple } => self.replace(space, tuple),
+        if !self.takes(request) {
+            let writable = ReplicaId(WRITABLE_NODE);
+            return Err(Refusal::ReadOnly { writable });
         }
+        self.answer(request)
     }
 
     /// Counts a step that changes nothing: a request that was refused before it came here.
     pub fn look(&mut self)
         requires { self.old.count < 2 ^ 63 - 1 }
         ensures { (base : Base) (history : History) (name : TxnName) (refusal : Refusal) → EngineStandsFor self.old base history
-            → EngineStandsFor self.new base (Asked name (RefusedAsk refusal) (Refused refusal) ∷ history) }
+            → EngineStandsFor self.new base (Asked name (ask.Refused refusal) (Refused refusal) ∷ history) }
     {
         // The refusal itself was told elsewhere.
+        self.count += 1;
+    }
+
+    /// Counts the step of a connection that leaves.
+    pub fn leave(&mut self, _conn: ConnId)
+        requires { self.old.count < 2 ^ 63 - 1 }
+        ensures { (base : Base) (history : History) → EngineStandsFor self.old base history
+            → EngineStandsFor self.new base (Left _conn.0 ∷ history) }
+    {
+        // No transaction outlives its request so far, so there is none to drop.
         self.count += 1;
     }
 
@@ -149,12 +165,57 @@ impl Engine {
         &self.ids
     }
 
-    /// The tuple of the key, where the limit allows one.
-    fn select(&self, space: u32, limit: u32, key: &[u8]) -> Result<Answer, Refusal>
-        ensures { (state : plain.State) → Holds self.now.state state → IsTold (reply_view result) (answer_to state (Select space limit key.now)) }
+    /// Whether the node takes the request: each node takes what reads, and one takes what writes.
+    fn takes(&self, request: &Request) -> bool
+        ensures { result ≡ steps.takes self.now.ids request.now }
     {
-        if space != TEST_SPACE {
-            return Err(Refusal::SpaceMissing(space));
+        self.ids.me == WRITABLE_NODE || !is_write(request)
+    }
+
+    /// Answers a request that the node takes.
+    fn answer(&mut self, request: &Request) -> Result<Answer, Refusal>
+        requires { steps.takes self.old.ids request.now ≡ true }
+        ensures answers { (state : plain.State) → Holds self.old.state state → Answers self.old self.new state request.now (reply_view result) }
+        ensures keeps { Keeps self.old self.new }
+    {
+        match request {
+            Request::Select {
+                space,
+                index,
+                limit,
+                offset,
+                iterator,
+                key,
+            } => {
+                let key = key.as_slice();
+                let by_key = is_by_primary_key(*index, *offset, *iterator, key);
+                if space.0 == TEST_SPACE && !by_key {
+                    return Err(not_built(request));
+                }
+                self.select(*space, *limit, key)
+            }
+            Request::Replace { space, tuple } => self.replace(request, *space, tuple.as_slice()),
+            Request::Nop | Request::Ping => Ok(Answer::Empty),
+            Request::Id => Ok(Answer::Id),
+            Request::Insert { .. }
+            | Request::Update { .. }
+            | Request::Delete { .. }
+            | Request::Upsert { .. }
+            | Request::Begin
+            | Request::Commit
+            | Request::Rollback
+            | Request::Join { .. }
+            | Request::Subscribe { .. }
+            | Request::Ack { .. } => Err(not_built(request)),
+        }
+    }
+
+    /// The tuple of the key, where the limit allows one.
+    fn select(&self, space: SpaceId, limit: u32, key: &[u8]) -> Result<Answer, Refusal>
+        ensures { (state : plain.State) → Holds self.now.state state → IsTold (reply_view result) (looked_up state space.0 limit key.now) }
+    {
+        if space.0 != TEST_SPACE {
+            return Err(Refusal::SpaceMissing { space });
         }
         match shown(self.alloc, find_within(&self.state, limit, key)) {
             Ok(tuples) => Ok(Answer::Tuples(tuples)),
@@ -163,15 +224,26 @@ impl Engine {
     }
 
     /// Puts the tuple in its place, as a commit, and shows it.
-    fn replace(&mut self, space: u32, tuple: &[u8]) -> Result<Answer, Refusal>
-        ensures answers { (state : plain.State) → Holds self.old.state state → Answers self.old self.new state (Replace space tuple.now) (reply_view result) }
+    fn replace(
+        &mut self,
+        request: &Request,
+        space: SpaceId,
+        tuple: &[u8],
+    ) -> Result<Answer, Refusal>
+        requires taken { steps.takes self.old.ids request.now ≡ true }
+        requires same { request.now ≡ Replace space tuple.now }
+        ensures answers { (state : plain.State) → Holds self.old.state state → Answers self.old self.new state request.now (reply_view result) }
         ensures keeps { Keeps self.old self.new }
     {
-        if self.ids.me != WRITABLE_NODE {
-            return Err(Refusal::ReadOnly(WRITABLE_NODE));
+        if space.0 != TEST_SPACE {
+            return Err(Refusal::SpaceMissing { space });
         }
-        if space != TEST_SPACE {
-            return Err(Refusal::SpaceMissing(space));
+        if tuple.len() > LONGEST_TUPLE {
+            let bytes = tuple.len() as u64;
+            return Err(Refusal::TupleTooLong { bytes });
+        }
+        if !begins_with_number(tuple) {
+            return Err(not_built(request));
         }
         let mut clock = self.clock;
         let Some(lsn) = go_on(&mut clock) else {
@@ -207,6 +279,29 @@ impl Engine {
             return Err(fault);
         }
         Ok(tuples)
+    }
+}
+
+/// Whether the request writes.
+fn is_write(request: &Request) -> bool
+    ensures { result ≡ is_write request.now }
+{
+    match request {
+        Request::Insert { .. }
+        | Request::Replace { .. }
+        | Request::Update { .. }
+        | Request::Delete { .. }
+        | Request::Upsert { .. } => true,
+        Request::Select { .. }
+        | Request::Nop
+        | Request::Ping
+        | Request::Begin
+        | Request::Commit
+        | Request::Rollback
+        | Request::Id
+        | Request::Join { .. }
+        | Request::Subscribe { .. }
+        | Request::Ack { .. } => false,
     }
 }
 

@@ -1,12 +1,17 @@
 use super::*;
-use mx_model::{Ids, Refusal, Request, Row, Tx, TxnName, bootstrap};
+use mx_base::{ConnId, IndexId, Refusal, SpaceId, StreamId, TxnName, code_of};
+use mx_model::{Ids, Row, TEST_SPACE, Tx, bootstrap};
 use mx_msgpack::Bytes;
+use mx_request::Request;
 use mx_vclock::Vclock;
 use std::alloc::{AllocError, Global};
 use std::process::Abort;
 use std::test::*;
 
-const NAME: TxnName = TxnName { conn: 1, stream: 0 };
+const NAME: TxnName = TxnName {
+    conn: ConnId(1),
+    stream: StreamId(0),
+};
 
 /// A new database that has come to a vclock, on the node of a replica id.
 fn engine_at(alloc: Global, clock: &str, me: u8) -> Result<Engine, Fail> {
@@ -19,25 +24,80 @@ fn engine_at(alloc: Global, clock: &str, me: u8) -> Result<Engine, Fail> {
     Ok(Engine::from_state(alloc, bootstrap(alloc)?, clock, ids)?)
 }
 
-/// What the engine tells, apart from want of memory.
-fn ask(
-    rt: &impl Abort,
-    engine: &mut Engine,
-    request: &Request<'_>,
-) -> Result<Result<Answer, Refusal>, AllocError> {
-    assert!(rt; engine.count() < 100, "too many steps");
-    match engine.request(NAME, request) {
-        Err(Refusal::OutOfMemory) => Err(AllocError),
-        told => Ok(told),
+/// What an engine tells: the first of its tuples, where it has any, or the number of its refusal.
+#[derive(Clone, Copy, Debug, Drop, PartialEq)]
+enum Told<'a> {
+    Empty,
+    Nothing,
+    Tuple(&'a [u8]),
+    Id,
+    Refused(u16),
+}
+
+fn outcome(answer: &Result<Answer, Refusal>) -> Told<'_> {
+    match answer {
+        Ok(Answer::Empty) => Told::Empty,
+        Ok(Answer::Tuples(tuples)) => match tuples.as_slice().first() {
+            Some(tuple) => Told::Tuple(tuple.as_slice()),
+            None => Told::Nothing,
+        },
+        Ok(Answer::Id) => Told::Id,
+        Err(refusal) => Told::Refused(code_of(refusal)),
     }
 }
 
-/// The tuple of an answer that has one at most, or the refusal.
-fn tuple_of(told: &Result<Answer, Refusal>) -> Result<Option<&[u8]>, Refusal> {
-    match told {
-        Ok(Answer::Tuples(tuples)) => Ok(tuples.as_slice().first().map(Bytes::as_slice)),
-        Err(refusal) => Err(*refusal),
+/// A request in short.
+#[derive(Clone, Copy, Debug, Drop)]
+enum Asked<'a> {
+    /// The space and the limit.
+    Select(u32, u32),
+    /// The space and the tuple.
+    Replace(u32, &'a [u8]),
+    Insert(&'a [u8]),
+    Ping,
+    Begin,
+    Id,
+}
+
+fn request_of(alloc: Global, asked: Asked<'_>) -> Result<Request, AllocError> {
+    Ok(match asked {
+        Asked::Select(space, limit) => Request::Select {
+            space: SpaceId(space),
+            index: IndexId(0),
+            limit,
+            offset: 0,
+            iterator: 0,
+            key: Bytes::from_slice(alloc, &[0x91, 0x01])?,
+        },
+        Asked::Replace(space, tuple) => Request::Replace {
+            space: SpaceId(space),
+            tuple: Bytes::from_slice(alloc, tuple)?,
+        },
+        Asked::Insert(tuple) => Request::Insert {
+            space: SpaceId(TEST_SPACE),
+            tuple: Bytes::from_slice(alloc, tuple)?,
+        },
+        Asked::Ping => Request::Ping,
+        Asked::Begin => Request::Begin,
+        Asked::Id => Request::Id,
+    })
+}
+
+/// Asks, and compares what the engine tells.
+fn expect(
+    rt: &impl Abort,
+    alloc: Global,
+    engine: &mut Engine,
+    asked: Asked<'_>,
+    told: Told<'_>,
+) -> Result<(), Fail> {
+    assert!(rt; engine.count() < 100, "too many steps");
+    let answer = engine.request(NAME, &request_of(alloc, asked)?);
+    if let Err(Refusal::OutOfMemory) = answer {
+        Err(AllocError)?;
     }
+    assert_eq!(rt; outcome(&answer), told, "at {asked:?}");
+    Ok(())
 }
 
 /// The space and the tuple of a transaction of one row.
@@ -48,30 +108,17 @@ fn row_of(tx: &Tx) -> Option<(u32, &[u8])> {
     }
 }
 
-fn select(space: u32, limit: u32) -> Request<'static> {
-    Request::Select {
-        space,
-        limit,
-        key: &[0x91, 0x01],
-    }
-}
-
-fn replace(space: u32, tuple: &[u8]) -> Request<'_> {
-    Request::Replace { space, tuple }
-}
-
 /// Asks in order, from a new database that has come to the vclock, and compares.
-fn play<'a>(
+fn play(
     rt: &impl Abort,
     alloc: Global,
     clock: &str,
     me: u8,
-    steps: [(Request<'a>, Result<Option<&'a [u8]>, Refusal>); 4],
+    steps: &[(Asked<'_>, Told<'_>)],
 ) -> Result<(), Fail> {
     let mut engine = engine_at(alloc, clock, me)?;
-    for (request, expected) in steps {
-        let told = ask(rt, &mut engine, &request)?;
-        assert_eq!(rt; tuple_of(&told), expected, "at {clock}: {request:?}");
+    for (asked, told) in steps {
+        expect(rt, alloc, &mut engine, *asked, *told)?;
     }
     Ok(())
 }
@@ -80,49 +127,70 @@ fn play<'a>(
 fn answers(rt: HostRuntime) -> Result<(), Fail> {
     let one: &[u8] = &[0x92, 0x01, 0xa1, 0x61];
     let other: &[u8] = &[0x92, 0xcc, 0x01, 0xa1, 0x62];
-    let replaced = [
-        (replace(512, one), Ok(Some(one))),
-        (select(512, 10), Ok(Some(one))),
-        (replace(512, other), Ok(Some(other))),
-        (select(512, 1), Ok(Some(other))),
+    let steps = [
+        (Asked::Select(512, 10), Told::Nothing),
+        (Asked::Replace(512, one), Told::Tuple(one)),
+        (Asked::Select(512, 10), Told::Tuple(one)),
+        (Asked::Replace(512, other), Told::Tuple(other)),
+        (Asked::Select(512, 1), Told::Tuple(other)),
+        (Asked::Select(512, 0), Told::Nothing),
+        (Asked::Ping, Told::Empty),
+        (Asked::Id, Told::Id),
     ];
-    play(&rt, rt.alloc(), "{}", 1, replaced)?;
-    let missing = [
-        (select(512, 10), Ok(None)),
-        (select(513, 10), Err(Refusal::SpaceMissing(513))),
-        (replace(513, one), Err(Refusal::SpaceMissing(513))),
-        (select(512, 0), Ok(None)),
+    play(&rt, rt.alloc(), "{}", 1, &steps)
+}
+
+#[test]
+fn refuses(rt: HostRuntime) -> Result<(), Fail> {
+    let tuple: &[u8] = &[0x92, 0x01, 0xa1, 0x61];
+    let steps = [
+        (Asked::Select(513, 10), Told::Refused(36)),
+        (Asked::Replace(513, &[0x90]), Told::Refused(36)),
+        (Asked::Replace(512, &[0x90]), Told::Refused(48)),
+        (Asked::Insert(tuple), Told::Refused(48)),
+        (Asked::Begin, Told::Refused(48)),
+        (Asked::Select(512, 10), Told::Nothing),
     ];
-    play(&rt, rt.alloc(), "{}", 1, missing)?;
+    play(&rt, rt.alloc(), "{}", 1, &steps)?;
     let read_only = [
-        (replace(512, one), Err(Refusal::ReadOnly(1))),
-        (replace(513, one), Err(Refusal::ReadOnly(1))),
-        (select(512, 10), Ok(None)),
-        (select(513, 10), Err(Refusal::SpaceMissing(513))),
+        (Asked::Replace(512, tuple), Told::Refused(7)),
+        (Asked::Replace(513, &[0x90]), Told::Refused(7)),
+        (Asked::Insert(tuple), Told::Refused(7)),
+        (Asked::Begin, Told::Refused(48)),
+        (Asked::Select(512, 10), Told::Nothing),
+        (Asked::Ping, Told::Empty),
     ];
-    play(&rt, rt.alloc(), "{}", 2, read_only)?;
+    play(&rt, rt.alloc(), "{}", 2, &read_only)
+}
+
+#[test]
+fn lsns_are_used_up(rt: HostRuntime) -> Result<(), Fail> {
+    let one: &[u8] = &[0x92, 0x01, 0xa1, 0x61];
+    let other: &[u8] = &[0x92, 0xcc, 0x01, 0xa1, 0x62];
     let used_up = [
-        (replace(512, one), Err(Refusal::LsnsUsedUp)),
-        (replace(513, one), Err(Refusal::SpaceMissing(513))),
-        (select(512, 10), Ok(None)),
-        (replace(512, one), Err(Refusal::LsnsUsedUp)),
+        (Asked::Replace(512, one), Told::Refused(208)),
+        (Asked::Replace(513, one), Told::Refused(36)),
+        (Asked::Select(512, 10), Told::Nothing),
+        (Asked::Replace(512, &[0x90]), Told::Refused(48)),
     ];
-    play(&rt, rt.alloc(), "{1: 288230376151711744}", 1, used_up)?;
+    play(&rt, rt.alloc(), "{1: 288230376151711744}", 1, &used_up)?;
     let last = [
-        (replace(512, one), Ok(Some(one))),
-        (replace(512, other), Err(Refusal::LsnsUsedUp)),
-        (select(512, 0), Ok(None)),
-        (select(512, 10), Ok(Some(one))),
+        (Asked::Replace(512, one), Told::Tuple(one)),
+        (Asked::Replace(512, other), Told::Refused(208)),
+        (Asked::Select(512, 0), Told::Nothing),
+        (Asked::Select(512, 10), Told::Tuple(one)),
     ];
-    play(&rt, rt.alloc(), "{1: 288230376151711743}", 1, last)
+    play(&rt, rt.alloc(), "{1: 288230376151711743}", 1, &last)
 }
 
 #[test]
 fn commits_are_handed_out_once(rt: HostRuntime) -> Result<(), Fail> {
     let tuple: &[u8] = &[0x92, 0x01, 0xa1, 0x61];
     let mut engine = engine_at(rt.alloc(), "{2: 7}", 1)?;
-    ask(&rt, &mut engine, &replace(512, tuple))?.expect(&rt, "refused");
-    ask(&rt, &mut engine, &select(512, 10))?.expect(&rt, "refused");
+    let alloc = rt.alloc();
+    for asked in [Asked::Replace(512, tuple), Asked::Select(512, 10)] {
+        expect(&rt, alloc, &mut engine, asked, Told::Tuple(tuple))?;
+    }
     let table = [(2, Some((1, 1, Some((512, tuple))))), (3, None)];
     for (upto, expected) in table {
         assert!(rt; engine.count() == upto);
@@ -140,7 +208,9 @@ fn commits_are_handed_out_once(rt: HostRuntime) -> Result<(), Fail> {
     engine.confirm(0);
     assert!(rt; engine.count() == 6);
     engine.look();
-    assert_eq!(rt; engine.count(), 7);
+    assert!(rt; engine.count() == 7);
+    engine.leave(NAME.conn);
+    assert_eq!(rt; engine.count(), 8);
     assert_eq!(rt; engine.durable(), 2);
     assert_eq!(rt; engine.ids().me, 1);
     assert_eq!(rt;

@@ -1,23 +1,29 @@
 -- What a legal history commits can be written and read again.
-use Rattle.std.proofs.Common.{◌≡◌, ℕ, suc, ◌+◌, ◌-◌, ◌≤◌, Bool, true, false, not, List, [], ◌∷◌, ◌++◌, refl, sym, ap, ◌∙◌, subst, arith}
+use Rattle.std.proofs.Common.{◌≡◌, ℕ, suc, ◌+◌, ◌-◌, ◌^◌, ◌<◌, ◌≤◌, Bool, true, false, not, List, [], ◌∷◌, ◌++◌, length, length-append, refl, sym, ap, ◌∙◌, subst, arith}
 use Rattle.std.specs.Prelude.{◌==◌, ◌&&◌, Option, Some, None, is_some, nat_lt, nat_le, slice_index, if◌then◌else◌}
 use Rattle.std.specs.FinMap as map
 use Rattle.std.proofs.lemmas.Bool.{eq-eqb}
 use Rattle.std.proofs.lemmas.Bool.Decides.{nat_tests}
 use Rattle.mx_vclock.specs.Vclocks.{most_lsn}
-use Rattle.mx_model.specs.declared.refusal.Refusal.TheVariants.{ReadOnly, LsnsUsedUp}
+use Rattle.mx_base.specs.declared.refusal.Refusal.TheVariants.{ReadOnly, LsnsUsedUp, TupleTooLong}
+use Rattle.mx_msgpack.proofs.SpellingLaws.{shortest_length}
+use Rattle.mx_msgpack.specs.Spelling.{shortest_unsigned}
+use Rattle.mx_request.specs.declared.request.Ask.{Ask}
+use Rattle.mx_request.specs.declared.request.Ask.TheVariants as ask
+use Rattle.mx_request.specs.declared.request.Request.{Request}
+use Rattle.mx_request.specs.declared.request.Request.TheVariants as request
+use Rattle.mx_request.specs.Spelling.{IsAskable, IsInnerArray}
 use Rattle.mx_model.specs.declared.row.Row.TheVariants.{Replaced}
 use Rattle.mx_model.specs.declared.tx.Tx.{Tx}
 use Rattle.mx_model.specs.declared.reply.Reply.{Reply}
 use Rattle.mx_model.specs.State as state
 use Rattle.mx_model.specs.State.{State}
-use Rattle.mx_model.specs.Requests.{Select, Replace, Ask, Asks, RefusedAsk}
-use Rattle.mx_model.specs.Answers.{replaced, in_space, state_after_rows}
+use Rattle.mx_model.specs.Answers.{Answer, answer_to, refused, not_built, replaced, replacing, longest_tuple, begins_with_number, is_by_primary_key, in_space, state_after_rows}
 use Rattle.mx_model.specs.Transactions.{state_after, clock_after, clock_after_one}
-use Rattle.mx_model.specs.Rows.{IsRow}
+use Rattle.mx_model.specs.Rows.{IsRow, space_key, tuple_key}
 use Rattle.mx_model.specs.Files.{AllFollow}
-use Rattle.mx_model.specs.Histories.{Base, History, Asked, Left, Took, Confirmed, Ledger, IsLegal, IsReply, is_want_of_memory, writable_node, refused, numbered, committed, commits_of, ledger_of, journal_of, state_in, clock_in, next_lsn}
-use Rattle.mx_model.proofs.HistoryLaws.{committed-no_row, select_no_row, select_answer}
+use Rattle.mx_model.specs.Histories.{Base, History, Asked, Left, Took, Confirmed, Ledger, IsLegal, IsReply, is_want_of_memory, writable_node, numbered, committed, commits_of, ledger_of, journal_of, state_in, clock_in, next_lsn}
+use Rattle.mx_model.proofs.HistoryLaws.{committed-no_row, select_no_row, node_no_row}
 
 -- transactions that follow, and then others that follow those
 pub all_follow-append : (now : State) (clock : List ℕ) (xs ys : List Tx) → AllFollow now clock xs
@@ -43,45 +49,101 @@ lsn_of clock replica = suc (slice_index clock replica)
 writable : (me : ℕ) → not (me == writable_node) ≡ false → me ≡ writable_node
 writable me test = grind (arith, nat_tests)
 
-module _ (now : State) (clock : List ℕ) (replica space : ℕ) (tuple : List ℕ) (without_memory : Bool) (can : IsRow (Replaced space tuple)) where
+-- a tuple that isn't too long and begins with a number makes a row that can be written
+row_can_be_written : (space : ℕ) (tuple : List ℕ) → space < 2 ^ 32 → IsInnerArray tuple → nat_lt longest_tuple (length tuple) ≡ false
+    → begins_with_number tuple ≡ true → IsRow (Replaced space tuple)
+row_can_be_written space tuple fits inner short begins =
+    let most = below longest_tuple (length tuple) short in
+    let number = shortest_length space in
+    let long = length-append (0x82 ∷ space_key ∷ shortest_unsigned space) (tuple_key ∷ tuple) in
+    (fits, record { values = inner.0; spelled = inner.1; numbered = begins }, omega arith)
+
+module _ (now : State) (clock : List ℕ) (replica space : ℕ) (tuple : List ℕ) (asked : Request) (without_memory : Bool)
+    (fits : space < 2 ^ 32) (inner : IsInnerArray tuple) where
+  -- the transactions that an answer commits
+  abbrev commits : Answer → List Tx
+  commits answer = committed replica (lsn_of clock replica) without_memory answer.row
+
   -- a commit of the row
-  one_follows : (w : Bool) → replica ≡ writable_node → is_some (map.get now space) ≡ true → nat_lt most_lsn (lsn_of clock replica) ≡ false
+  one_follows : (w : Bool) → IsRow (Replaced space tuple) → replica ≡ writable_node → is_some (map.get now space) ≡ true
+      → nat_lt most_lsn (lsn_of clock replica) ≡ false
       → AllFollow now clock (committed replica (lsn_of clock replica) w (Some (Replaced space tuple)))
-  one_follows true node there within = tt
-  one_follows false node there within = (
+  one_follows true can node there within = tt
+  one_follows false can node there within = (
     record { replica = (omega arith, omega arith); first = (omega arith, below most_lsn (lsn_of clock replica) within); row = (Replaced space tuple, refl, can) },
     (ap (λ b. b && nat_le ((lsn_of clock replica + 1) - 1) most_lsn) (eq-eqb (lsn_of clock replica) (lsn_of clock replica) refl) ∙ not_above most_lsn (lsn_of clock replica) within),
     (ap (λ b. b && true) there),
     tt,
   )
 
-  numbered_follows : (above : Bool) → replica ≡ writable_node → is_some (map.get now space) ≡ true → nat_lt most_lsn (lsn_of clock replica) ≡ above
-      → AllFollow now clock (committed replica (lsn_of clock replica) without_memory (if above then refused LsnsUsedUp else replaced space tuple).row)
-  numbered_follows true node there test = no_commit now clock replica (lsn_of clock replica) without_memory
-  numbered_follows false node there test = one_follows without_memory node there test
+  numbered_follows : (above : Bool) → IsRow (Replaced space tuple) → replica ≡ writable_node → is_some (map.get now space) ≡ true
+      → nat_lt most_lsn (lsn_of clock replica) ≡ above
+      → AllFollow now clock (commits (if above then refused LsnsUsedUp else replaced space tuple))
+  numbered_follows true can node there test = no_commit now clock replica (lsn_of clock replica) without_memory
+  numbered_follows false can node there test = one_follows without_memory can node there test
+
+  -- what a REPLACE in a space that is there commits
+  replacing_follows : (long begins : Bool) → nat_lt longest_tuple (length tuple) ≡ long → begins_with_number tuple ≡ begins
+      → replica ≡ writable_node → is_some (map.get now space) ≡ true
+      → AllFollow now clock (commits (numbered (lsn_of clock replica)
+      (if long then refused (TupleTooLong (length tuple)) else if begins then replaced space tuple else not_built asked)
+      (if long then refused (TupleTooLong (length tuple)) else if begins then replaced space tuple else not_built asked).row))
+  replacing_follows true begins long number node there = no_commit now clock replica (lsn_of clock replica) without_memory
+  replacing_follows false false long number node there = no_commit now clock replica (lsn_of clock replica) without_memory
+  replacing_follows false true long number node there =
+      numbered_follows (nat_lt most_lsn (lsn_of clock replica)) (row_can_be_written space tuple fits inner long number) node there refl
 
   -- what a REPLACE commits
   replaced_follows : (read_only : Bool) (found : Option state.Tuples) → not (replica == writable_node) ≡ read_only → map.get now space ≡ found
-      → AllFollow now clock (committed replica (lsn_of clock replica) without_memory
-      (if read_only then refused (ReadOnly writable_node)
-      else numbered (lsn_of clock replica) (in_space space found (λ _. replaced space tuple)) (in_space space found (λ _. replaced space tuple)).row).row)
+      → AllFollow now clock (commits (if read_only then refused (ReadOnly (record { 0 = writable_node }))
+      else numbered (lsn_of clock replica) (in_space space found (λ _. replacing asked space tuple)) (in_space space found (λ _. replacing asked space tuple)).row))
   replaced_follows true found node there = no_commit now clock replica (lsn_of clock replica) without_memory
   replaced_follows false None node there = no_commit now clock replica (lsn_of clock replica) without_memory
   replaced_follows false (Some tuples) node there =
-      numbered_follows (nat_lt most_lsn (lsn_of clock replica)) (writable replica node) (ap is_some there) refl
+      replacing_follows (nat_lt longest_tuple (length tuple)) (begins_with_number tuple) refl refl (writable replica node) (ap is_some there)
+
+-- a request that leaves no row commits nothing
+none_follows : (base : Base) (ledger : Ledger) (asked : Request) (reply : Reply) → (answer_to (state_in base ledger) asked).row ≡ None
+    → AllFollow (state_in base ledger) (clock_in base ledger) (commits_of base ledger (ask.Request asked) reply)
+none_follows base ledger asked reply none =
+    let lsn = next_lsn base ledger in
+    subst (λ row. AllFollow (state_in base ledger) (clock_in base ledger) (committed base.ids.me lsn (is_want_of_memory reply) row))
+    (sym (node_no_row base.ids (state_in base ledger) lsn asked none))
+    (no_commit (state_in base ledger) (clock_in base ledger) base.ids.me lsn (is_want_of_memory reply))
+
+-- what a request commits
+request_follows : (base : Base) (ledger : Ledger) (asked : Request) (reply : Reply) → IsAskable asked
+    → AllFollow (state_in base ledger) (clock_in base ledger) (commits_of base ledger (ask.Request asked) reply)
+request_follows base ledger (request.Select space index limit offset iterator key) reply can =
+    none_follows base ledger (request.Select space index limit offset iterator key) reply
+    (select_no_row (is_by_primary_key index.0 offset iterator key) (request.Select space index limit offset iterator key) space.0
+    (map.get (state_in base ledger) space.0) limit key)
+request_follows base ledger (request.Replace space tuple) reply can =
+    replaced_follows (state_in base ledger) (clock_in base ledger) base.ids.me space.0 tuple (request.Replace space tuple) (is_want_of_memory reply) can.0 can.1
+    (not (base.ids.me == writable_node)) (map.get (state_in base ledger) space.0) refl refl
+request_follows base ledger (request.Insert space tuple) reply can = none_follows base ledger (request.Insert space tuple) reply refl
+request_follows base ledger (request.Update space index first key operations) reply can =
+    none_follows base ledger (request.Update space index first key operations) reply refl
+request_follows base ledger (request.Delete space index key) reply can = none_follows base ledger (request.Delete space index key) reply refl
+request_follows base ledger (request.Upsert space first tuple operations) reply can =
+    none_follows base ledger (request.Upsert space first tuple operations) reply refl
+request_follows base ledger request.Nop reply can = none_follows base ledger request.Nop reply refl
+request_follows base ledger request.Ping reply can = none_follows base ledger request.Ping reply refl
+request_follows base ledger request.Begin reply can = none_follows base ledger request.Begin reply refl
+request_follows base ledger request.Commit reply can = none_follows base ledger request.Commit reply refl
+request_follows base ledger request.Rollback reply can = none_follows base ledger request.Rollback reply refl
+request_follows base ledger request.Id reply can = none_follows base ledger request.Id reply refl
+request_follows base ledger (request.Join instance) reply can = none_follows base ledger (request.Join instance) reply refl
+request_follows base ledger (request.Subscribe instance set clock) reply can =
+    none_follows base ledger (request.Subscribe instance set clock) reply refl
+request_follows base ledger (request.Ack clock) reply can = none_follows base ledger (request.Ack clock) reply refl
 
 -- what an ask commits
-step_follows : (base : Base) (ledger : Ledger) (ask : Ask) (reply : Reply) → IsReply base ledger ask reply
-    → AllFollow (state_in base ledger) (clock_in base ledger) (commits_of base ledger ask reply)
-step_follows base ledger (RefusedAsk refusal) reply told = tt
-step_follows base ledger (Asks (Select space limit key)) reply told =
-    subst (λ row. AllFollow (state_in base ledger) (clock_in base ledger) (committed base.ids.me (next_lsn base ledger) (is_want_of_memory reply) row))
-    (sym (ap (λ answer. answer.row) (select_answer base.ids (state_in base ledger) (next_lsn base ledger) space limit key)
-    ∙ select_no_row space (map.get (state_in base ledger) space) limit key))
-    (no_commit (state_in base ledger) (clock_in base ledger) base.ids.me (next_lsn base ledger) (is_want_of_memory reply))
-step_follows base ledger (Asks (Replace space tuple)) reply told =
-    replaced_follows (state_in base ledger) (clock_in base ledger) base.ids.me space tuple (is_want_of_memory reply) told.0
-    (not (base.ids.me == writable_node)) (map.get (state_in base ledger) space) refl refl
+step_follows : (base : Base) (ledger : Ledger) (asked : Ask) (reply : Reply) → IsReply base ledger asked reply
+    → AllFollow (state_in base ledger) (clock_in base ledger) (commits_of base ledger asked reply)
+step_follows base ledger (ask.Refused refusal) reply told = tt
+step_follows base ledger ask.Leave reply told = tt
+step_follows base ledger (ask.Request asked) reply told = request_follows base ledger asked reply told.0
 
 -- what a legal history commits follows the base
 pub commits_follow : (base : Base) (history : History) → IsLegal base history

@@ -1,10 +1,13 @@
 -- What one step more makes of a history, and that a history whose steps all had memory is that of its asks.
 use Rattle.std.proofs.Common.{◌≡◌, inl, inr, ℕ, ◌≤◌, Bool, true, false, List, [], ◌∷◌, ◌++◌, length, drop, refl, sym, ap, ◌∙◌, append-nil, length-append, arith}
-use Rattle.std.specs.Prelude.{Option, Some, None}
+use Rattle.std.specs.Prelude.{Option, Some, None, not, ◌&&◌, ◌==◌, if◌then◌else◌}
 use Rattle.std.specs.FinMap as map
 use Rattle.std.proofs.lemmas.List.{drop-append-le}
-use Rattle.mx_model.specs.declared.refusal.Refusal.TheVariants.{OutOfMemory}
-use Rattle.mx_model.specs.declared.txn_name.TxnName.{TxnName}
+use Rattle.mx_base.specs.declared.refusal.Refusal.TheVariants.{OutOfMemory, ReadOnly}
+use Rattle.mx_base.specs.declared.ids.TxnName.{TxnName}
+use Rattle.mx_request.specs.declared.request.Ask.{Ask}
+use Rattle.mx_request.specs.declared.request.Ask.TheVariants as ask
+use Rattle.mx_request.specs.declared.request.Request.{Request}
 use Rattle.mx_model.specs.declared.reply.Reply.{Reply}
 use Rattle.mx_model.specs.declared.reply.Reply.TheVariants.{Refused}
 use Rattle.mx_model.specs.declared.tx.Tx.{Tx}
@@ -12,10 +15,9 @@ use Rattle.mx_model.specs.declared.ids.Ids.{Ids}
 use Rattle.mx_model.specs.Keys.{key_in}
 use Rattle.mx_model.specs.State as state
 use Rattle.mx_model.specs.State.{State}
-use Rattle.mx_model.specs.Requests.{Select, Ask, Asks, RefusedAsk}
-use Rattle.mx_model.specs.Answers.{Row, answer_to, in_space, selected, state_after_row, state_after_rows}
+use Rattle.mx_model.specs.Answers.{Row, answer_to, refused, not_built, in_space, selected, state_after_row, state_after_rows}
 use Rattle.mx_model.specs.Transactions.{state_after, clock_after, clock_after_one}
-use Rattle.mx_model.specs.Histories.{Base, Asked, Left, Took, Confirmed, History, Ledger, is_want_of_memory, node_answer, numbered, committed, commits_of, ledger_of, journal_of, state_of, clock_of, reply_to, IsReply, IsLegal, asks_in, HasMemory, replied, history_from}
+use Rattle.mx_model.specs.Histories.{Base, Asked, Left, Took, Confirmed, History, Ledger, is_want_of_memory, node_answer, numbered, committed, commits_of, ledger_of, journal_of, state_of, clock_of, reply_to, IsReply, IsLegal, asks_in, HasMemory, asking, leaving, step_for, history_from, is_write, writable_node}
 use Rattle.mx_model.proofs.StateLaws.{HasOneSpace, rows_keep_one_space}
 
 pub state_after_rows-append : (base : State) (xs ys : List Row)
@@ -34,12 +36,12 @@ clock_after-append base [] ys = refl
 clock_after-append base (x ∷ xs) ys = clock_after-append (clock_after_one base x) xs ys
 
 -- one ask more is one entry more
-pub history_from-append : (base : Base) (earlier : History) (asks : List (TxnName × Ask)) (name : TxnName) (ask : Ask)
-    → history_from base earlier (asks ++ (name, ask) ∷ [])
-    ≡ Asked name ask (reply_to base (ledger_of base (history_from base earlier asks)) ask) ∷ history_from base earlier asks
-history_from-append base earlier [] name ask = refl
-history_from-append base earlier (asked ∷ others) name ask =
-    history_from-append base (Asked asked.0 asked.1 (reply_to base (ledger_of base earlier) asked.1) ∷ earlier) others name ask
+pub history_from-append : (base : Base) (earlier : History) (asks : List (TxnName × Ask)) (asked : TxnName × Ask)
+    → history_from base earlier (asks ++ asked ∷ [])
+    ≡ step_for base (ledger_of base (history_from base earlier asks)) asked ∷ history_from base earlier asks
+history_from-append base earlier [] asked = refl
+history_from-append base earlier (first ∷ others) asked =
+    history_from-append base (step_for base (ledger_of base earlier) first ∷ earlier) others asked
 
 told_refusal : (reply : Reply) → reply ≡ Refused OutOfMemory → is_want_of_memory reply ≡ true
 told_refusal reply told = ap is_want_of_memory told
@@ -47,48 +49,61 @@ told_refusal reply told = ap is_want_of_memory told
 -- a reply that isn't for want of memory is the one that the ledger demands
 pub reply_is_demanded : (base : Base) (ledger : Ledger) (ask : Ask) (reply : Reply)
     → IsReply base ledger ask reply → is_want_of_memory reply ≡ false → reply ≡ reply_to base ledger ask
-reply_is_demanded base ledger (RefusedAsk refusal) reply told memory = told
-reply_is_demanded base ledger (Asks request) reply (can, inl told) memory = told
-reply_is_demanded base ledger (Asks request) reply (can, inr told) memory = let want = told_refusal reply told in cc
+reply_is_demanded base ledger (ask.Refused refusal) reply told memory = told
+reply_is_demanded base ledger ask.Leave reply told memory = absurd told
+reply_is_demanded base ledger (ask.Request request) reply (can, inl told) memory = told
+reply_is_demanded base ledger (ask.Request request) reply (can, inr told) memory = let want = told_refusal reply told in cc
 
 -- a ledger of this journal
 abbrev only : List Tx → Ledger
 only journal = record { journal = journal; taken = 0; takes = []; durable = 0 }
 
--- replies and commits look at the journal alone
-pub reply_by_journal : (base : Base) (one other : Ledger) (ask : Ask) → one.journal ≡ other.journal → reply_to base one ask ≡ reply_to base other ask
-reply_by_journal base one other (RefusedAsk refusal) same = refl
-reply_by_journal base one other (Asks request) same = ap (λ journal. reply_to base (only journal) (Asks request)) same
+-- steps and commits look at the journal alone
+pub step_by_journal : (base : Base) (one other : Ledger) (name : TxnName) (asked : Ask) → one.journal ≡ other.journal
+    → step_for base one (name, asked) ≡ step_for base other (name, asked)
+step_by_journal base one other name (ask.Refused refusal) same = refl
+step_by_journal base one other name ask.Leave same = refl
+step_by_journal base one other name (ask.Request request) same = ap (λ journal. step_for base (only journal) (name, ask.Request request)) same
 
-pub commits_by_journal : (base : Base) (one other : Ledger) (ask : Ask) (reply : Reply) → one.journal ≡ other.journal
-    → commits_of base one ask reply ≡ commits_of base other ask reply
-commits_by_journal base one other (RefusedAsk refusal) reply same = refl
-commits_by_journal base one other (Asks request) reply same = ap (λ journal. commits_of base (only journal) (Asks request) reply) same
+pub commits_by_journal : (base : Base) (one other : Ledger) (asked : Ask) (reply : Reply) → one.journal ≡ other.journal
+    → commits_of base one asked reply ≡ commits_of base other asked reply
+commits_by_journal base one other (ask.Refused refusal) reply same = refl
+commits_by_journal base one other ask.Leave reply same = refl
+commits_by_journal base one other (ask.Request request) reply same = ap (λ journal. commits_of base (only journal) (ask.Request request) reply) same
 
--- the steps that have no reply commit nothing
-pub journal_of_replied : (base : Base) (history : History) → journal_of base (replied history) ≡ journal_of base history
-journal_of_replied base [] = refl
-journal_of_replied base (Asked name ask reply ∷ earlier) =
-    let same = journal_of_replied base earlier in
-    ap (λ journal. journal ++ commits_of base (ledger_of base (replied earlier)) ask reply) same
-    ∙ ap (λ commits. journal_of base earlier ++ commits) (commits_by_journal base (ledger_of base (replied earlier)) (ledger_of base earlier) ask reply same)
-journal_of_replied base (Left connection ∷ earlier) = journal_of_replied base earlier
-journal_of_replied base (Took transactions upto ∷ earlier) = journal_of_replied base earlier
-journal_of_replied base (Confirmed upto ∷ earlier) = journal_of_replied base earlier
+-- the steps that nobody asked for commit nothing
+pub journal_of_asking : (base : Base) (history : History) → journal_of base (asking history) ≡ journal_of base history
+journal_of_asking base [] = refl
+journal_of_asking base (Asked name asked reply ∷ earlier) =
+    let same = journal_of_asking base earlier in
+    ap (λ journal. journal ++ commits_of base (ledger_of base (asking earlier)) asked reply) same
+    ∙ ap (λ commits. journal_of base earlier ++ commits) (commits_by_journal base (ledger_of base (asking earlier)) (ledger_of base earlier) asked reply same)
+journal_of_asking base (Left connection ∷ earlier) = journal_of_asking base earlier
+journal_of_asking base (Took transactions upto ∷ earlier) = journal_of_asking base earlier
+journal_of_asking base (Confirmed upto ∷ earlier) = journal_of_asking base earlier
 
--- replies are determined: the replies of a legal history none of whose steps wanted memory are those of its asks
+-- a step that was told what the ledger demands is the one for its ask
+asked_step : (base : Base) (ledger : Ledger) (name : TxnName) (asked : Ask) (reply : Reply)
+    → IsReply base ledger asked reply → is_want_of_memory reply ≡ false → Asked name asked reply ≡ step_for base ledger (name, asked)
+asked_step base ledger name (ask.Refused refusal) reply told memory = ap (Asked name (ask.Refused refusal)) told
+asked_step base ledger name ask.Leave reply told memory = absurd told
+asked_step base ledger name (ask.Request request) reply told memory =
+    ap (Asked name (ask.Request request)) (reply_is_demanded base ledger (ask.Request request) reply told memory)
+
+-- replies are determined: the steps of a legal history none of which wanted memory are those of its asks
 pub history_of_asks : (base : Base) (history : History)
-    → IsLegal base history → HasMemory history → replied history ≡ history_from base [] (asks_in history)
+    → IsLegal base history → HasMemory history → asking history ≡ history_from base [] (asks_in history)
 history_of_asks base [] legal memory = refl
-history_of_asks base (Asked name ask reply ∷ earlier) legal memory =
+history_of_asks base (Asked name asked reply ∷ earlier) legal memory =
     let before = history_of_asks base earlier legal.0 memory.0 in
-    let told = reply_is_demanded base (ledger_of base earlier) ask reply legal.1 memory.1 in
-    let same = reply_by_journal base (ledger_of base earlier) (ledger_of base (replied earlier)) ask (sym (journal_of_replied base earlier)) in
-    ap (λ r. Asked name ask r ∷ replied earlier) (told ∙ same)
-    ∙ ap (λ h. Asked name ask (reply_to base (ledger_of base h) ask) ∷ h) before
-    ∙ sym (history_from-append base [] (asks_in earlier) name ask)
+    let told = asked_step base (ledger_of base earlier) name asked reply legal.1 memory.1 in
+    let same = step_by_journal base (ledger_of base earlier) (ledger_of base (asking earlier)) name asked (sym (journal_of_asking base earlier)) in
+    ap (λ entry. entry ∷ asking earlier) (told ∙ same)
+    ∙ ap (λ h. step_for base (ledger_of base h) (name, asked) ∷ h) before
+    ∙ sym (history_from-append base [] (asks_in earlier) (name, asked))
 history_of_asks base (Left connection ∷ earlier) legal memory =
-    history_of_asks base earlier legal.0 memory.0 ∙ ap (history_from base []) (sym (append-nil (asks_in earlier)))
+    ap (λ h. Left connection ∷ h) (history_of_asks base earlier legal.0 memory.0)
+    ∙ sym (history_from-append base [] (asks_in earlier) (leaving connection))
 history_of_asks base (Took transactions upto ∷ earlier) legal memory =
     history_of_asks base earlier legal.0 memory.0 ∙ ap (history_from base []) (sym (append-nil (asks_in earlier)))
 history_of_asks base (Confirmed upto ∷ earlier) legal memory =
@@ -135,14 +150,28 @@ pub committed-no_row : (replica lsn : ℕ) (without_memory : Bool) → committed
 committed-no_row replica lsn true = refl
 committed-no_row replica lsn false = refl
 
--- a SELECT leaves no row
-pub select_no_row : (space : ℕ) (found : Option state.Tuples) (limit : ℕ) (key : List ℕ)
-    → (in_space space found (λ tuples. selected limit (map.get tuples (key_in key)))).row ≡ None
-select_no_row space None limit key = refl
-select_no_row space (Some tuples) limit key = refl
+-- a SELECT leaves no row, whether it is by the primary key or not
+pub select_no_row : (by_key : Bool) (request : Request) (space : ℕ) (found : Option state.Tuples) (limit : ℕ) (key : List ℕ)
+    → (in_space space found (λ tuples. if by_key then selected limit (map.get tuples (key_in key)) else not_built request)).row ≡ None
+select_no_row by_key request space None limit key = refl
+select_no_row true request space (Some tuples) limit key = refl
+select_no_row false request space (Some tuples) limit key = refl
 
--- a node answers a SELECT as the statement does
-pub select_answer : (ids : Ids) (before : State) (lsn space limit : ℕ) (key : List ℕ)
-    → node_answer ids before lsn (Select space limit key) ≡ answer_to before (Select space limit key)
-select_answer ids before lsn space limit key =
-    ap (numbered lsn (answer_to before (Select space limit key))) (select_no_row space (map.get before space) limit key)
+-- where the statement leaves no row, the node leaves none
+pub node_no_row : (ids : Ids) (before : State) (lsn : ℕ) (request : Request) → (answer_to before request).row ≡ None
+    → (node_answer ids before lsn request).row ≡ None
+node_no_row ids before lsn request none = by_test (is_write request && not (ids.me == writable_node))
+  where
+    by_test : (read_only : Bool)
+        → (if read_only then refused (ReadOnly (record { 0 = writable_node }))
+        else numbered lsn (answer_to before request) (answer_to before request).row).row ≡ None
+    by_test true = refl
+    by_test false = ap (λ row. (numbered lsn (answer_to before request) row).row) none ∙ none
+
+-- a node answers what writes nothing as the statement does
+pub read_answer : (ids : Ids) (before : State) (lsn : ℕ) (request : Request) → is_write request ≡ false → (answer_to before request).row ≡ None
+    → node_answer ids before lsn request ≡ answer_to before request
+read_answer ids before lsn request reads none =
+    ap (λ writes. if writes && not (ids.me == writable_node) then refused (ReadOnly (record { 0 = writable_node }))
+    else numbered lsn (answer_to before request) (answer_to before request).row) reads
+    ∙ ap (numbered lsn (answer_to before request)) none

@@ -1,5 +1,6 @@
 pub mod StateLaws
 pub mod HistoryLaws
+pub mod AnswerLaws
 pub mod SlowLaws
 pub mod StoredLaws
 pub mod NameLaws

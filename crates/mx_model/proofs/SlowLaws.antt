@@ -1,22 +1,28 @@
 -- What the plain slow program finds among its rows is what the state after them holds.
-use Rattle.std.proofs.Common.{◌≡◌, ℕ, Bool, true, false, pos, List, [], ◌∷◌, ◌++◌, cond, refl, sym, ap, ◌∙◌, take, ◌<◌, eqb-true, eq-eqb, ne_eqb, arith}
-use Rattle.std.specs.Prelude.{◌==◌, ◌&&◌, Some, None, if◌then◌else◌}
+use Rattle.std.proofs.Common.{◌≡◌, ◌⊎◌, inl, inr, ℕ, Bool, true, false, pos, List, [], ◌∷◌, ◌++◌, cond, refl, sym, ap, ◌∙◌, append-nil, length, take, ◌<◌, ◌≤◌, eqb-true, eq-eqb, ne_eqb, true≢false, arith}
+use Rattle.std.specs.Prelude.{◌==◌, ◌&&◌, Result, Ok, Err, OnOk, Some, None, if◌then◌else◌}
 use Rattle.std.specs.Option.{option_to_list}
 use Rattle.std.specs.FinMap.{get, insert, get-empty}
+use Rattle.std.proofs.lemmas.Bool.{lt-ltb, le-ltb}
 use Rattle.std.proofs.lemmas.Bool.Decides.{nat_tests}
 use Rattle.mx_model.specs.Keys.{Integer, key_cmp, key_in, unsigned_in, items_in}
 use Rattle.mx_model.specs.State as state
 use Rattle.mx_model.specs.State.{State, test_space, first_state}
-use Rattle.mx_model.specs.declared.refusal.Refusal.TheVariants.{SpaceMissing}
-use Rattle.mx_model.specs.declared.reply.Reply.TheVariants.{Tuples, Refused}
-use Rattle.mx_model.specs.Requests.{Select, Replace}
-use Rattle.mx_model.specs.Answers.{Row, Replaced, Answer, selected, replaced, in_space, answer_to, state_after_row, state_after_rows}
+use Rattle.mx_base.specs.declared.refusal.Refusal.TheVariants.{SpaceMissing, TupleTooLong}
+use Rattle.mx_base.specs.declared.ids.SpaceId.{SpaceId}
+use Rattle.mx_base.specs.declared.ids.IndexId.{IndexId}
+use Rattle.mx_request.specs.declared.request.Request.{Request}
+use Rattle.mx_request.specs.declared.request.Request.TheVariants as request
+use Rattle.mx_model.specs.declared.reply.Reply.{Reply}
+use Rattle.mx_model.specs.declared.reply.Reply.TheVariants.{Tuples}
+use Rattle.mx_model.specs.Answers.{Row, Replaced, Answer, refused, not_built, selected, replaced, replacing, longest_tuple, begins_with_number, is_by_primary_key, in_space, looked_up, put_by, answer_to, state_after_row, state_after_rows}
 use Rattle.std.proofs.lemmas.List.{map_push, take_all}
 use Rattle.mx_model.specs.declared.slow.Stored.{Stored}
 use Rattle.mx_model.specs.Views.{row_view, rows_view}
 use Rattle.mx_model.specs.Slow.{HasKey, tuple_among, tuple_after}
 use Rattle.mx_model.proofs.StateLaws.{HasOneSpace, first_has_one_space, rows_keep_one_space, other_row_is_lost, get-first_state, get-state_after_row, get-insert_number}
 use Rattle.mx_model.proofs.HistoryLaws.{state_after_rows-append}
+use Rattle.mx_model.proofs.AnswerLaws.{space_is_there}
 
 same_test : (a b : ℕ) → (a == b) ≡ (b == a)
 same_test a b = grind (arith, nat_tests)
@@ -84,39 +90,25 @@ module _ (rows earlier : List Stored) (last : Stored) (number : ℕ) (split : ro
 
 -- ---- what is answered after any rows
 
--- a space that isn't the one there is, is missing
-pub space_is_missing : (rows : List Row) (space : ℕ) (answer : state.Tuples → Answer) → (space ≡ test_space → ⊥)
-    → in_space space (get (state_after_rows first_state rows) space) answer ≡ record { reply = Refused (SpaceMissing space); row = None }
-space_is_missing rows space answer other =
-    ap (λ found. in_space space found answer) ((one_space rows).others space (ne_eqb space test_space other))
-
--- in the one space there is, a tuple is put
-pub tuple_is_replaced : (rows : List Row) (space : ℕ) (tuple : List ℕ) → space ≡ test_space
-    → answer_to (state_after_rows first_state rows) (Replace space tuple) ≡ replaced space tuple
-tuple_is_replaced rows space tuple same =
-    ap (λ s. in_space space (get (state_after_rows first_state rows) s) (λ _. replaced space tuple)) same
-    ∙ ap (λ found. in_space space found (λ _. replaced space tuple)) (one_space rows).there
-
--- and a key is looked for
+-- the tuple of a key is looked for
 tuple_is_selected : (rows : List Row) (space limit number : ℕ) (key : List ℕ) → space ≡ test_space → key_in key ≡ Integer (pos number) ∷ []
-    → answer_to (state_after_rows first_state rows) (Select space limit key) ≡ selected limit (tuple_after rows number)
+    → looked_up (state_after_rows first_state rows) space limit key ≡ selected limit (tuple_after rows number)
 tuple_is_selected rows space limit number key same is =
     let has = one_space rows in
-    ap (λ s. in_space space (get (state_after_rows first_state rows) s) (λ tuples. selected limit (get tuples (key_in key)))) same
-    ∙ ap (λ found. in_space space found (λ tuples. selected limit (get tuples (key_in key)))) has.there
+    space_is_there (state_after_rows first_state rows) has space (λ tuples. selected limit (get tuples (key_in key))) same
     ∙ ap (λ k. selected limit (get has.tuples k)) is
     ∙ ap (λ found. selected limit (tuple_among found (Integer (pos number) ∷ []))) (sym has.there)
 
 module _ (rows : List Row) (space limit : ℕ) (key : List ℕ) (same : space ≡ test_space) where
   -- nothing where the limit allows none
-  pub nothing_within_limit : limit ≡ 0 → (answer_to (state_after_rows first_state rows) (Select space limit key)).reply ≡ Tuples []
+  pub nothing_within_limit : limit ≡ 0 → (looked_up (state_after_rows first_state rows) space limit key).reply ≡ Tuples []
   nothing_within_limit none =
       ap (λ answer. answer.reply) (tuple_is_selected rows space limit (unsigned_in (items_in key)) key same refl)
       ∙ ap (λ n. Tuples (take n (option_to_list (tuple_after rows (unsigned_in (items_in key)))))) none
 
   -- nothing where no tuple has the key
   pub nothing_of_key : (number : ℕ) → key_in key ≡ Integer (pos number) ∷ [] → tuple_after rows number ≡ None
-      → (answer_to (state_after_rows first_state rows) (Select space limit key)).reply ≡ Tuples []
+      → (looked_up (state_after_rows first_state rows) space limit key).reply ≡ Tuples []
   nothing_of_key number is absent =
       ap (λ answer. answer.reply) (tuple_is_selected rows space limit number key same is)
       ∙ ap (λ found. Tuples (take limit (option_to_list found))) absent
@@ -124,8 +116,14 @@ module _ (rows : List Row) (space limit : ℕ) (key : List ℕ) (same : space �
 
   -- else the tuple
   pub tuple_of_key : (number : ℕ) (tuple : List ℕ) → key_in key ≡ Integer (pos number) ∷ [] → 0 < limit → tuple_after rows number ≡ Some tuple
-      → (answer_to (state_after_rows first_state rows) (Select space limit key)).reply ≡ Tuples (tuple ∷ [])
+      → (looked_up (state_after_rows first_state rows) space limit key).reply ≡ Tuples (tuple ∷ [])
   tuple_of_key number tuple is room found =
       ap (λ answer. answer.reply) (tuple_is_selected rows space limit number key same is)
       ∙ ap (λ found. Tuples (take limit (option_to_list found))) found
       ∙ ap (λ tuples. Tuples tuples) (take_all limit (tuple ∷ []) (omega arith))
+
+-- an end that is as before, whatever was told
+pub told_without_row : {E : Type 0} (result : Result Reply E) (rows : List Row) (answer : Answer) → answer.row ≡ None
+    → OnOk result (rows ≡ rows ++ option_to_list answer.row)
+told_without_row (Ok reply) rows answer none = sym (append-nil rows) ∙ sym (ap (λ row. rows ++ option_to_list row) none)
+told_without_row (Err fault) rows answer none = tt

@@ -2,19 +2,22 @@
 use Rattle.std.specs.Prelude.{◌≡◌, ◌⊎◌, ⊤, ℕ, suc, Bool, true, false, not, ◌&&◌, List, [], ◌∷◌, ◌++◌, length, drop, max, slice_index, Option, Some, None, nat_lt, ◌==◌, if◌then◌else◌}
 use Rattle.std.specs.List.{Contains}
 use Rattle.mx_vclock.specs.Vclocks.{most_lsn}
-use Rattle.mx_model.specs.declared.refusal.Refusal.{Refusal}
-use Rattle.mx_model.specs.declared.refusal.Refusal.TheVariants.{OutOfMemory, ReadOnly, SpaceMissing, UnknownRequestType, LsnsUsedUp}
-use Rattle.mx_model.specs.declared.txn_name.TxnName.{TxnName}
+use Rattle.mx_base.specs.declared.ids.TxnName.{TxnName}
+use Rattle.mx_base.specs.declared.refusal.Refusal.TheVariants.{OutOfMemory, ReadOnly, LsnsUsedUp}
+use Rattle.mx_base.specs.Refusals.{code_of}
+use Rattle.mx_request.specs.Spelling.{IsAskable}
+use Rattle.mx_request.specs.declared.request.Ask.{Ask}
+use Rattle.mx_request.specs.declared.request.Ask.TheVariants as ask
+use Rattle.mx_request.specs.declared.request.Request.{Request}
+use Rattle.mx_request.specs.declared.request.Request.TheVariants as request
 use Rattle.mx_model.specs.declared.ids.Ids.{Ids}
 use Rattle.mx_model.specs.declared.row.Row.{Row}
 use Rattle.mx_model.specs.declared.tx.Tx.{Tx}
 use Rattle.mx_model.specs.State.{State}
 use Rattle.mx_model.specs.declared.reply.Reply.{Reply}
-use Rattle.mx_model.specs.declared.reply.Reply.TheVariants.{Tuples, Refused}
-use Rattle.mx_model.specs.Requests.{Request, Select, Replace, Ask, Asks, RefusedAsk}
-use Rattle.mx_model.specs.Answers.{Answer, answer_to}
+use Rattle.mx_model.specs.declared.reply.Reply.TheVariants.{Empty, Tuples, Id, Refused}
+use Rattle.mx_model.specs.Answers.{Answer, answer_to, refused}
 use Rattle.mx_model.specs.Transactions.{state_after, clock_after}
-use Rattle.mx_model.specs.Rows.{IsRequest}
 
 -- what a database was when it was opened: its state, its vclock, and who it is
 pub record Base : Type 0 where
@@ -47,23 +50,32 @@ pub record Ledger : Type 0 where
 
 -- the reply says that memory was missing; such a step counts as not asked
 abbrev pub is_want_of_memory : Reply → Bool
+is_want_of_memory Empty = false
 is_want_of_memory (Tuples tuples) = false
-is_want_of_memory (Refused OutOfMemory) = true
-is_want_of_memory (Refused (ReadOnly writable)) = false
-is_want_of_memory (Refused (SpaceMissing space)) = false
-is_want_of_memory (Refused (UnknownRequestType kind)) = false
-is_want_of_memory (Refused LsnsUsedUp) = false
+is_want_of_memory Id = false
+is_want_of_memory (Refused refusal) = code_of refusal == code_of OutOfMemory
 
 -- the replica id of the node that may be written
 abbrev pub writable_node : ℕ
 writable_node = 1
 
+-- a request that writes
 abbrev pub is_write : Request → Bool
-is_write (Select space limit key) = false
-is_write (Replace space tuple) = true
-
-abbrev pub refused : Refusal → Answer
-refused refusal = record { reply = Refused refusal; row = None }
+is_write (request.Select space index limit offset iterator key) = false
+is_write (request.Insert space tuple) = true
+is_write (request.Replace space tuple) = true
+is_write (request.Update space index base key ops) = true
+is_write (request.Delete space index key) = true
+is_write (request.Upsert space base tuple ops) = true
+is_write request.Nop = false
+is_write request.Ping = false
+is_write request.Begin = false
+is_write request.Commit = false
+is_write request.Rollback = false
+is_write request.Id = false
+is_write (request.Join instance) = false
+is_write (request.Subscribe instance set clock) = false
+is_write (request.Ack clock) = false
 
 -- an answer that leaves a row needs an lsn for it
 abbrev pub numbered : (lsn : ℕ) → Answer → Option Row → Answer
@@ -73,7 +85,7 @@ numbered lsn answer (Some row) = if nat_lt most_lsn lsn then refused LsnsUsedUp 
 -- the statement's answer on a node with these identifiers, whose next lsn is this one
 abbrev pub node_answer : Ids → State → (lsn : ℕ) → Request → Answer
 node_answer ids before lsn request =
-    if is_write request && not (ids.me == writable_node) then refused (ReadOnly writable_node)
+    if is_write request && not (ids.me == writable_node) then refused (ReadOnly (record { 0 = writable_node }))
     else numbered lsn (answer_to before request) (answer_to before request).row
 
 -- the state and the vclock that a ledger leaves, and the node's next lsn
@@ -98,8 +110,9 @@ committed replica lsn false (Some row) = record { replica = replica; first = lsn
 
 -- the journal's part of one step
 abbrev pub commits_of : Base → Ledger → Ask → Reply → List Tx
-commits_of base ledger (RefusedAsk refusal) reply = []
-commits_of base ledger (Asks request) reply =
+commits_of base ledger (ask.Refused refusal) reply = []
+commits_of base ledger ask.Leave reply = []
+commits_of base ledger (ask.Request request) reply =
     committed base.ids.me (next_lsn base ledger) (is_want_of_memory reply) (answer_in base ledger request).row
 
 abbrev pub ledger_after : Base → Ledger → Entry → Ledger
@@ -126,14 +139,17 @@ clock_of base history = clock_in base (ledger_of base history)
 
 -- the reply that the ledger demands; a request that was refused beforehand is told so
 abbrev pub reply_to : Base → Ledger → Ask → Reply
-reply_to base ledger (RefusedAsk refusal) = Refused refusal
-reply_to base ledger (Asks request) = (answer_in base ledger request).reply
+reply_to base ledger (ask.Refused refusal) = Refused refusal
+reply_to base ledger ask.Leave = Empty
+reply_to base ledger (ask.Request request) = (answer_in base ledger request).reply
 
--- the request can be asked, and the reply is the one that the ledger demands, or to a request that memory was missing
+-- the request can be asked, and the reply is the one that the ledger demands, or to a request that memory was missing; who
+-- leaves is told nothing
 abbrev pub IsReply : Base → Ledger → Ask → Reply → Type 0
-IsReply base ledger (RefusedAsk refusal) reply = reply ≡ Refused refusal
-IsReply base ledger (Asks request) reply =
-    IsRequest request × ((reply ≡ (answer_in base ledger request).reply) ⊎ (reply ≡ Refused OutOfMemory))
+IsReply base ledger (ask.Refused refusal) reply = reply ≡ Refused refusal
+IsReply base ledger ask.Leave reply = ⊥
+IsReply base ledger (ask.Request request) reply =
+    IsAskable request × ((reply ≡ (answer_in base ledger request).reply) ⊎ (reply ≡ Refused OutOfMemory))
 
 -- The entry is what the history before it, of so many steps, demands: a take has what no earlier one took, and a
 -- confirmation names an earlier take.
@@ -148,13 +164,17 @@ abbrev pub IsLegal : Base → History → Type 0
 IsLegal base [] = Unit {0}
 IsLegal base (entry ∷ earlier) = IsLegal base earlier × Follows base (ledger_of base earlier) (length earlier) entry
 
+-- a connection asks to leave
+abbrev pub leaving : (connection : ℕ) → TxnName × Ask
+leaving connection = (record { conn = record { 0 = connection }; stream = record { 0 = 0 } }, ask.Leave)
+
 abbrev pub asked_in : Entry → List (TxnName × Ask)
 asked_in (Asked name ask reply) = (name, ask) ∷ []
-asked_in (Left connection) = []
+asked_in (Left connection) = leaving connection ∷ []
 asked_in (Took transactions upto) = []
 asked_in (Confirmed upto) = []
 
--- who asked what, the first of it first
+-- who asked what, or left, the first of it first
 abbrev pub asks_in : History → List (TxnName × Ask)
 asks_in [] = []
 asks_in (entry ∷ earlier) = asks_in earlier ++ asked_in entry
@@ -171,19 +191,35 @@ abbrev pub HasMemory : History → Type 0
 HasMemory [] = Unit {0}
 HasMemory (entry ∷ earlier) = HasMemory earlier × HadMemory entry
 
-abbrev pub replied_in : Entry → List Entry
-replied_in (Asked name ask reply) = Asked name ask reply ∷ []
-replied_in (Left connection) = []
-replied_in (Took transactions upto) = []
-replied_in (Confirmed upto) = []
+abbrev pub asking_in : Entry → List Entry
+asking_in (Asked name ask reply) = Asked name ask reply ∷ []
+asking_in (Left connection) = Left connection ∷ []
+asking_in (Took transactions upto) = []
+asking_in (Confirmed upto) = []
 
--- the steps that have a reply
-abbrev pub replied : History → History
-replied [] = []
-replied (entry ∷ earlier) = replied_in entry ++ replied earlier
+-- the steps that were asked for
+abbrev pub asking : History → History
+asking [] = []
+asking (entry ∷ earlier) = asking_in entry ++ asking earlier
+
+-- the step that is asked for, told what the ledger demands
+abbrev pub step_for : Base → Ledger → TxnName × Ask → Entry
+step_for base ledger (name, ask.Request request) = Asked name (ask.Request request) (reply_to base ledger (ask.Request request))
+step_for base ledger (name, ask.Refused refusal) = Asked name (ask.Refused refusal) (Refused refusal)
+step_for base ledger (name, ask.Leave) = Left name.conn.0
 
 -- the history of these asks, each told what the ones before it demand
 abbrev pub history_from : Base → History → List (TxnName × Ask) → History
 history_from base earlier [] = earlier
-history_from base earlier (asked ∷ others) =
-    history_from base (Asked asked.0 asked.1 (reply_to base (ledger_of base earlier) asked.1) ∷ earlier) others
+history_from base earlier (asked ∷ others) = history_from base (step_for base (ledger_of base earlier) asked ∷ earlier) others
+
+abbrev pub replied_in : Entry → List Reply
+replied_in (Asked name ask reply) = reply ∷ []
+replied_in (Left connection) = []
+replied_in (Took transactions upto) = []
+replied_in (Confirmed upto) = []
+
+-- the replies of a history, the first of them first
+abbrev pub replies_in : History → List Reply
+replies_in [] = []
+replies_in (entry ∷ earlier) = replies_in earlier ++ replied_in entry

@@ -1,7 +1,5 @@
-pub mod Refusals
 pub mod Keys
 pub mod State
-pub mod Requests
 pub mod Answers
 pub mod Transactions
 pub mod Rows

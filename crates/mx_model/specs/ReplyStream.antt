@@ -1,39 +1,16 @@
--- What a connection is sent: the greeting, then one reply for each of its packets, in order (IPROTO, "Unified packet structure").
-use Rattle.std.specs.Prelude.{ℕ, ◌+◌, List, [], ◌∷◌, ◌++◌, length, nat_lt, if◌then◌else◌}
-use Rattle.std.specs.List.{concat}
-use Rattle.byteorder.specs.Endian.{big_bytes}
-use Rattle.mx_model.specs.Refusals.{code_of, text_of}
+-- What a connection is sent for its requests: one packet for each, in order (IPROTO, "Response structure").
+use Rattle.std.specs.Prelude.{ℕ, List, [], ◌∷◌, ◌++◌}
+use Rattle.mx_reply.specs.declared.body.ReplyBody.TheVariants as body
+use Rattle.mx_reply.specs.Replies.{ok_packet, error_packet, id_packet}
 use Rattle.mx_model.specs.declared.reply.Reply.{Reply}
-use Rattle.mx_model.specs.declared.reply.Reply.TheVariants.{Tuples, Refused}
+use Rattle.mx_model.specs.declared.reply.Reply.TheVariants.{Empty, Tuples, Id, Refused}
 
--- a Str in its shortest spelling
-abbrev pub shortest_str : List ℕ → List ℕ
-shortest_str text =
-    (if nat_lt (length text) 32 then (0xa0 + length text) ∷ []
-    else if nat_lt (length text) 256 then 0xd9 ∷ big_bytes 1 (length text)
-    else if nat_lt (length text) 65536 then 0xda ∷ big_bytes 2 (length text)
-    else 0xdb ∷ big_bytes 4 (length text)) ++ text
-
--- 0 for an answer, 0x8000 and the refusal's number for a refusal
-abbrev pub reply_type : Reply → ℕ
-reply_type (Tuples tuples) = 0
-reply_type (Refused refusal) = 0x8000 + code_of refusal
-
--- a map of one pair: the tuples under 0x30 as an array of 32 bits, or the refusal's text under 0x31
-abbrev pub reply_body : Reply → List ℕ
-reply_body (Tuples tuples) = (0x81 ∷ 0x30 ∷ 0xdd ∷ big_bytes 4 (length tuples)) ++ concat tuples
-reply_body (Refused refusal) = (0x81 ∷ 0x31 ∷ []) ++ shortest_str (text_of refusal)
-
--- a map of three pairs: the type under 0x00, the sync under 0x01 and the schema version under 0x05
-abbrev pub reply_header : (version sync kind : ℕ) → List ℕ
-reply_header version sync kind =
-    (0x83 ∷ 0x00 ∷ 0xce ∷ big_bytes 4 kind) ++ (0x01 ∷ 0xcf ∷ big_bytes 8 sync) ++ (0x05 ∷ 0xce ∷ big_bytes 4 version)
-
--- the size of header and body in 32 bits, then both
+-- the packet of a reply to the request of this sync, where the schema has this version
 abbrev pub reply_packet : (version sync : ℕ) → Reply → List ℕ
-reply_packet version sync reply =
-    let content = reply_header version sync (reply_type reply) ++ reply_body reply in
-    (0xce ∷ big_bytes 4 (length content)) ++ content
+reply_packet version sync Empty = ok_packet version sync body.Empty
+reply_packet version sync (Tuples tuples) = ok_packet version sync (body.Tuples tuples)
+reply_packet version sync Id = id_packet version sync
+reply_packet version sync (Refused refusal) = error_packet version sync refusal
 
 -- one reply for each of the syncs, for as long as there are both
 abbrev pub reply_packets : (version : ℕ) → List ℕ → List Reply → List ℕ

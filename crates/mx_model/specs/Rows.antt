@@ -1,12 +1,11 @@
 -- The rows of a journal: for each a header map and a body map of MessagePack (Tarantool's xlog rows).
-use Rattle.std.specs.Prelude.{◌≡◌, ⊤, ℕ, zero, suc, ◌≤◌, ◌<◌, ◌^◌, Bool, true, false, ◌&&◌, List, [], ◌∷◌, ◌++◌, length, take, drop, Option, Some, None, Result, Ok, Err, is_some, nat_lt, nat_le, ◌==◌, if◌then◌else◌}
+use Rattle.std.specs.Prelude.{◌≡◌, ℕ, zero, suc, ◌≤◌, ◌<◌, ◌^◌, Bool, true, false, ◌&&◌, List, [], ◌∷◌, ◌++◌, length, take, drop, Option, Some, None, Result, Ok, Err, is_some, nat_lt, nat_le, ◌==◌, if◌then◌else◌}
 use Rattle.mx_msgpack.specs.declared.bad.Bad.{Bad}
 use Rattle.mx_msgpack.specs.Grammar.{Array, Values, Spells}
 use Rattle.mx_msgpack.specs.Reading.{Shown, ShownNil, ShownBool, ShownInt, ShownStr, ShownBin, ShownArray, ShownMap, ShownOpaque, reading_of, measured}
 use Rattle.mx_msgpack.specs.Readers.{Reader, ◌>>=◌, all_from, unsigned_at, unsigned_32_at}
 use Rattle.mx_msgpack.specs.Spelling.{shortest_unsigned}
 use Rattle.mx_model.specs.Keys.{items_in}
-use Rattle.mx_model.specs.Requests.{Request, Select, Replace}
 use Rattle.mx_model.specs.declared.row.Row.{Row}
 use Rattle.mx_model.specs.declared.row.Row.TheVariants.{Replaced}
 use Rattle.mx_model.specs.declared.tx.Tx.{Tx}
@@ -65,11 +64,6 @@ pub record IsTuple (tuple : List ℕ) : Type 0 where
 
 abbrev pub IsRow : Row → Type 0
 IsRow (Replaced space tuple) = (space < 2 ^ 32) × IsTuple tuple × (length (body_text (Replaced space tuple)) ≤ longest_body)
-
--- The request can be asked: what it would leave in a journal can be written there.
-abbrev pub IsRequest : Request → Type 0
-IsRequest (Select space limit key) = ⊤
-IsRequest (Replace space tuple) = IsRow (Replaced space tuple)
 
 -- A transaction that can be written: one row, and numbers that a vclock allows.
 pub record IsTransaction (transaction : Tx) : Type 0 where

@@ -4,13 +4,13 @@ ghost use Rattle.std.specs.Prelude.{◌≡◌, [], Result};
 ghost use Rattle.mx_outside.specs.Disks.{Files};
 ghost use Rattle.mx_model.specs.declared.damage.Damage.{Damage};
 ghost use Rattle.mx_model.specs.Files.{AllFollow, IsDirectoryState, Reached, SameOutcome};
-ghost use Rattle.mx_model.specs.Histories.{Base, History, IsLegal, HasMemory, asks_in, replied, history_from, journal_of};
+ghost use Rattle.mx_model.specs.Histories.{Base, History, IsLegal, HasMemory, asks_in, asking, history_from, journal_of};
 
-/// A law, which does nothing when it is called: the asks of a legal history determine its replies,
+/// A law, which does nothing when it is called: the asks of a legal history determine its steps and replies,
 /// where no step wanted memory.
 pub fn replies_are_determined()
     ensures { (base : Base) (history : History) → IsLegal base history → HasMemory history
-        → replied history ≡ history_from base [] (asks_in history) }
+        → asking history ≡ history_from base [] (asks_in history) }
 {}
 
 /// A law, which does nothing when it is called: what a legal history commits can be written, each

@@ -1,11 +1,17 @@
 //! What a client is told.
 
-use crate::refusal::Refusal;
+use mx_base::Refusal;
 use mx_msgpack::Tuples;
 
-/// A reply: tuples, or why the request is refused.
+/// A reply to a request.
 #[derive(Debug, Drop)]
 pub enum Reply {
+    /// It was done, and there is nothing to tell.
+    Empty,
+    /// The tuples that were found, or the one that was put in its place.
     Tuples(Tuples),
+    /// The protocol's version and features.
+    Id,
+    /// Why it is refused.
     Refused(Refusal),
 }

@@ -3,17 +3,16 @@
 ghost use Rattle.std.specs.Prelude.{◌≡◌, [], ◌++◌, length, IfOk, OnOk, OnErr, IsTrue, ◌↔◌};
 ghost use Rattle.std.specs.Option.{option_map, option_to_list};
 ghost use Rattle.mx_model.specs.State.{first_state};
-ghost use Rattle.mx_model.specs.Requests.{Select, Replace};
-ghost use Rattle.mx_model.specs.Answers.{answer_to, state_after_rows};
-ghost use Rattle.mx_model.specs.Views.{request_view, row_view, rows_view};
+ghost use Rattle.mx_model.specs.Answers.{answer_to, looked_up, put_by, state_after_rows};
+ghost use Rattle.mx_model.specs.Views.{row_view, rows_view};
 ghost use Rattle.mx_model.specs.Slow.{HasKey, tuple_after};
 
 use crate::keys::key_of;
-use crate::refusal::Refusal;
 use crate::reply::Reply;
-use crate::request::Request;
-use crate::txn_name::TxnName;
+use crate::supported::{LONGEST_TUPLE, begins_with_number, is_by_primary_key, not_built};
+use mx_base::{Refusal, SpaceId, TxnName};
 use mx_msgpack::{Bytes, Tuples};
+use mx_request::Request;
 use std::alloc::{AllocError, Global};
 use std::marker::Model;
 
@@ -66,23 +65,49 @@ impl Slow {
     ///
     /// # Errors
     /// Memory ran out. The rows are then as they were.
-    pub fn ask(&mut self, _name: TxnName, request: &Request<'_>) -> Result<Reply, AllocError>
-        ensures reply { IfOk result (λ reply. reply ≡ (answer_to (state_after_rows first_state self.old) (request_view request.now)).reply) }
-        ensures rows { OnOk result (self.new ≡ self.old ++ option_to_list (answer_to (state_after_rows first_state self.old) (request_view request.now)).row) }
+    pub fn ask(&mut self, _name: TxnName, request: &Request) -> Result<Reply, AllocError>
+        ensures reply { IfOk result (λ reply. reply ≡ (answer_to (state_after_rows first_state self.old) request.now).reply) }
+        ensures rows { OnOk result (self.new ≡ self.old ++ option_to_list (answer_to (state_after_rows first_state self.old) request.now).row) }
         ensures err { OnErr result (self.new ≡ self.old) }
     {
-        match *request {
-            Request::Select { space, limit, key } => self.select(space, limit, key),
-            Request::Replace { space, tuple } => self.replace(space, tuple),
+        match request {
+            Request::Select {
+                space,
+                index,
+                limit,
+                offset,
+                iterator,
+                key,
+            } => {
+                let key = key.as_slice();
+                let by_key = is_by_primary_key(*index, *offset, *iterator, key);
+                if space.0 == TEST_SPACE && !by_key {
+                    return Ok(Reply::Refused(not_built(request)));
+                }
+                self.select(*space, *limit, key)
+            }
+            Request::Replace { space, tuple } => self.replace(request, *space, tuple.as_slice()),
+            Request::Nop | Request::Ping => Ok(Reply::Empty),
+            Request::Id => Ok(Reply::Id),
+            Request::Insert { .. }
+            | Request::Update { .. }
+            | Request::Delete { .. }
+            | Request::Upsert { .. }
+            | Request::Begin
+            | Request::Commit
+            | Request::Rollback
+            | Request::Join { .. }
+            | Request::Subscribe { .. }
+            | Request::Ack { .. } => Ok(Reply::Refused(not_built(request))),
         }
     }
 
     /// The tuple of a key, where the limit allows one.
-    fn select(&self, space: u32, limit: u32, key: &[u8]) -> Result<Reply, AllocError>
-        ensures { IfOk result (λ reply. reply ≡ (answer_to (state_after_rows first_state self.now) (Select space limit key.now)).reply) }
+    fn select(&self, space: SpaceId, limit: u32, key: &[u8]) -> Result<Reply, AllocError>
+        ensures { IfOk result (λ reply. reply ≡ (looked_up (state_after_rows first_state self.now) space.0 limit key.now).reply) }
     {
-        if space != TEST_SPACE {
-            return Ok(Reply::Refused(Refusal::SpaceMissing(space)));
+        if space.0 != TEST_SPACE {
+            return Ok(Reply::Refused(Refusal::SpaceMissing { space }));
         }
         let alloc = *self.rows.allocator();
         let mut tuples = Tuples::new(alloc);
@@ -95,18 +120,31 @@ impl Slow {
     }
 
     /// Adds a row that puts the tuple in the place of the one that has its key.
-    fn replace(&mut self, space: u32, tuple: &[u8]) -> Result<Reply, AllocError>
-        ensures reply { IfOk result (λ reply. reply ≡ (answer_to (state_after_rows first_state self.old) (Replace space tuple.now)).reply) }
-        ensures rows { OnOk result (self.new ≡ self.old ++ option_to_list (answer_to (state_after_rows first_state self.old) (Replace space tuple.now)).row) }
+    fn replace(
+        &mut self,
+        request: &Request,
+        space: SpaceId,
+        tuple: &[u8],
+    ) -> Result<Reply, AllocError>
+        ensures reply { IfOk result (λ reply. reply ≡ (put_by (state_after_rows first_state self.old) request.now space.0 tuple.now).reply) }
+        ensures rows { OnOk result (self.new ≡ self.old ++ option_to_list (put_by (state_after_rows first_state self.old) request.now space.0 tuple.now).row) }
         ensures err { OnErr result (self.new ≡ self.old) }
     {
-        if space != TEST_SPACE {
-            return Ok(Reply::Refused(Refusal::SpaceMissing(space)));
+        if space.0 != TEST_SPACE {
+            return Ok(Reply::Refused(Refusal::SpaceMissing { space }));
+        }
+        if tuple.len() > LONGEST_TUPLE {
+            let bytes = tuple.len() as u64;
+            return Ok(Reply::Refused(Refusal::TupleTooLong { bytes }));
+        }
+        if !begins_with_number(tuple) {
+            return Ok(Reply::Refused(not_built(request)));
         }
         let alloc = *self.rows.allocator();
         let mut tuples = Tuples::new(alloc);
         tuples.push(Bytes::from_slice(alloc, tuple)?)?;
         let tuple = Bytes::from_slice(alloc, tuple)?;
+        let space = space.0;
         self.rows.push(Stored { space, tuple })?;
         Ok(Reply::Tuples(tuples))
     }

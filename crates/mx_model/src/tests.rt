@@ -1,74 +1,134 @@
 use super::*;
+use mx_base::{ConnId, IndexId, SpaceId, StreamId, TxnName, code_of};
 use mx_msgpack::Bytes;
+use mx_request::Request;
+use std::alloc::{AllocError, Global};
+use std::process::Abort;
 use std::test::*;
 
-#[test]
-fn refusals_have_numbers_and_texts(rt: HostRuntime) -> Result<(), Fail> {
-    let alloc = rt.alloc();
-    let table = [
-        (Refusal::OutOfMemory, 2, "Out of memory"),
-        (
-            Refusal::ReadOnly(1),
-            7,
-            "Node is read-only, the writable node is 1",
-        ),
-        (Refusal::SpaceMissing(513), 36, "Space 513 does not exist"),
-        (Refusal::UnknownRequestType(0), 48, "Unknown request type 0"),
-        (
-            Refusal::UnknownRequestType(u64::MAX),
-            48,
-            "Unknown request type 18446744073709551615",
-        ),
-        (Refusal::LsnsUsedUp, 208, "Log sequence numbers are used up"),
-    ];
-    for (refusal, code, text) in table {
-        assert_eq!(rt; code_of(&refusal), code, "at {text}");
-        assert_eq!(rt; text_of(alloc, &refusal)?.as_slice(), text.as_bytes());
-        assert_eq!(rt; refusal.to_string(alloc)?.as_str(), text);
+const NAME: TxnName = TxnName {
+    conn: ConnId(1),
+    stream: StreamId(0),
+};
+
+/// What a reply tells: the first of its tuples, where it has any, or the number of its refusal.
+#[derive(Clone, Copy, Debug, Drop, PartialEq)]
+enum Told<'a> {
+    Empty,
+    Nothing,
+    Tuple(&'a [u8]),
+    Id,
+    Refused(u16),
+}
+
+fn outcome(reply: &Reply) -> Told<'_> {
+    match reply {
+        Reply::Empty => Told::Empty,
+        Reply::Tuples(tuples) => match tuples.as_slice().first() {
+            Some(tuple) => Told::Tuple(tuple.as_slice()),
+            None => Told::Nothing,
+        },
+        Reply::Id => Told::Id,
+        Reply::Refused(refusal) => Told::Refused(code_of(refusal)),
+    }
+}
+
+/// A request in short.
+#[derive(Clone, Copy, Debug, Drop)]
+enum Asked<'a> {
+    /// The space, the limit and the key.
+    Select(u32, u32, &'a [u8]),
+    /// The space and the tuple.
+    Replace(u32, &'a [u8]),
+    Insert(&'a [u8]),
+    Ping,
+    Begin,
+    Id,
+}
+
+fn request_of(alloc: Global, asked: Asked<'_>) -> Result<Request, AllocError> {
+    Ok(match asked {
+        Asked::Select(space, limit, key) => Request::Select {
+            space: SpaceId(space),
+            index: IndexId(0),
+            limit,
+            offset: 0,
+            iterator: 0,
+            key: Bytes::from_slice(alloc, key)?,
+        },
+        Asked::Replace(space, tuple) => Request::Replace {
+            space: SpaceId(space),
+            tuple: Bytes::from_slice(alloc, tuple)?,
+        },
+        Asked::Insert(tuple) => Request::Insert {
+            space: SpaceId(TEST_SPACE),
+            tuple: Bytes::from_slice(alloc, tuple)?,
+        },
+        Asked::Ping => Request::Ping,
+        Asked::Begin => Request::Begin,
+        Asked::Id => Request::Id,
+    })
+}
+
+/// Asks in order, from a new database, and compares.
+fn play(rt: &impl Abort, alloc: Global, steps: &[(Asked<'_>, Told<'_>)]) -> Result<(), Fail> {
+    let mut slow = Slow::new(alloc);
+    for (asked, expected) in steps {
+        let reply = slow.ask(NAME, &request_of(alloc, *asked)?)?;
+        assert_eq!(rt; outcome(&reply), *expected, "at {asked:?}");
     }
     Ok(())
 }
 
-/// The tuple of a reply that has one at most, or its refusal.
-fn tuple_of(reply: &Reply) -> Result<Option<&[u8]>, Refusal> {
-    match reply {
-        Reply::Tuples(tuples) => Ok(tuples.as_slice().first().map(Bytes::as_slice)),
-        Reply::Refused(refusal) => Err(*refusal),
-    }
-}
-
-fn select(space: u32, limit: u32, key: &[u8]) -> Request<'_> {
-    Request::Select { space, limit, key }
-}
-
-fn replace(space: u32, tuple: &[u8]) -> Request<'_> {
-    Request::Replace { space, tuple }
+#[test]
+fn slow_answers(rt: HostRuntime) -> Result<(), Fail> {
+    let short: &[u8] = &[0x92, 0x01, 0xa1, 0x61];
+    let long: &[u8] = &[0x92, 0xcf, 0, 0, 0, 0, 0, 0, 0, 0x01, 0xa1, 0x62];
+    let steps = [
+        (Asked::Select(512, 10, &[0x91, 0x01]), Told::Nothing),
+        (Asked::Replace(512, short), Told::Tuple(short)),
+        (Asked::Select(512, 10, &[0x91, 0x01]), Told::Tuple(short)),
+        (Asked::Replace(512, long), Told::Tuple(long)),
+        (
+            Asked::Select(512, 1, &[0x91, 0xcc, 0x01]),
+            Told::Tuple(long),
+        ),
+        (Asked::Select(512, 0, &[0x91, 0x01]), Told::Nothing),
+        (Asked::Select(512, 10, &[0x91, 0x02]), Told::Nothing),
+        (Asked::Ping, Told::Empty),
+        (Asked::Id, Told::Id),
+    ];
+    play(&rt, rt.alloc(), &steps)
 }
 
 #[test]
-fn slow_answers(rt: HostRuntime) -> Result<(), Fail> {
-    let name = TxnName { conn: 1, stream: 0 };
-    let short: &[u8] = &[0x92, 0x01, 0xa1, 0x61];
-    let long: &[u8] = &[0x92, 0xcf, 0, 0, 0, 0, 0, 0, 0, 0x01, 0xa1, 0x62];
-    let table: [(Request<'_>, Result<Option<&[u8]>, Refusal>); 9] = [
-        (select(512, 10, &[0x91, 0x01]), Ok(None)),
-        (replace(512, short), Ok(Some(short))),
-        (select(512, 10, &[0x91, 0x01]), Ok(Some(short))),
-        (replace(512, long), Ok(Some(long))),
-        (select(512, 1, &[0x91, 0xcc, 0x01]), Ok(Some(long))),
-        (select(512, 0, &[0x91, 0x01]), Ok(None)),
-        (select(512, 10, &[0x91, 0x02]), Ok(None)),
-        (
-            select(513, 10, &[0x91, 0x01]),
-            Err(Refusal::SpaceMissing(513)),
-        ),
-        (replace(513, short), Err(Refusal::SpaceMissing(513))),
+fn slow_refuses(rt: HostRuntime) -> Result<(), Fail> {
+    let tuple: &[u8] = &[0x91, 0x01];
+    let steps = [
+        (Asked::Select(513, 10, &[0x90]), Told::Refused(36)),
+        (Asked::Select(512, 10, &[0x90]), Told::Refused(48)),
+        (Asked::Select(512, 10, &[0x92, 1, 1]), Told::Refused(48)),
+        (Asked::Select(512, 10, &[0x91, 0xff]), Told::Refused(48)),
+        (Asked::Replace(513, tuple), Told::Refused(36)),
+        (Asked::Replace(512, &[0x90]), Told::Refused(48)),
+        (Asked::Insert(tuple), Told::Refused(48)),
+        (Asked::Begin, Told::Refused(48)),
     ];
-    let mut slow = Slow::new(rt.alloc());
-    for (request, expected) in table {
-        let reply = slow.ask(name, &request)?;
-        assert_eq!(rt; tuple_of(&reply), expected, "at {request:?}");
-    }
+    play(&rt, rt.alloc(), &steps)
+}
+
+#[test]
+fn supported_requests(rt: HostRuntime) -> Result<(), Fail> {
+    let key: &[u8] = &[0x91, 0x01];
+    assert!(rt; is_by_primary_key(IndexId(0), 0, 0, key));
+    assert!(rt; !is_by_primary_key(IndexId(1), 0, 0, key));
+    assert!(rt; !is_by_primary_key(IndexId(0), 1, 0, key));
+    assert!(rt; !is_by_primary_key(IndexId(0), 0, 2, key));
+    assert!(rt; begins_with_number(&[0x92, 0xcc, 0xff, 0xc0]));
+    assert!(rt; !begins_with_number(&[0x92, 0xc0, 0xcc, 0xff]));
+    assert_eq!(rt; LONGEST_TUPLE, 1 << 20);
+    let text = mx_base::text_of(rt.alloc(), &not_built(&Request::Rollback))?;
+    assert_eq!(rt; text.as_slice(), b"Unknown request type 16".as_slice());
     Ok(())
 }
 

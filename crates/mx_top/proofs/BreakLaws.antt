@@ -1,24 +1,29 @@
--- How a run breaks off at a unit.
-use Rattle.std.proofs.Common.{◌≡◌, ℕ, List, [], ◌∷◌, ◌++◌, map, Some, None, refl, sym, ap, ◌∙◌, subst}
-use Rattle.std.specs.Prelude.{Option}
+-- How a run breaks off at a unit of many connections, or behind the last one.
+use Rattle.std.proofs.Common.{◌≡◌, ℕ, Bool, true, false, List, [], ◌++◌, map, refl, sym, ap, ◌∙◌, subst}
+use Rattle.std.specs.Prelude.{Option, if◌then◌else◌}
+use Rattle.std.proofs.lemmas.List.{append_assoc}
 use mathlib.Core.List.{IsPrefix}
-use Rattle.std.proofs.lemmas.List.{append-nil}
 use Rattle.mx_outside.specs.Disks.{Disk}
-use Rattle.mx_model.specs.declared.txn_name.TxnName.{TxnName}
-use Rattle.mx_model.specs.Requests.{Ask}
+use Rattle.mx_base.specs.declared.ids.TxnName.{TxnName}
+use Rattle.mx_request.specs.declared.request.Ask.{Ask}
+use Rattle.mx_frame.specs.Packets.{rest_of}
+use Rattle.mx_session.specs.declared.job.Job.{Job}
+use Rattle.mx_session.specs.Jobs.{ends, jobs_of}
+use Rattle.mx_session.specs.Sessions.{SessionState}
 use Rattle.mx_model.specs.Histories.{History, IsLegal, asks_in}
 use Rattle.mx_engine.specs.declared.engine.Engine.{Engine}
 use Rattle.mx_journal.specs.declared.journal.Journal.{Journal}
 use Rattle.mx_top.specs.declared.server.Server.{Server}
-use Rattle.mx_top.specs.Asks.{Job}
-use Rattle.mx_top.specs.Units.{InputUnit, Bytes, named, asks_by, asks_in_unit, asks_of, jobs_in}
+use Rattle.mx_top.specs.Units.{InputUnit, Bytes}
+use Rattle.mx_top.specs.Connections.{came_on, asked_by, asks_by, asks_of, all_asks_of, leaves_of}
 use Rattle.mx_top.specs.Starts.{Start}
-use Rattle.mx_top.specs.Ready.{AnswersAll}
 use Rattle.mx_top.specs.Serving.{Serves}
 use Rattle.mx_top.specs.Crashes.{Lasts, Keep, BreaksOff}
+use Rattle.mx_top.proofs.ConnectionLaws.{asks_by-open}
 use Rattle.mx_top.proofs.KeepLaws.{ready_keeps}
-use Rattle.mx_top.proofs.LastingLaws.{breaks_none, breaks_now, breaks_among}
-use Rattle.mx_top.proofs.UnitLaws.{asks_begin, asks_of-push}
+use Rattle.mx_top.proofs.LastingLaws.{breaks_none, breaks_now, breaks_among, keep_on}
+use Rattle.mx_top.proofs.ServerLaws.{Did, Meets}
+use Rattle.mx_top.proofs.TableLaws.{leaves_where}
 
 -- nothing of the unit was done
 pub unit_untouched : (start : Start) (server : Server) (units : List InputUnit) (history : History) (asks : List (TxnName × Ask))
@@ -28,52 +33,59 @@ unit_untouched start server units history asks states serves =
     (breaks_none start.base history asks states serves.ready.behind.stands.legal
     (ready_keeps start.base history server.engine server.journal states serves.ready))
 
-asks_found : (content : List ℕ) (jobs : List Job) → Some jobs ≡ jobs_in content → map (named 1) jobs ≡ asks_in_unit content
-asks_found content jobs found = ap asks_by found
+-- the bytes that are answered, unless the connection ended
+abbrev asked_with : SessionState → (bytes : List ℕ) → Bool → List (TxnName × Ask)
+asked_with session bytes ended = map asked_by (if ended then [] else jobs_of session.connection (session.rest ++ bytes))
 
-module _ (start : Start) (server : Server) (units : List InputUnit) (history : History) (content : List ℕ) (jobs : List Job) where
-  asks_same : (old : Option (List Disk)) → Serves start server units history old → Some jobs ≡ jobs_in content
-      → asks_in history ++ map (named 1) jobs ≡ asks_of units ++ asks_in_unit content
-  asks_same old serves found = ap (λ l. l ++ map (named 1) jobs) serves.asks ∙ ap (λ l. asks_of units ++ l) (asks_found content jobs found)
+module _ (start : Start) (server : Server) (units : List InputUnit) (history : History) (on : ℕ) (bytes : List ℕ) (old new : Option (List Disk))
+    (serves : Serves start server units history old) where
+  asked_begin : (session : SessionState) → Meets start on (came_on on units) bytes session
+      → IsPrefix (asked_with session bytes session.ended) (asks_by units (Bytes on bytes))
+  asked_begin session met = by_end session.ended refl
+    where
+      by_end : (b : Bool) → session.ended ≡ b → IsPrefix (asked_with session bytes b) (asks_by units (Bytes on bytes))
+      by_end true over = (asks_by units (Bytes on bytes), refl)
+      by_end false goes_on =
+          let came = came_on on units in
+          let jobs : jobs_of session.connection (session.rest ++ bytes) ≡ jobs_of on (rest_of came ++ bytes) =
+          ap (λ (n : ℕ). jobs_of n (session.rest ++ bytes)) met.whose ∙ ap (λ (l : List ℕ). jobs_of on (l ++ bytes)) (met.rest goes_on) in (
+            leaves_where on (ends on (rest_of came ++ bytes)),
+            ap (λ (l : List Job). map asked_by l ++ leaves_where on (ends on (rest_of came ++ bytes))) jobs
+                ∙ sym (asks_by-open units on came bytes refl (sym met.ended ∙ goes_on)),
+          )
 
   -- it broke off at one of the jobs
-  pub unit_broken : (old new : Option (List Disk)) → Serves start server units history old → Some jobs ≡ jobs_in content
-      → BreaksOff start.base history (asks_in history ++ map (named 1) jobs) old new
-      → BreaksOff start.base history (asks_of units ++ asks_in_unit content) old new
-  unit_broken old new serves found breaks = subst (λ l. BreaksOff start.base history l old new) (asks_same old serves found) breaks
+  pub broken_in : (session : SessionState) → Meets start on (came_on on units) bytes session
+      → BreaksOff start.base history (asks_in history ++ asked_with session bytes session.ended) old new
+      → BreaksOff start.base history (asks_of units ++ asks_by units (Bytes on bytes)) old new
+  broken_in session met breaks =
+      let asked = asked_with session bytes session.ended in
+      let (rest, is) = asked_begin session met in
+      breaks_among start.base history (asks_in history ++ asked) (asks_of units ++ asks_by units (Bytes on bytes)) old new (
+        rest,
+        append_assoc (asks_in history) asked rest ∙ ap (λ (l : List (TxnName × Ask)). asks_in history ++ l) is
+            ∙ ap (λ (l : List (TxnName × Ask)). l ++ asks_by units (Bytes on bytes)) serves.asks,
+      )
+      breaks
 
   -- it broke off behind all jobs
-  pub unit_done : (engine : Engine) (journal : Journal) (old new : Option (List Disk)) (before after : List ℕ) → Serves start server units history old
-      → Some jobs ≡ jobs_in content → AnswersAll start.base history engine journal old new jobs before after
-      → BreaksOff start.base history (asks_of units ++ asks_in_unit content) old new
-  unit_done engine journal old new before after serves found answers =
-      let asks = asks_of units ++ asks_in_unit content in
-      let since = answers.since in
-      let same : asks_in answers.history ≡ asks = answers.asks ∙ asks_same old serves found in
+  pub broken_behind : (engine : Engine) (journal : Journal) (later : SessionState) (ended : Bool)
+      → Did start units history on bytes engine journal old new later ended
+      → BreaksOff start.base history (asks_of units ++ asks_by units (Bytes on bytes)) old new
+  broken_behind engine journal later ended done =
+      let asks = asks_of units ++ asks_by units (Bytes on bytes) in
+      let since = done.since in
       breaks_now start.base since.0 history asks old new
-      (subst (λ h. IsLegal start.base h) since.1 answers.ready.behind.stands.legal)
-      (subst (λ h. IsPrefix (asks_in h) asks) since.1 ([], append-nil (asks_in answers.history) ∙ same))
-      (subst (λ h. Lasts start.base h old new) since.1 answers.lasts)
-      (subst (λ h. Keep start.base h h new) since.1 (ready_keeps start.base answers.history engine journal new answers.ready))
+      (subst (λ h. IsLegal start.base h) since.1 done.ready.behind.stands.legal)
+      (subst (λ h. IsPrefix (asks_in h) asks) since.1
+      (leaves_where on ended, done.asks ∙ ap (λ (l : List (TxnName × Ask)). l ++ asks_by units (Bytes on bytes)) serves.asks))
+      (subst (λ h. Lasts start.base h old new) since.1 done.lasts)
+      (subst (λ h. Keep start.base h h new) since.1 (ready_keeps start.base done.history engine journal new done.ready))
 
--- the same among the requests of the input's units
-pub untouched_among : (start : Start) (server : Server) (units all : List InputUnit) (history : History) (states : Option (List Disk))
-    → IsPrefix units all → Serves start server units history states → BreaksOff start.base history (asks_of all) states states
-untouched_among start server units all history states among serves =
-    breaks_among start.base history (asks_of units ++ []) (asks_of all) states states
-    (subst (λ l. IsPrefix l (asks_of all)) (sym (append-nil (asks_of units))) (asks_begin units all among))
-    (unit_untouched start server units history [] states serves)
-
--- a unit whose packets each have a job is one of the input's
-pub broken_among : (start : Start) (server : Server) (units all : List InputUnit) (history : History) (content : List ℕ) (old new : Option (List Disk))
-    → IsPrefix units all → ((jobs : List Job) → jobs_in content ≡ Some jobs → IsPrefix (units ++ Bytes 1 content ∷ []) all)
-    → Serves start server units history old → BreaksOff start.base history (asks_of units ++ asks_in_unit content) old new
-    → BreaksOff start.base history (asks_of all) old new
-broken_among start server units all history content old new among next serves breaks =
-    breaks_among start.base history (asks_of units ++ asks_in_unit content) (asks_of all) old new (by_jobs (jobs_in content) refl) breaks
-  where
-    by_jobs : (found : Option (List Job)) → jobs_in content ≡ found → IsPrefix (asks_of units ++ asks_by found) (asks_of all)
-    by_jobs None is = subst (λ l. IsPrefix l (asks_of all)) (sym (append-nil (asks_of units))) (asks_begin units all among)
-    by_jobs (Some jobs) is =
-        subst (λ l. IsPrefix l (asks_of all)) (asks_of-push units content jobs serves.whole is)
-        (asks_begin (units ++ Bytes 1 content ∷ []) all (next jobs is))
+-- it broke off behind all units
+pub end_broken : (start : Start) (server : Server) (units : List InputUnit) (history : History) (old new : Option (List Disk))
+    → Serves start server units history old → Lasts start.base history old new → BreaksOff start.base history (all_asks_of units) old new
+end_broken start server units history old new serves lasts =
+    breaks_now start.base [] history (all_asks_of units) old new serves.ready.behind.stands.legal
+    (leaves_of units, ap (λ (l : List (TxnName × Ask)). l ++ leaves_of units) serves.asks) lasts
+    (keep_on start.base history history old new (ready_keeps start.base history server.engine server.journal old serves.ready) lasts)

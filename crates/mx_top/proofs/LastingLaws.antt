@@ -7,9 +7,9 @@ use mathlib.Core.List.{IsPrefix}
 use Rattle.mx_outside.specs.Disks.{Disk, IfTold, ToldAlike}
 use Rattle.mx_outside.specs.Moments.{Moments}
 use Rattle.mx_model.specs.declared.tx.Tx.{Tx}
-use Rattle.mx_model.specs.declared.txn_name.TxnName.{TxnName}
+use Rattle.mx_base.specs.declared.ids.TxnName.{TxnName}
+use Rattle.mx_request.specs.declared.request.Ask.{Ask}
 use Rattle.mx_model.specs.declared.reply.Reply.{Reply}
-use Rattle.mx_model.specs.Requests.{Ask}
 use Rattle.mx_model.specs.Histories.{Base, History, Asked, Left, Took, Confirmed, IsLegal, asks_in, commits_of, journal_of, ledger_of}
 use Rattle.mx_journal.proofs.MomentLaws.{no_moments, joined, kept}
 use Rattle.mx_journal.proofs.ToldLaws.{told_both, told_then}

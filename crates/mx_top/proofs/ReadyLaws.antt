@@ -7,10 +7,11 @@ use Rattle.std.proofs.lemmas.List.{append_assoc, drop_more, take_more, take-appe
 use Rattle.mx_xlog.specs.declared.head.Head.{Head}
 use Rattle.mx_outside.specs.Disks.{Disk, File, IfTold, ToldAlike, on_disk}
 use Rattle.mx_model.specs.declared.tx.Tx.{Tx}
-use Rattle.mx_model.specs.declared.txn_name.TxnName.{TxnName}
+use Rattle.mx_base.specs.declared.ids.TxnName.{TxnName}
+use Rattle.mx_request.specs.declared.request.Ask.{Ask}
+use Rattle.mx_session.specs.declared.job.Job.{Job}
 use Rattle.mx_model.specs.declared.reply.Reply.{Reply}
 use Rattle.mx_model.specs.State.{State}
-use Rattle.mx_model.specs.Requests.{Ask}
 use Rattle.mx_model.specs.Answers.{state_after_rows}
 use Rattle.mx_model.specs.Transactions.{clock_after, clock_after_one}
 use Rattle.mx_model.specs.Files.{AllFollow, Continues, ids_in, same_bytes}
@@ -23,8 +24,6 @@ use Rattle.mx_engine.specs.Standing.{EngineStandsFor}
 use Rattle.mx_journal.specs.declared.journal.Journal.{Journal}
 use Rattle.mx_journal.specs.Written.{IsWritten, Waits, IsNow, SameOthers, file_text, name_of}
 use Rattle.mx_journal.proofs.ToldLaws.{told_both, told_now}
-use Rattle.mx_top.specs.Asks.{Job}
-use Rattle.mx_top.specs.Units.{named}
 use Rattle.mx_top.specs.Starts.{AllOnDisk}
 use Rattle.mx_top.specs.Ready.{Behind, Ready, Replied, AllComeNext, step_of, taken_of}
 
@@ -82,13 +81,12 @@ behind_asked base history old new journal states name ask reply behind stands =
       written = subst (λ txs. IfTold states (λ disk past. IsOnDisk base journal txs disk)) same behind.written;
     }
 
--- the journal and the directory after a request was replied
+-- the journal and the directory after a job was replied
 pub behind_replied : (base : Base) (history : History) (old new : Engine) (journal : Journal) (states : Option (List Disk))
-    (job : Job) (before after : List ℕ) → Ready base history old journal states → (replied : Replied base history new job before after)
+    (job : Job) (packet : List ℕ) → Ready base history old journal states → (replied : Replied base history new job packet)
     → Behind base (step_of job replied.reply ∷ history) new journal states
-behind_replied base history old new journal states job before after ready replied =
-    let asked = named 1 job in
-    behind_asked base history old new journal states asked.0 asked.1 replied.reply ready.behind replied.stands
+behind_replied base history old new journal states job packet ready replied =
+    behind_asked base history old new journal states job.name job.ask replied.reply ready.behind replied.stands
 
 module _ (base : Base) (history : History) (engine : Engine) (journal : Journal) (states : Option (List Disk)) (txs : List Tx) (upto : ℕ)
     (behind : Behind base history engine journal states) (took : IsLegal base (Took txs upto ∷ history)) where

@@ -14,7 +14,8 @@ use Rattle.mx_model.proofs.CommitLaws.{all_follow-append, commits_follow}
 use Rattle.mx_model.proofs.OnceLaws.{one_state}
 use Rattle.mx_journal.proofs.MomentLaws.{no_moments, joined}
 use Rattle.mx_journal.proofs.ToldLaws.{told_chain, told_then, where_told}
-use Rattle.mx_top.specs.Units.{units_of, asks_of}
+use Rattle.mx_top.specs.Units.{units_of}
+use Rattle.mx_top.specs.Connections.{all_asks_of}
 use Rattle.mx_top.specs.Starts.{Start, Begins, base_of}
 use Rattle.mx_top.specs.Crashes.{Survive, NoFewerSurvive, FollowFromNew, Recovers, ComeTo, Extend, Lasts, Keep}
 use Rattle.mx_top.specs.Progress.{BrokeOff}
@@ -79,7 +80,7 @@ opening_seen seed input earlier old new recovers opens =
       begins = begins;
       history = [];
       legal = tt;
-      asks = (asks_of (units_of input).0, refl);
+      asks = (all_asks_of (units_of input).0, refl);
       transactions = earlier;
       all = sym (append-nil earlier);
       moments = opens earlier ([], append-nil earlier) recovers.follow;

@@ -14,7 +14,7 @@ use Rattle.mx_top.specs.declared.status.Status.TheVariants as status
 use Rattle.mx_top.specs.Runs.{PlaceSeen, fault_place, status_by}
 use Rattle.mx_top.specs.Progress.{ReadTo, Wrote, BrokeOff, GoesOn}
 use Rattle.mx_top.proofs.LastingLaws.{lasts_none}
-use Rattle.mx_top.proofs.BreakLaws.{untouched_among}
+use Rattle.mx_top.proofs.ProgressLaws.{untouched_among}
 
 -- The input was read up to this place; and where the server had served nothing first, all of the output for the units read
 -- was written.

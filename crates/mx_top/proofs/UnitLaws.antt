@@ -1,146 +1,146 @@
--- What one unit more adds: bytes, jobs, asks and output.
-use Rattle.std.proofs.Common.{◌≡◌, ℕ, List, [], ◌∷◌, ◌++◌, length, map, refl, sym, ap, ◌∙◌}
-use Rattle.std.specs.Prelude.{◌==◌, if◌then◌else◌, Some}
-use Rattle.std.specs.List.{filter_map}
-use Rattle.std.proofs.lemmas.List.Elements.{filter_map-append}
-use Rattle.std.proofs.lemmas.List.{append-nil, append_assoc, drop_at}
+-- Reading units: what stands first, that it takes bytes, and how the units read so far stand to those of the input.
+use Rattle.std.proofs.Common.{◌≡◌, ℕ, ◌+◌, ◌-◌, ◌<◌, ◌≤◌, Bool, true, false, List, [], ◌∷◌, ◌++◌, length, drop, Some, None, refl, sym, ap, ◌∙◌, arith, nat_le}
+use Rattle.std.specs.Prelude.{◌&&◌}
+use Rattle.std.proofs.lemmas.Bool.{leb-true}
+use Rattle.std.proofs.lemmas.List.{append-nil, append_assoc, length-drop, drop-drop}
 use mathlib.Core.List.{IsPrefix}
-use Rattle.mx_msgpack.specs.Readers.{◌>>=◌, all_from}
-use Rattle.mx_msgpack.proofs.Options.{bind_some, same_some}
-use Rattle.mx_msgpack.proofs.ReaderLaws.{all_from-append}
-use Rattle.mx_model.specs.Histories.{History, Asked, Left, Took, Confirmed, replied}
-use Rattle.mx_top.specs.Packets.{packet_at, packets_of}
-use Rattle.mx_top.specs.Asks.{Job, job_in}
-use Rattle.mx_top.specs.Units.{InputUnit, Bytes, jobs_for, only_whole, jobs_in, bytes_on, jobs_on, named, gained, asks_from, asks_of}
-use Rattle.mx_top.specs.Starts.{Start}
-use Rattle.mx_top.specs.TraceOutput.{reply_on, replies_on, sent_on, output_unit, output_from}
-use Rattle.mx_top.proofs.PacketLaws.{packet_at-Advances, packet_at-IsStable}
+use Rattle.mx_msgpack.specs.Readers.{Advances, all_from, number_at, bytes_at}
+use Rattle.mx_msgpack.proofs.Options.{bind_some, allowed, same_some}
+use Rattle.mx_msgpack.proofs.PieceLaws.{number_rest, bytes_at-shorter}
+use Rattle.mx_msgpack.proofs.ReaderLaws.{all_from_none, all_from_some}
+use Rattle.mx_top.specs.Units.{InputUnit, last_connection, longest_unit, last_place, UnitHead, is_unit_kind, is_within, unit_head_at, unit_by, content_at, unit_at, units_of}
 
-pub gained-append : {X : Type 0} (xs ys : List X) → gained xs (xs ++ ys) ≡ ys
-gained-append xs ys = drop_at xs ys (length xs) refl
+-- ---- what stands first
 
--- packets with a job each, and the jobs that a filter finds
-jobs_found : (packets : List (List ℕ)) (jobs : List Job) → jobs_for packets ≡ Some jobs → filter_map job_in packets ≡ jobs
-jobs_found [] jobs e = same_some [] jobs e
-jobs_found (packet ∷ packets) jobs e =
-    let first = bind_some (job_in packet) (λ job. jobs_for packets >>= λ others. Some (job ∷ others)) jobs e in
-    let rest = bind_some (jobs_for packets) (λ others. Some (first.0 ∷ others)) jobs first.2 in
-    let found = jobs_found packets rest.0 rest.1 in
-    rw first.1 (ap (λ l. first.0 ∷ l) found ∙ same_some (first.0 ∷ rest.0) jobs rest.2)
+and_three : (a b c : Bool) → (a && b && c) ≡ true → (a ≡ true) × (b ≡ true) × (c ≡ true)
+and_three true true true e = (refl, refl, refl)
+and_three true true false e = absurd cc
+and_three true false c e = absurd cc
+and_three false b c e = absurd cc
 
--- bytes that are whole packets, each with a job
-pub whole_parts : (found : List (List ℕ) × List ℕ) (jobs : List Job) → only_whole found ≡ Some jobs
-    → (found.1 ≡ []) × (filter_map job_in found.0 ≡ jobs)
-whole_parts (packets, []) jobs e = (refl, jobs_found packets jobs e)
-whole_parts (packets, byte ∷ rest) jobs e = absurd cc
+and_two : (a b : Bool) → (a && b) ≡ true → (a ≡ true) × (b ≡ true)
+and_two true b e = (refl, e)
+and_two false b e = absurd cc
 
-pub jobs_parts : (bytes : List ℕ) (jobs : List Job) → jobs_in bytes ≡ Some jobs
-    → ((all_from packet_at bytes).1 ≡ []) × (filter_map job_in (packets_of bytes) ≡ jobs)
-unfolding jobs_in
-jobs_parts bytes jobs e = whole_parts (all_from packet_at bytes) jobs e
-
--- the packets of bytes and more bytes: those of the bytes, and others
-pub packets_of-append : (bytes more : List ℕ) → packets_of (bytes ++ more) ≡ packets_of bytes ++ packets_of ((all_from packet_at bytes).1 ++ more)
-packets_of-append bytes more = ap (λ x. x.0) (all_from-append packet_at packet_at-Advances packet_at-IsStable bytes more)
-
--- after whole packets, the packets of more bytes are their own
-pub packets_of-whole : (bytes more : List ℕ) → (all_from packet_at bytes).1 ≡ [] → packets_of (bytes ++ more) ≡ packets_of bytes ++ packets_of more
-packets_of-whole bytes more whole = packets_of-append bytes more ∙ ap (λ l. packets_of bytes ++ packets_of (l ++ more)) whole
-
-pub whole-append : (bytes more : List ℕ) → (all_from packet_at bytes).1 ≡ [] → (all_from packet_at more).1 ≡ []
-    → (all_from packet_at (bytes ++ more)).1 ≡ []
-whole-append bytes more whole others =
-    ap (λ x. x.1) (all_from-append packet_at packet_at-Advances packet_at-IsStable bytes more)
-    ∙ ap (λ l. (all_from packet_at (l ++ more)).1) whole ∙ others
-
-pub bytes_on-append : (on : ℕ) (units more : List InputUnit) → bytes_on on (units ++ more) ≡ bytes_on on units ++ bytes_on on more
-bytes_on-append on [] more = refl
-bytes_on-append on (Bytes to bytes ∷ units) more =
-    ap (λ l. (if to == on then bytes else []) ++ l) (bytes_on-append on units more)
-    ∙ sym (append_assoc (if to == on then bytes else []) (bytes_on on units) (bytes_on on more))
-
--- the bytes of a unit, where it is on this connection
-abbrev pub bytes_to : ℕ → ℕ → List ℕ → List ℕ
-bytes_to to on bytes = if to == on then bytes else []
-
-pub bytes_on-push : (on to : ℕ) (bytes : List ℕ) (units : List InputUnit)
-    → bytes_on on (units ++ Bytes to bytes ∷ []) ≡ bytes_on on units ++ bytes_to to on bytes
-bytes_on-push on to bytes units =
-    bytes_on-append on units (Bytes to bytes ∷ []) ∙ ap (λ l. bytes_on on units ++ l) (append-nil (bytes_to to on bytes))
-
--- a connection's jobs begin those that it has later
-pub jobs_on-prefix : (on : ℕ) (units more : List InputUnit) → (others : List Job) × (jobs_on on (units ++ more) ≡ jobs_on on units ++ others)
-jobs_on-prefix on units more =
-    let rest = packets_of ((all_from packet_at (bytes_on on units)).1 ++ bytes_on on more) in (
-      filter_map job_in rest,
-      ap (λ b. filter_map job_in (packets_of b)) (bytes_on-append on units more)
-          ∙ ap (filter_map job_in) (packets_of-append (bytes_on on units) (bytes_on on more))
-          ∙ filter_map-append job_in (packets_of (bytes_on on units)) rest,
+-- The bytes after a head are those after nine. The head is one of bytes or of a close, and passes no limit.
+pub head_parts : (place : ℕ) (bytes : List ℕ) (found : UnitHead × List ℕ) → unit_head_at place bytes ≡ Some found
+    → (found.1 ≡ drop 9 bytes) × (9 ≤ length bytes) × (is_unit_kind found.0 ≡ true) × (is_within place found.0 ≡ true)
+unfolding unit_head_at
+head_parts place bytes found e =
+    let kind = bind_some (number_at 1 bytes) _ found e in
+    let connection = bind_some (number_at 4 kind.0.1) _ found kind.2 in
+    let size = bind_some (number_at 4 connection.0.1) _ found connection.2 in
+    let head : UnitHead = record { kind = kind.0.0; connection = connection.0.0; size = size.0.0 } in
+    let fits = allowed (is_unit_kind head && is_within place head) (Some (head, size.0.1)) found size.2 in
+    let same = same_some (head, size.0.1) found fits.1 in
+    let both = and_two (is_unit_kind head) (is_within place head) fits.0 in
+    let one = number_rest 1 bytes kind.0 kind.1 in
+    let two = number_rest 4 kind.0.1 connection.0 connection.1 in
+    let three = number_rest 4 connection.0.1 size.0 size.1 in
+    let l1 = ap length one.0 ∙ length-drop 1 bytes in
+    let l2 = ap length two.0 ∙ length-drop 4 kind.0.1 in (
+      sym (ap (λ (x : UnitHead × List ℕ). x.1) same)
+          ∙ three.0 ∙ ap (λ (l : List ℕ). drop 4 l) two.0 ∙ ap (λ (l : List ℕ). drop 4 (drop 4 l)) one.0
+          ∙ drop-drop 4 4 (drop 1 bytes) ∙ drop-drop 8 1 bytes,
+      omega arith,
+      sym (ap (λ (x : UnitHead × List ℕ). is_unit_kind x.0) same) ∙ both.0,
+      sym (ap (λ (x : UnitHead × List ℕ). is_within place x.0) same) ∙ both.1,
     )
 
--- after whole packets, a unit of whole packets adds its jobs
-pub jobs_on-push : (content : List ℕ) (units : List InputUnit) (jobs : List Job) → (all_from packet_at (bytes_on 1 units)).1 ≡ []
-    → jobs_in content ≡ Some jobs
-    → jobs_on 1 (units ++ Bytes 1 content ∷ []) ≡ jobs_on 1 units ++ jobs
-jobs_on-push content units jobs whole found =
-    let p = jobs_parts content jobs found in
-    ap (λ b. filter_map job_in (packets_of b)) (bytes_on-push 1 1 content units)
-    ∙ ap (filter_map job_in) (packets_of-whole (bytes_on 1 units) content whole)
-    ∙ filter_map-append job_in (packets_of (bytes_on 1 units)) (packets_of content)
-    ∙ ap (λ l. jobs_on 1 units ++ l) p.1
+-- the limits as bounds
+pub head_within : (place : ℕ) (head : UnitHead) → is_within place head ≡ true
+    → (head.connection ≤ last_connection) × (head.size ≤ longest_unit) × ((place + 9) + head.size ≤ last_place)
+head_within place head e =
+    let p = and_three (nat_le head.connection last_connection) (nat_le head.size longest_unit) (nat_le ((place + 9) + head.size) last_place) e in
+    (leb-true head.connection last_connection p.0, leb-true head.size longest_unit p.1, leb-true ((place + 9) + head.size) last_place p.2)
 
--- the asks of one unit more
-pub asks_from-push : (earlier units : List InputUnit) (on : ℕ) (bytes : List ℕ) → asks_from earlier (units ++ Bytes on bytes ∷ [])
-    ≡ asks_from earlier units ++ map (named on) (gained (jobs_on on (earlier ++ units)) (jobs_on on ((earlier ++ units) ++ Bytes on bytes ∷ [])))
-asks_from-push earlier [] on bytes =
-    let asks = map (named on) (gained (jobs_on on earlier) (jobs_on on (earlier ++ Bytes on bytes ∷ []))) in
-    append-nil asks ∙ ap (λ l. map (named on) (gained (jobs_on on l) (jobs_on on (l ++ Bytes on bytes ∷ [])))) (sym (append-nil earlier))
-asks_from-push earlier (Bytes to first ∷ units) on bytes =
-    let front = map (named to) (gained (jobs_on to earlier) (jobs_on to (earlier ++ Bytes to first ∷ []))) in
-    let later = earlier ++ Bytes to first ∷ [] in
-    ap (λ l. front ++ l) (asks_from-push later units on bytes)
-    ∙ sym (append_assoc front (asks_from later units) _)
-    ∙ ap (λ l. (front ++ asks_from later units) ++ map (named on) (gained (jobs_on on l) (jobs_on on (l ++ Bytes on bytes ∷ [])))) (append_assoc earlier (Bytes to first ∷ []) units)
+-- the bytes after a head are those after nine, and the unit ends within the last place
+pub head_rest : (place : ℕ) (bytes : List ℕ) (found : UnitHead × List ℕ) → unit_head_at place bytes ≡ Some found
+    → (found.1 ≡ drop 9 bytes) × (9 ≤ length bytes) × ((place + 9) + found.0.size ≤ last_place)
+head_rest place bytes found e =
+    let p = head_parts place bytes found e in
+    (p.0, p.1, (head_within place found.0 p.3).2)
 
--- the output of one unit more
-pub output_from-push : (start : Start) (earlier units : List InputUnit) (on : ℕ) (bytes : List ℕ) (history : History)
-    → output_from start earlier (units ++ Bytes on bytes ∷ []) history
-    ≡ output_from start earlier units history ++ output_unit on (gained (sent_on start on (earlier ++ units) history) (sent_on start on ((earlier ++ units) ++ Bytes on bytes ∷ []) history))
-output_from-push start earlier [] on bytes history =
-    let unit = output_unit on (gained (sent_on start on earlier history) (sent_on start on (earlier ++ Bytes on bytes ∷ []) history)) in
-    append-nil unit ∙ ap (λ l. output_unit on (gained (sent_on start on l history) (sent_on start on (l ++ Bytes on bytes ∷ []) history))) (sym (append-nil earlier))
-output_from-push start earlier (Bytes to first ∷ units) on bytes history =
-    let front = output_unit to (gained (sent_on start to earlier history) (sent_on start to (earlier ++ Bytes to first ∷ []) history)) in
-    let later = earlier ++ Bytes to first ∷ [] in
-    ap (λ l. front ++ l) (output_from-push start later units on bytes history)
-    ∙ sym (append_assoc front (output_from start later units history) _)
-    ∙ ap (λ l. (front ++ output_from start later units history) ++ output_unit on (gained (sent_on start on l history) (sent_on start on (l ++ Bytes on bytes ∷ []) history))) (append_assoc earlier (Bytes to first ∷ []) units)
+-- the head and the bytes that a unit was made of
+pub content_parts : (place : ℕ) (bytes : List ℕ) (found : InputUnit × List ℕ) → content_at place bytes ≡ Some found
+    → (head : UnitHead × List ℕ) × (content : List ℕ × List ℕ) × (unit_head_at place bytes ≡ Some head)
+    × (bytes_at head.0.size head.1 ≡ Some content) × ((unit_by head.0 content.0, content.1) ≡ found)
+unfolding content_at
+content_parts place bytes found e =
+    let head = bind_some (unit_head_at place bytes) _ found e in
+    let content = bind_some (bytes_at head.0.0.size head.0.1) _ found head.2 in
+    (head.0, content.0, head.1, content.1, same_some (unit_by head.0.0 content.0.0, content.0.1) found content.2)
 
--- the replies to a connection stand in the steps that have one
-pub replies_on-replied : (on : ℕ) (history : History) → replies_on on (replied history) ≡ replies_on on history
-replies_on-replied on [] = refl
-replies_on-replied on (Asked name ask reply ∷ earlier) = ap (λ l. l ++ reply_on on (Asked name ask reply)) (replies_on-replied on earlier)
-replies_on-replied on (Left other ∷ earlier) = replies_on-replied on earlier ∙ sym (append-nil (replies_on on earlier))
-replies_on-replied on (Took transactions upto ∷ earlier) = replies_on-replied on earlier ∙ sym (append-nil (replies_on on earlier))
-replies_on-replied on (Confirmed upto ∷ earlier) = replies_on-replied on earlier ∙ sym (append-nil (replies_on on earlier))
+-- a unit takes nine bytes at least
+pub content_at-shorter : (place : ℕ) (bytes : List ℕ) (found : InputUnit × List ℕ) → content_at place bytes ≡ Some found → length found.1 < length bytes
+content_at-shorter place bytes found e =
+    let (head, content, is, taken, same) = content_parts place bytes found e in
+    let p = head_rest place bytes head is in
+    let l = ap length p.0 ∙ length-drop 9 bytes in
+    let s = bytes_at-shorter head.0.size head.1 content taken in
+    let r = ap (λ (x : InputUnit × List ℕ). length x.1) same in
+    let nine = p.1 in
+    omega arith
 
-asks_from-append : (earlier units more : List InputUnit) → asks_from earlier (units ++ more) ≡ asks_from earlier units ++ asks_from (earlier ++ units) more
-asks_from-append earlier [] more = ap (λ l. asks_from l more) (sym (append-nil earlier))
-asks_from-append earlier (Bytes on bytes ∷ units) more =
-    let front = map (named on) (gained (jobs_on on earlier) (jobs_on on (earlier ++ Bytes on bytes ∷ []))) in
-    let later = earlier ++ Bytes on bytes ∷ [] in
-    ap (λ l. front ++ l) (asks_from-append later units more)
-    ∙ sym (append_assoc front (asks_from later units) (asks_from (later ++ units) more))
-    ∙ ap (λ l. (front ++ asks_from later units) ++ asks_from l more) (append_assoc earlier (Bytes on bytes ∷ []) units)
+pub unit_at-Advances : (total : ℕ) → Advances (unit_at total)
+unfolding unit_at
+unit_at-Advances total bytes found e = content_at-shorter (total - length bytes) bytes found e
 
--- the requests of units that begin others begin theirs
-pub asks_begin : (units all : List InputUnit) → IsPrefix units all → IsPrefix (asks_of units) (asks_of all)
-asks_begin units all (rest, is) = (asks_from units rest, sym (asks_from-append [] units rest) ∙ ap asks_of is)
+-- what stands first in what is left of an input is what stands at this place
+pub unit_here : (input rest : List ℕ) (place : ℕ) → place + length rest ≡ length input → unit_at (length input) rest ≡ content_at place rest
+unfolding unit_at
+unit_here input rest place at = let here : length input - length rest ≡ place = omega arith in ap (λ (p : ℕ). content_at p rest) here
 
--- the requests of one unit more
-pub asks_of-push : (units : List InputUnit) (content : List ℕ) (jobs : List Job) → (all_from packet_at (bytes_on 1 units)).1 ≡ [] → jobs_in content ≡ Some jobs
-    → asks_of (units ++ Bytes 1 content ∷ []) ≡ asks_of units ++ map (named 1) jobs
-asks_of-push units content jobs whole found =
-    asks_from-push [] units 1 content
-    ∙ ap (λ l. asks_of units ++ map (named 1) l)
-    (ap (gained (jobs_on 1 units)) (jobs_on-push content units jobs whole found) ∙ gained-append (jobs_on 1 units) jobs)
+pub unit_some : (input rest after : List ℕ) (unit : InputUnit) (place : ℕ) → place + length rest ≡ length input → content_at place rest ≡ Some (unit, after)
+    → unit_at (length input) rest ≡ Some (unit, after)
+unit_some input rest after unit place at found = unit_here input rest place at ∙ found
+
+pub unit_none : (input rest : List ℕ) (place : ℕ) → place + length rest ≡ length input → content_at place rest ≡ None → unit_at (length input) rest ≡ None
+unit_none input rest place at none = unit_here input rest place at ∙ none
+
+pub unit_at-nil : (total : ℕ) → unit_at total [] ≡ None
+unfolding unit_at content_at unit_head_at
+unit_at-nil total = refl
+
+-- ---- the units of an input
+
+-- these units were read, and then come those of the rest
+abbrev pub Read : (input rest : List ℕ) → List InputUnit → Type 0
+Read input rest units =
+    units_of input ≡ (units ++ (all_from (unit_at (length input)) rest).0, (all_from (unit_at (length input)) rest).1)
+
+pub units_of-start : (input : List ℕ) → Read input input []
+unfolding units_of
+units_of-start input = refl
+
+-- no unit stands first in what is left
+pub units_of-none : (input rest : List ℕ) (units : List InputUnit) → Read input rest units → unit_at (length input) rest ≡ None
+    → units_of input ≡ (units, rest)
+units_of-none input rest units read none =
+    read
+    ∙ ap (λ (x : List InputUnit × List ℕ). (units ++ x.0, x.1)) (all_from_none (unit_at (length input)) (unit_at-Advances (length input)) rest none)
+    ∙ ap (λ (u : List InputUnit). (u, rest)) (append-nil units)
+
+-- one unit stands first in what is left
+pub units_of-some : (input rest after : List ℕ) (units : List InputUnit) (unit : InputUnit) → Read input rest units
+    → unit_at (length input) rest ≡ Some (unit, after) → Read input after (units ++ unit ∷ [])
+units_of-some input rest after units unit read found =
+    let others = all_from (unit_at (length input)) after in
+    read
+    ∙ ap (λ (x : List InputUnit × List ℕ). (units ++ x.0, x.1)) (all_from_some (unit_at (length input)) (unit_at-Advances (length input)) rest (unit, after) found)
+    ∙ ap (λ (u : List InputUnit). (u, others.1)) (sym (append_assoc units (unit ∷ []) others.0))
+
+-- nothing is left
+pub units_of-all : (input : List ℕ) (units : List InputUnit) → Read input [] units → units_of input ≡ (units, [])
+units_of-all input units read = units_of-none input [] units read (unit_at-nil (length input))
+
+-- the units so far begin those of the input
+pub units_of-begun : (input rest : List ℕ) (units : List InputUnit) → Read input rest units → IsPrefix units (units_of input).0
+units_of-begun input rest units read =
+    ((all_from (unit_at (length input)) rest).0, sym (ap (λ (x : List InputUnit × List ℕ). x.0) read))
+
+-- and so they do with the one that stands first in what is left
+pub units_of-next : (input rest after : List ℕ) (units : List InputUnit) (unit : InputUnit) → Read input rest units
+    → unit_at (length input) rest ≡ Some (unit, after) → IsPrefix (units ++ unit ∷ []) (units_of input).0
+units_of-next input rest after units unit read found =
+    units_of-begun input after (units ++ unit ∷ []) (units_of-some input rest after units unit read found)

@@ -4,8 +4,8 @@ use mathlib.Core.List.{IsPrefix}
 use Rattle.mx_outside.specs.Disks.{Disk, Files, IfTold, ToldAlike}
 use Rattle.mx_outside.specs.Moments.{Moments}
 use Rattle.mx_model.specs.declared.tx.Tx.{Tx}
-use Rattle.mx_model.specs.declared.txn_name.TxnName.{TxnName}
-use Rattle.mx_model.specs.Requests.{Ask}
+use Rattle.mx_base.specs.declared.ids.TxnName.{TxnName}
+use Rattle.mx_request.specs.declared.request.Ask.{Ask}
 use Rattle.mx_model.specs.State.{first_state}
 use Rattle.mx_model.specs.Transactions.{state_after, clock_after}
 use Rattle.mx_model.specs.Files.{Reached, IsDirectoryState, AllFollow, nothing_yet}

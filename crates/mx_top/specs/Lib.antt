@@ -1,9 +1,7 @@
-pub mod Asks
+pub mod Connections
 pub mod Crashes
-pub mod Greeting
 pub mod Loading
 pub mod OpeningFaults
-pub mod Packets
 pub mod Passing
 pub mod Progress
 pub mod Ready
@@ -16,5 +14,5 @@ pub mod Starts
 pub mod Stops
 pub mod TraceOutput
 pub mod Units
-pub mod Views
 pub mod Words
+pub mod UnitViews

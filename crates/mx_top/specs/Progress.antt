@@ -8,10 +8,10 @@ use Rattle.mx_top.specs.declared.status.Status.{Status}
 use Rattle.mx_top.specs.declared.status.Status.TheVariants as status
 use Rattle.mx_top.specs.declared.stop.Stop.{Stop}
 use Rattle.mx_top.specs.declared.stop.Stop.TheVariants.{BadInput, ReadFault, WriteFault, DiskFault, NoMemory}
-use Rattle.mx_top.specs.Units.{InputUnit, content_at, unit_at, units_of, asks_of}
+use Rattle.mx_top.specs.Units.{InputUnit, content_at, unit_at, units_of}
+use Rattle.mx_top.specs.Connections.{all_asks_of}
 use Rattle.mx_top.specs.TraceOutput.{trace_output}
 use Rattle.mx_top.specs.Serving.{Serves}
-use Rattle.mx_top.specs.Ready.{Ready}
 use Rattle.mx_top.specs.Starts.{Start}
 use Rattle.mx_top.specs.Crashes.{Lasts, BreaksOff}
 use Rattle.mx_top.specs.Runs.{IsTrace, BeginsTrace, Keeps, PlaceSeen}
@@ -55,14 +55,14 @@ pub record Wrote (start : Start) (server : Server) (units : List InputUnit) (bef
 -- all of the input's units were answered, and all of the output was written
 pub record Finished (start : Start) (input before after : List ℕ) (server : Server) (first states : Option (List Disk)) : Type 0 where
   pub history : History
-  pub trace : IsTrace start history input before after
-  pub ready : Ready start.base history server.engine server.journal states
+  pub serves : Serves start server (units_of input).0 history states
+  pub output : after ≡ before ++ trace_output start (units_of input).0 history
   pub lasts : Lasts start.base history first states
 
 -- the run broke off: what was written, and what the directory keeps
 pub record BrokeOff (start : Start) (input before after : List ℕ) (first states : Option (List Disk)) : Type 0 where
   pub trace : BeginsTrace start input before after
-  pub breaks : BreaksOff start.base trace.history (asks_of (units_of input).0) first states
+  pub breaks : BreaksOff start.base trace.history (all_asks_of (units_of input).0) first states
 
 -- what the end of the units, or the cause that stopped the run among them, says of the output and of the directory
 abbrev pub EndSeen : Result (Unit {0}) Stop → (start : Start) → (input before after : List ℕ) → (server : Server) → (first states : Option (List Disk)) → Type 0

@@ -1,24 +1,27 @@
 -- How engine, journal and directory stand together between two requests.
-use Rattle.std.specs.Prelude.{◌≡◌, ⊤, ℕ, true, List, [], ◌∷◌, ◌++◌, length, take, map, Option, ◌==◌, if◌then◌else◌}
+use Rattle.std.specs.Prelude.{◌≡◌, ⊤, ℕ, true, false, List, [], ◌∷◌, ◌++◌, length, take, map, Option}
 use Rattle.std.specs.FinMap as finite
 use Rattle.mx_outside.specs.Disks.{Disk, IfTold}
 use Rattle.mx_model.specs.declared.reply.Reply.{Reply}
 use Rattle.mx_model.specs.declared.tx.Tx.{Tx}
-use Rattle.mx_model.specs.Requests.{Ask, Asks, RefusedAsk}
-use Rattle.mx_model.specs.Rows.{IsRequest, IsTransaction}
+use Rattle.mx_model.specs.Rows.{IsTransaction}
+use Rattle.mx_session.specs.declared.job.Job.{Job}
+use Rattle.mx_session.specs.Jobs.{ends}
+use Rattle.mx_session.specs.Sessions.{SessionState}
+use Rattle.mx_frame.specs.Packets.{rest_of}
 use Rattle.mx_model.specs.Transactions.{clock_after, clock_after_one}
 use Rattle.mx_model.specs.Files.{Continues, follows, ids_in}
-use Rattle.mx_model.specs.Histories.{Base, History, Entry, Asked, Took, Confirmed, asks_in, ledger_of, journal_of}
+use Rattle.mx_model.specs.Histories.{Base, History, Entry, Asked, Took, Confirmed, asks_in, replies_in, ledger_of, journal_of}
 use Rattle.mx_model.specs.ReplyStream.{reply_packet, reply_packets}
 use Rattle.mx_engine.specs.declared.engine.Engine.{Engine}
 use Rattle.mx_engine.specs.Standing.{EngineStandsFor}
 use Rattle.mx_journal.specs.declared.journal.Journal.{Journal}
 use Rattle.mx_journal.specs.Written.{IsWritten, Waits, name_of}
-use Rattle.mx_top.specs.Asks.{Job}
-use Rattle.mx_top.specs.Units.{named}
 use Rattle.mx_top.specs.Starts.{AllOnDisk}
 use Rattle.mx_top.specs.Crashes.{Lasts}
-use Rattle.mx_top.specs.TraceOutput.{replies_on, schema_version}
+use Rattle.mx_top.specs.Connections.{asked_by}
+pub use Rattle.mx_top.specs.Connections.{IsSoundAsk, IsJob}
+use Rattle.mx_top.specs.TraceOutput.{schema_version, sync_of}
 
 -- the commits that were taken to be written
 abbrev pub taken_of : Base → History → List Tx
@@ -52,45 +55,44 @@ abbrev pub AllComeNext : List ℕ → List Tx → Type 0
 AllComeNext clock [] = ⊤
 AllComeNext clock (tx ∷ txs) = IsTransaction tx × (follows clock tx ≡ true) × AllComeNext (clock_after_one clock tx) txs
 
--- what is asked can be asked
-abbrev pub IsSoundAsk : Ask → Type 0
-IsSoundAsk (Asks request) = IsRequest request
-IsSoundAsk (RefusedAsk refusal) = ⊤
-
-abbrev pub IsJob : Job → Type 0
-IsJob job = IsSoundAsk job.ask
-
--- a step of the one connection
+-- the step of a job
 abbrev pub step_of : Job → Reply → Entry
-step_of job reply = let asked = named 1 job in Asked asked.0 asked.1 reply
+step_of job reply = Asked job.name job.ask reply
 
--- the engine took the step of a job, and its reply was added to the output
-pub record Replied (base : Base) (history : History) (engine : Engine) (job : Job) (before after : List ℕ) : Type 0 where
+-- the engine took the step of a job, and this is the packet of its reply
+pub record Replied (base : Base) (history : History) (engine : Engine) (job : Job) (packet : List ℕ) : Type 0 where
   pub reply : Reply
   pub stands : EngineStandsFor engine base (step_of job reply ∷ history)
-  pub output : after ≡ before ++ reply_packet schema_version job.sync reply
+  pub spelled : packet ≡ reply_packet schema_version job.sync.0 reply
 
--- the steps of a request of the one connection: it is answered, and what is committed is taken, written and confirmed
+-- the steps of a job: it is answered, and what is committed is taken, written and confirmed
 abbrev pub steps_of : Job → Reply → List Tx → ℕ → History → History
 steps_of job reply transactions upto history = Confirmed upto ∷ Took transactions upto ∷ step_of job reply ∷ history
 
--- the request of a job was answered, what it committed is on the disk, and its reply was added to the output
-pub record Answers (base : Base) (earlier : History) (engine : Engine) (journal : Journal) (old states : Option (List Disk)) (job : Job) (before after : List ℕ) : Type 0 where
+-- the job was answered, what it committed is on the disk, and its reply may leave
+pub record Answers (base : Base) (earlier : History) (engine : Engine) (journal : Journal) (old states : Option (List Disk)) (job : Job) (before after : SessionState) : Type 0 where
   pub reply : Reply
   pub transactions : List Tx
   pub upto : ℕ
   pub ready : Ready base (steps_of job reply transactions upto earlier) engine journal states
   pub lasts : Lasts base (steps_of job reply transactions upto earlier) old states
-  pub output : after ≡ before ++ reply_packet schema_version job.sync reply
+  pub output : after ≡ record before { out = before.out ++ reply_packet schema_version job.sync.0 reply }
 
--- the same for these jobs, in order
+-- the same for these jobs, in order, each with the output `before` and `after` it
 pub record AnswersAll (base : Base) (earlier : History) (engine : Engine) (journal : Journal) (old states : Option (List Disk)) (jobs : List Job) (before after : List ℕ) : Type 0 where
   pub history : History
   pub replies : List Reply
   pub ready : Ready base history engine journal states
   pub since : (more : History) × (history ≡ more ++ earlier)
   pub lasts : Lasts base history old states
-  pub asks : asks_in history ≡ asks_in earlier ++ map (named 1) jobs
-  pub told : (on : ℕ) → replies_on on history ≡ replies_on on earlier ++ (if 1 == on then replies else [])
+  pub asks : asks_in history ≡ asks_in earlier ++ map asked_by jobs
+  pub told : replies_in history ≡ replies_in earlier ++ replies
   pub each : length replies ≡ length jobs
-  pub output : after ≡ before ++ reply_packets schema_version (map (λ job. job.sync) jobs) replies
+  pub output : after ≡ before ++ reply_packets schema_version (map sync_of jobs) replies
+
+-- all jobs of a session's bytes were taken, and no reply waits
+pub record TakenAll (old new : SessionState) : Type 0 where
+  pub whose : new.connection ≡ old.connection
+  pub idle : new.waiting ≡ []
+  pub ended : new.ended ≡ ends old.connection old.rest
+  pub rest : new.ended ≡ false → new.rest ≡ rest_of old.rest

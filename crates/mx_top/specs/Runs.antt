@@ -8,7 +8,8 @@ use Rattle.mx_model.specs.Files.{Reached, IsDirectoryState}
 use Rattle.mx_model.specs.Histories.{Base, History, IsLegal, HasMemory, asks_in, history_from, journal_of, ledger_of, state_of, clock_of}
 use Rattle.mx_top.specs.declared.status.Status.{Status}
 use Rattle.mx_top.specs.declared.status.Status.TheVariants as status
-use Rattle.mx_top.specs.Units.{InputUnit, units_of, asks_of}
+use Rattle.mx_top.specs.Units.{InputUnit, units_of}
+use Rattle.mx_top.specs.Connections.{asks_of, all_asks_of}
 use Rattle.mx_top.specs.TraceOutput.{trace_output}
 use Rattle.mx_top.specs.Starts.{Start, Begins, AllOnDisk}
 use Rattle.mx_top.specs.Crashes.{Survive, NoFewerSurvive}
@@ -24,13 +25,13 @@ fault_place input = place_before input (units_of input).1
 -- the output where each request finds memory
 abbrev pub expected_output : (start : Start) (input : List ℕ) → List ℕ
 expected_output start input =
-    trace_output start (units_of input).0 (history_from start.base [] (asks_of (units_of input).0))
+    trace_output start (units_of input).0 (history_from start.base [] (all_asks_of (units_of input).0))
 
 -- What was written is the whole output for the input's units and this legal history of their requests. Where none was
 -- told that memory was missing, it is a function of the start and the input.
 pub record IsTrace (start : Start) (history : History) (input before after : List ℕ) : Type 0 where
   pub legal : IsLegal start.base history
-  pub asks : asks_in history ≡ asks_of (units_of input).0
+  pub asks : asks_in history ≡ all_asks_of (units_of input).0
   pub output : after ≡ before ++ trace_output start (units_of input).0 history
   pub determined : HasMemory history → after ≡ before ++ expected_output start input
 
@@ -113,7 +114,7 @@ pub record CrashSeen (seed input : List ℕ) (earlier : List Tx) (old new : Opti
   pub begins : Begins start seed old
   pub history : History
   pub legal : IsLegal start.base history
-  pub asks : IsPrefix (asks_in history) (asks_of (units_of input).0)
+  pub asks : IsPrefix (asks_in history) (all_asks_of (units_of input).0)
   pub transactions : List Tx
   pub all : transactions ≡ earlier ++ journal_of start.base history
   pub moments : IfTold old (λ disk past. Moments (Survive transactions 0) (NoFewerSurvive transactions) new disk past)
@@ -127,7 +128,7 @@ pub record Gated (seed input before after : List ℕ) (earlier : List Tx) (old n
   pub more : History
   pub later : History
   pub legal : IsLegal start.base (later ++ (more ++ trace.history))
-  pub asks : IsPrefix (asks_in (later ++ (more ++ trace.history))) (asks_of (units_of input).0)
+  pub asks : IsPrefix (asks_in (later ++ (more ++ trace.history))) (all_asks_of (units_of input).0)
   pub confirmed : (ledger_of start.base (later ++ (more ++ trace.history))).durable ≤ length (more ++ trace.history)
   pub keep : IfTold new (λ disk past. Survive (earlier ++ journal_of start.base (later ++ (more ++ trace.history)))
       (length (earlier ++ journal_of start.base (more ++ trace.history))) disk)

@@ -8,7 +8,7 @@ use Rattle.mx_outside.specs.Disks.{Disk, File, IfTold}
 use Rattle.mx_model.specs.declared.ids.Ids.{Ids}
 use Rattle.mx_model.specs.Files.{Reached, IsDirectoryState, is_journal, ids_or}
 use Rattle.mx_model.specs.Histories.{Base}
-use Rattle.mx_top.specs.Greeting as greeting
+use Rattle.mx_reply.specs.Greeting as greeting
 
 pub record Start : Type 0 where
   pub seed : List ℕ

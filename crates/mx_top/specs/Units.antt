@@ -1,105 +1,66 @@
--- The units of an input: the bytes that come on a connection, in pieces.
-use Rattle.std.specs.Prelude.{ℕ, ◌+◌, ◌-◌, ◌^◌, List, [], ◌∷◌, ◌++◌, length, drop, map, Option, Some, None, nat_lt, ◌==◌, if◌then◌else◌}
-use Rattle.std.specs.List.{filter_map}
-use Rattle.mx_msgpack.specs.Readers.{Reader, ◌>>=◌, all_from, number_at, after_byte, bytes_at}
-use Rattle.mx_model.specs.declared.txn_name.TxnName.{TxnName}
-use Rattle.mx_model.specs.Requests.{Ask}
-use Rattle.mx_top.specs.Packets.{packet_at, packets_of}
-use Rattle.mx_top.specs.Asks.{Job, job_in}
+-- The units of an input: bytes that come on connections, in pieces, and the closes of connections.
+use Rattle.std.specs.Prelude.{ℕ, ◌+◌, ◌-◌, ◌^◌, Bool, ◌&&◌, ◌||◌, List, length, Option, Some, None, nat_le, ◌==◌, if◌then◌else◌}
+use Rattle.mx_msgpack.specs.Readers.{Reader, ◌>>=◌, all_from, number_at, bytes_at}
 
 pub data InputUnit : Type 0 where
   Bytes : (connection : ℕ) (bytes : List ℕ) → InputUnit
+  Close : (connection : ℕ) → InputUnit
 
--- the most bytes that a unit brings, and the byte that no unit passes
+-- the connection of a unit
+abbrev pub connection_of : InputUnit → ℕ
+connection_of (Bytes on bytes) = on
+connection_of (Close on) = on
+
+-- the greatest number of a connection, the most bytes that a unit brings, and the byte that no unit passes
+abbrev pub last_connection : ℕ
+last_connection = 1023
+
 abbrev pub longest_unit : ℕ
 longest_unit = 16777216
 
 abbrev pub last_place : ℕ
 last_place = 2 ^ 40
 
--- the job of the packet that stands first, and the bytes after the packet
-unfoldable pub next_job_at : Reader Job
-next_job_at bytes = do
-  packet ← packet_at bytes
-  job ← job_in packet.0
-  Some (job, packet.1)
+-- what stands before the bytes that a unit brings
+pub record UnitHead : Type 0 where
+  pub kind : ℕ
+  pub connection : ℕ
+  pub size : ℕ
 
-abbrev pub with_job : List ℕ → Option (List Job) → Option (List Job)
-with_job packet others = do
-  first ← job_in packet
-  others ← others
-  Some (first ∷ others)
+-- bytes, or a close, which brings none
+abbrev pub is_unit_kind : UnitHead → Bool
+is_unit_kind head = (head.kind == 0) || ((head.kind == 1) && (head.size == 0))
 
--- a job for each packet
-abbrev pub jobs_for : List (List ℕ) → Option (List Job)
-jobs_for [] = Some []
-jobs_for (packet ∷ packets) = with_job packet (jobs_for packets)
+-- the unit passes neither the greatest connection, nor the longest unit, nor the last place
+abbrev pub is_within : (place : ℕ) → UnitHead → Bool
+is_within place head =
+    nat_le head.connection last_connection && nat_le head.size longest_unit && nat_le ((place + 9) + head.size) last_place
 
-abbrev pub only_whole : List (List ℕ) × List ℕ → Option (List Job)
-only_whole (packets, []) = jobs_for packets
-only_whole (packets, byte ∷ rest) = None
+abbrev pub allowed_head : (place : ℕ) → UnitHead → List ℕ → Option (UnitHead × List ℕ)
+allowed_head place head rest = if is_unit_kind head && is_within place head then Some (head, rest) else None
 
--- the jobs of bytes that are whole packets, each with a job
-unfoldable pub jobs_in : List ℕ → Option (List Job)
-jobs_in bytes = only_whole (all_from packet_at bytes)
-
--- a kind, a connection and a length, where that many bytes pass neither the longest unit nor the last place
-unfoldable pub unit_head_at : (place : ℕ) → Reader ℕ
+-- a kind, a connection and a length
+unfoldable pub unit_head_at : (place : ℕ) → Reader UnitHead
 unit_head_at place bytes = do
-  rest ← after_byte 0 bytes
-  connection ← number_at 4 rest
-  length ← number_at 4 connection.1
-  if connection.0 == 1 then (if nat_lt longest_unit length.0 then None else if nat_lt last_place ((place + 9) + length.0) then None else Some length) else None
+  kind ← number_at 1 bytes
+  connection ← number_at 4 kind.1
+  size ← number_at 4 connection.1
+  allowed_head place (record { kind = kind.0; connection = connection.0; size = size.0 }) size.1
 
--- the bytes of the unit that stands first at this place
-unfoldable pub content_at : (place : ℕ) → Reader (List ℕ)
+abbrev pub unit_by : UnitHead → List ℕ → InputUnit
+unit_by head content = if head.kind == 0 then Bytes head.connection content else Close head.connection
+
+-- the unit that stands first at this place
+unfoldable pub content_at : (place : ℕ) → Reader InputUnit
 content_at place bytes = do
-  length ← unit_head_at place bytes
-  bytes_at length.0 length.1
+  head ← unit_head_at place bytes
+  content ← bytes_at head.0.size head.1
+  Some (unit_by head.0 content.0, content.1)
 
--- the unit that stands first in bytes that end `total` bytes: one on connection 1, of whole packets
+-- the unit that stands first in bytes that end `total` bytes
 unfoldable pub unit_at : (total : ℕ) → Reader InputUnit
-unit_at total bytes = do
-  content ← content_at (total - length bytes) bytes
-  jobs ← jobs_in content.0
-  Some (Bytes 1 content.0, content.1)
+unit_at total bytes = content_at (total - length bytes) bytes
 
 -- the well-formed units that begin an input, and the bytes after them: none, or those of the first malformed unit on
 unfoldable pub units_of : List ℕ → List InputUnit × List ℕ
 units_of input = all_from (unit_at (length input)) input
-
--- what came on a connection
-abbrev pub bytes_on : ℕ → List InputUnit → List ℕ
-bytes_on connection [] = []
-bytes_on connection (Bytes on bytes ∷ units) = (if on == connection then bytes else []) ++ bytes_on connection units
-
--- the jobs of a connection: one for each whole packet that came on it
-abbrev pub jobs_on : ℕ → List InputUnit → List Job
-jobs_on connection units = filter_map job_in (packets_of (bytes_on connection units))
-
--- a request of a connection, outside its streams
-abbrev pub named : ℕ → Job → TxnName × Ask
-named connection job = (record { conn = connection; stream = 0 }, job.ask)
-
--- the requests of a unit that brings these bytes; none where they aren't whole packets, each with a job
-abbrev pub asks_by : Option (List Job) → List (TxnName × Ask)
-asks_by None = []
-asks_by (Some jobs) = map (named 1) jobs
-
-abbrev pub asks_in_unit : List ℕ → List (TxnName × Ask)
-asks_in_unit content = asks_by (jobs_in content)
-
--- what a list has gained at its end
-abbrev pub gained : {X : Type 0} → List X → List X → List X
-gained before after = drop (length before) after
-
--- the requests that come with these units, after earlier ones: each unit's are those that its connection gains
-abbrev pub asks_from : List InputUnit → List InputUnit → List (TxnName × Ask)
-asks_from earlier [] = []
-asks_from earlier (Bytes on bytes ∷ units) =
-    map (named on) (gained (jobs_on on earlier) (jobs_on on (earlier ++ Bytes on bytes ∷ [])))
-    ++ asks_from (earlier ++ Bytes on bytes ∷ []) units
-
--- who asks what, in the order of the units
-abbrev pub asks_of : List InputUnit → List (TxnName × Ask)
-asks_of units = asks_from [] units

@@ -4,18 +4,15 @@
 mod answers;
 mod delivery;
 mod file_names;
-mod greeting;
 mod intake;
-mod jobs;
 mod laws;
 mod loading;
 mod opening;
 mod opening_fault;
 mod output_unit;
-mod packets;
 mod replaying;
-mod replies;
 mod server;
+mod sessions;
 mod settling;
 mod status;
 mod stop;
@@ -28,8 +25,3 @@ pub use laws::{an_empty_directory_recovers, what_a_crash_leaves_recovers};
 pub use status::Status;
 pub use top_call::run;
 pub use words::directory_word;
-
-#[cfg(test)]
-mod crash_tests;
-#[cfg(test)]
-mod tests;

@@ -36,3 +36,13 @@ pub(crate) fn finish_unit(out: &mut Vec<u8>) -> Result<(), AllocError>
     BigEndian::write_u32(&mut out[4..HEAD], length);
     Ok(())
 }
+
+/// Adds a unit of length 0, which says that the server ended the connection.
+pub(crate) fn add_closing(out: &mut Vec<u8>, connection: u32) -> Result<(), AllocError>
+    ensures { OnOk result (out.new.items ≡ out.old.items ++ (big_bytes 4 connection ++ big_bytes 4 0)) }
+{
+    let mut unit = [0; HEAD];
+    BigEndian::write_u32(&mut unit, connection);
+    out.extend_from_slice(&unit)?;
+    Ok(())
+}

@@ -1,44 +1,47 @@
-//! The server of one connection: its engine and journal, and what the connection is sent.
+//! The server of all connections: its engine and journal, their sessions, and what they are sent.
 
-ghost use Rattle.std.specs.Prelude.{◌≡◌, ◌≤◌, ◌++◌, [], Err, IfOk, OnOk, OnErr, IfErr, if◌then◌else◌, is_some, true};
+ghost use Rattle.std.specs.Prelude.{◌≡◌, ◌≤◌, ◌++◌, [], Err, IfOk, OnOk, OnErr, IfErr};
 ghost use Rattle.mx_outside.specs.Causes.{Rose};
 ghost use Rattle.mx_top.specs.declared.stop.Stop.TheVariants.{DiskFault};
 ghost use Rattle.mx_top.specs.Stops.{IsDiskStop};
 
-use crate::answers::answer_all;
-use crate::greeting::greeting;
-use crate::jobs::jobs_in;
+use crate::answers::{answer_bytes, leave};
 use crate::opening::Opened;
-use crate::output_unit::{begin_unit, finish_unit};
+use crate::sessions::{
+    drop_session, keep_session, leave_all, no_sessions, send_and_end, take_session,
+};
 use crate::stop::Stop;
+use crate::units::{UnitHead, UnitKind};
+use mx_base::ConnId;
 use mx_engine::Engine;
 use mx_journal::Journal;
 use mx_outside::Dir;
+use mx_reply::write_greeting;
+use mx_session::Session;
 use std::alloc::{AllocError, Global};
 
-/// The number of the one connection.
-const CONNECTION: u32 = 1;
-
-/// A node with one connection.
+/// A node with its connections.
 #[derive(Drop)]
 pub(crate) struct Server {
     alloc: Global,
-    greeting: Vec<u8>,
+    greeting: [u8; 128],
     engine: Engine,
     journal: Journal,
-    opened: bool,
+    /// The sessions by the numbers of their connections.
+    sessions: Vec<Option<Session>>,
 }
 
 impl Server {
-    ghost use Rattle.std.specs.Prelude.{ℕ, List, Option, MatchBool};
+    ghost use Rattle.std.specs.Prelude.{ℕ, List, Option};
     ghost use Rattle.mx_outside.specs.Disks.{Disk, IfTold};
     ghost use Rattle.mx_model.specs.Histories.{Base, History};
-    ghost use Rattle.mx_top.specs.Units.{InputUnit, asks_in_unit, asks_of, jobs_in};
+    ghost use Rattle.mx_top.specs.Units.{InputUnit, Bytes, Close, last_connection, unit_by};
+    ghost use Rattle.mx_top.specs.UnitViews.{head_view};
+    ghost use Rattle.mx_top.specs.Connections.{all_asks_of, asks_by, asks_of};
     ghost use Rattle.mx_top.specs.Starts.{Start};
-    ghost use Rattle.mx_top.specs.Ready.{Ready, IsReady};
+    ghost use Rattle.mx_top.specs.Ready.{Ready};
     ghost use Rattle.mx_top.specs.Crashes.{BreaksOff, Lasts};
-    ghost use Rattle.mx_top.specs.Runs.{Keeps};
-    ghost use Rattle.mx_top.specs.Serving.{Serves, Took};
+    ghost use Rattle.mx_top.specs.Serving.{CanServe, Closed, IsTable, Serves, Took};
 
     /// A node over an opened directory, which has no connection yet; the seed is its salt.
     pub(crate) fn new(alloc: Global, seed: &[u8; 32], opened: Opened) -> Result<Server, AllocError>
@@ -48,79 +51,120 @@ impl Server {
         let Opened { engine, journal } = opened;
         Ok(Server {
             alloc,
-            greeting: greeting(alloc, &engine.ids().instance, seed)?,
+            greeting: write_greeting(alloc, &engine.ids().instance, seed)?,
             engine,
             journal,
-            opened: false,
+            sessions: no_sessions(alloc)?,
         })
     }
 
-    /// Answers the bytes of a unit, and puts the output unit for it into `out`: nothing for no bytes.
-    /// What it commits is on the disk then. Says whether the bytes are whole packets, each with a job;
-    /// where they aren't, nothing changes.
-    pub(crate) fn take<D: Dir>(
+    /// Answers a unit with this head, and puts the output for it into `out`. What it commits is on the
+    /// disk then.
+    pub(crate) fn unit<D: Dir>(
         &mut self,
         dir: &mut D,
+        head: UnitHead,
         content: &[u8],
         out: &mut Vec<u8>,
-    ) -> Result<bool, Stop>
-        requires { IsReady self.old.engine self.old.journal (D.states dir.old) }
-        ensures taken { IfOk result (λ taken. taken ≡ is_some (jobs_in content.now)) }
+    ) -> Result<(), Stop>
+        requires serves { CanServe self.old (D.states dir.old) }
+        requires connection { head.connection.0 ≤ last_connection }
         ensures took { (start : Start) (units : List InputUnit) (history : History) → Serves start self.old units history (D.states dir.old)
-            → IfOk result (λ taken. MatchBool taken (Took start self.new units history content.now out.new.items (D.states dir.old) (D.states dir.new))
-            (Serves start self.new units history (D.states dir.new) × Lasts start.base history (D.states dir.old) (D.states dir.new))) }
+            → OnOk result (Took start self.new units history (unit_by (head_view head) content.now) out.new.items (D.states dir.old) (D.states dir.new)) }
         ensures breaks { (start : Start) (units : List InputUnit) (history : History) → Serves start self.old units history (D.states dir.old)
-            → OnErr result (BreaksOff start.base history (asks_of units ++ asks_in_unit content.now) (D.states dir.old) (D.states dir.new)) }
-        ensures ready { OnOk result (IsReady self.new.engine self.new.journal (D.states dir.new)) }
+            → OnErr result (BreaksOff start.base history (asks_of units ++ asks_by units (unit_by (head_view head) content.now)) (D.states dir.old) (D.states dir.new)) }
+        ensures serves { OnOk result (CanServe self.new (D.states dir.new)) }
         ensures later { D.faults dir.old ≤ D.faults dir.new }
         ensures fault { result ≡ Err DiskFault → Rose (D.faults dir.old) (D.faults dir.new) }
         ensures stops { IfErr result IsDiskStop }
     {
-        let Some(jobs) = jobs_in(self.alloc, content)? else {
-            return Ok(false);
-        };
         out.clear();
-        if content.is_empty() {
-            return Ok(true);
+        match head.kind {
+            UnitKind::Bytes => self.bytes(dir, head.connection, content, out),
+            UnitKind::Close => self.close(head.connection),
         }
-        begin_unit(out, CONNECTION)?;
-        self.greet(out)?;
-        answer_all(
+    }
+
+    /// Answers bytes that came on a connection, which their first one opens, and puts the output for
+    /// them into `out`, which is empty: nothing for no bytes. What they commit is on the disk then.
+    fn bytes<D: Dir>(
+        &mut self,
+        dir: &mut D,
+        connection: ConnId,
+        bytes: &[u8],
+        out: &mut Vec<u8>,
+    ) -> Result<(), Stop>
+        requires serves { CanServe self.old (D.states dir.old) }
+        requires connection { connection.0 ≤ last_connection }
+        requires empty { out.old.items ≡ [] }
+        ensures took { (start : Start) (units : List InputUnit) (history : History) → Serves start self.old units history (D.states dir.old)
+            → OnOk result (Took start self.new units history (Bytes connection.0 bytes.now) out.new.items (D.states dir.old) (D.states dir.new)) }
+        ensures breaks { (start : Start) (units : List InputUnit) (history : History) → Serves start self.old units history (D.states dir.old)
+            → OnErr result (BreaksOff start.base history (asks_of units ++ asks_by units (Bytes connection.0 bytes.now)) (D.states dir.old) (D.states dir.new)) }
+        ensures serves { OnOk result (CanServe self.new (D.states dir.new)) }
+        ensures later { D.faults dir.old ≤ D.faults dir.new }
+        ensures fault { result ≡ Err DiskFault → Rose (D.faults dir.old) (D.faults dir.new) }
+        ensures stops { IfErr result IsDiskStop }
+    {
+        if bytes.is_empty() {
+            return Ok(());
+        }
+        let mut session = take_session(
+            self.alloc,
+            self.sessions.as_mut_slice(),
+            connection,
+            &self.greeting,
+        )?;
+        let ended = answer_bytes(
             self.alloc,
             &mut self.engine,
             &mut self.journal,
             dir,
-            &jobs,
-            out,
+            &mut session,
+            bytes,
         )?;
-        finish_unit(out)?;
-        Ok(true)
+        send_and_end(&mut self.engine, &mut session, connection, ended, out)?;
+        keep_session(self.sessions.as_mut_slice(), connection, session);
+        Ok(())
     }
 
-    /// Ends the journal in order.
+    /// Closes a connection, where it is open.
+    fn close(&mut self, connection: ConnId) -> Result<(), Stop>
+        requires table { IsTable self.old.sessions.items }
+        requires connection { connection.0 ≤ last_connection }
+        ensures took { (start : Start) (units : List InputUnit) (history : History) (states : Option (List Disk)) → Serves start self.old units history states
+            → OnOk result (Took start self.new units history (Close connection.0) [] states states) }
+        ensures serves { (states : Option (List Disk)) → CanServe self.old states → OnOk result (CanServe self.new states) }
+        ensures stops { IfErr result IsDiskStop }
+        ensures no_disk { result ≡ Err DiskFault → ⊥ }
+    {
+        if !drop_session(self.sessions.as_mut_slice(), connection) {
+            return Ok(());
+        }
+        leave(&mut self.engine, connection)?;
+        Ok(())
+    }
+
+    /// Lets the open connections leave, and ends the journal in order.
     pub(crate) fn end<D: Dir>(self, dir: &mut D) -> Result<(), Stop>
-        requires { IsReady self.engine self.journal (D.states dir.old) }
-        ensures keeps { (base : Base) (history : History) → Ready base history self.engine self.journal (D.states dir.old)
-            → OnOk result (IfTold (D.states dir.new) (λ disk past. Keeps base history disk)) }
-        ensures lasts { (base : Base) (history : History) → Ready base history self.engine self.journal (D.states dir.old)
-            → Lasts base history (D.states dir.old) (D.states dir.new) }
+        requires { CanServe self (D.states dir.old) }
+        ensures closed { (start : Start) (units : List InputUnit) (history : History) → Serves start self units history (D.states dir.old)
+            → OnOk result (Closed start units history (D.states dir.old) (D.states dir.new)) }
+        ensures breaks { (start : Start) (units : List InputUnit) (history : History) → Serves start self units history (D.states dir.old)
+            → OnErr result (BreaksOff start.base history (all_asks_of units) (D.states dir.old) (D.states dir.new)) }
         ensures later { D.faults dir.old ≤ D.faults dir.new }
         ensures fault { result ≡ Err DiskFault → Rose (D.faults dir.old) (D.faults dir.new) }
         ensures stops { IfErr result IsDiskStop }
     {
-        self.journal.end(self.alloc, dir)?;
-        Ok(())
-    }
-
-    /// Adds the greeting, where the connection hasn't had it yet.
-    fn greet(&mut self, out: &mut Vec<u8>) -> Result<(), AllocError>
-        ensures out { OnOk result (out.new.items ≡ out.old.items ++ (if self.old.opened then [] else self.old.greeting.items)) }
-        ensures opened { OnOk result (self.new ≡ record self.old { opened = true }) }
-    {
-        if !self.opened {
-            out.extend_from_slice(&self.greeting)?;
-            self.opened = true;
-        }
+        let Server {
+            alloc,
+            mut engine,
+            journal,
+            sessions,
+            ..
+        } = self;
+        leave_all(&mut engine, &sessions)?;
+        journal.end(alloc, dir)?;
         Ok(())
     }
 }

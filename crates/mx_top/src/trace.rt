@@ -7,8 +7,7 @@ ghost use Rattle.mx_top.specs.declared.status.Status.TheVariants as status;
 ghost use Rattle.mx_top.specs.Stops.{AtBadInput};
 ghost use Rattle.mx_top.specs.Units.{InputUnit, last_place};
 ghost use Rattle.mx_top.specs.Starts.{Start};
-ghost use Rattle.mx_top.specs.Ready.{IsReady};
-ghost use Rattle.mx_top.specs.Serving.{Serves};
+ghost use Rattle.mx_top.specs.Serving.{CanServe, Serves};
 ghost use Rattle.mx_model.specs.declared.tx.Tx.{Tx};
 ghost use Rattle.mx_top.specs.Crashes.{Recovers};
 ghost use Rattle.mx_top.specs.Runs.{PlaceSeen, OutputSeen, DamageSeen, CrashSeen, GateSeen};
@@ -70,7 +69,7 @@ fn run_units<D: Dir, S: Source, K: Sink>(
     input: &mut S,
     output: &mut K,
 ) -> Result<(), Stop>
-    requires { IsReady server.engine server.journal (D.states dir.old) }
+    requires { CanServe server (D.states dir.old) }
     ensures place { (bytes : List ℕ) → S.left input.old ≡ Some bytes → PlaceSeen (status_of result) bytes (S.left input.new) }
     ensures output { (start : Start) (bytes before : List ℕ) → Serves start server [] [] (D.states dir.old) → S.left input.old ≡ Some bytes → K.contents output.old ≡ Some before
         → IsSomeAnd (K.contents output.new) (λ written. RunSeen result start bytes before written (D.states dir.new)) }
@@ -105,13 +104,13 @@ fn answer_units<D: Dir, S: Source, K: Sink>(
     input: &mut S,
     output: &mut K,
 ) -> Result<(), Stop>
-    requires { IsReady server.old.engine server.old.journal (D.states dir.old) }
+    requires { CanServe server.old (D.states dir.old) }
     ensures place { (bytes : List ℕ) → S.left input.old ≡ Some bytes → PlaceSeen (status_of result) bytes (S.left input.new) }
     ensures output { (start : Start) (bytes before : List ℕ) → Serves start server.old [] [] (D.states dir.old)
         → S.left input.old ≡ Some bytes → K.contents output.old ≡ Some before
         → IsSomeAnd (K.contents output.new) (λ written. EndSeen result start bytes before written server.new (D.states dir.old) (D.states dir.new)) }
-    ensures ready { MatchResult result (λ _. IsReady server.new.engine server.new.journal (D.states dir.new))
-        (λ stop. AtBadInput stop (IsReady server.new.engine server.new.journal (D.states dir.new))) }
+    ensures serves { MatchResult result (λ _. CanServe server.new (D.states dir.new))
+        (λ stop. AtBadInput stop (CanServe server.new (D.states dir.new))) }
     ensures reads { S.faults input.old ≤ S.faults input.new }
     ensures read_fault { result ≡ Err ReadFault → Rose (S.faults input.old) (S.faults input.new) }
     ensures writes { K.faults output.old ≤ K.faults output.new }
@@ -139,7 +138,7 @@ fn step<D: Dir, S: Source, K: Sink>(
     input: &mut S,
     output: &mut K,
 ) -> Result<Option<u64>, Stop>
-    requires { IsReady server.old.engine server.old.journal (D.states dir.old) }
+    requires { CanServe server.old (D.states dir.old) }
     ensures ahead { IfOk result (λ found. IfSome found (λ next. (place < next) × (next ≤ last_place))) }
     ensures told { (bytes left : List ℕ) (units : List InputUnit) → S.left input.old ≡ Some left → ReadTo bytes (intake.old ++ left) place units
         → (more : List ℕ) × (S.left input.new ≡ Some more) × MatchResult result
@@ -147,8 +146,8 @@ fn step<D: Dir, S: Source, K: Sink>(
         (Ends (Ok tt) bytes (Some more) server.old server.new units (K.contents output.old) (K.contents output.new) (D.states dir.old) (D.states dir.new))
         (λ next. GoesOn bytes (intake.new ++ more) next server.old server.new units (K.contents output.old) (K.contents output.new) (D.states dir.old) (D.states dir.new)))
         (λ stop. Ends (Err stop) bytes (Some more) server.old server.new units (K.contents output.old) (K.contents output.new) (D.states dir.old) (D.states dir.new)) }
-    ensures ready { MatchResult result (λ _. IsReady server.new.engine server.new.journal (D.states dir.new))
-        (λ stop. AtBadInput stop (IsReady server.new.engine server.new.journal (D.states dir.new))) }
+    ensures serves { MatchResult result (λ _. CanServe server.new (D.states dir.new))
+        (λ stop. AtBadInput stop (CanServe server.new (D.states dir.new))) }
     ensures reads { S.faults input.old ≤ S.faults input.new }
     ensures read_fault { result ≡ Err ReadFault → Rose (S.faults input.old) (S.faults input.new) }
     ensures writes { K.faults output.old ≤ K.faults output.new }
@@ -156,14 +155,13 @@ fn step<D: Dir, S: Source, K: Sink>(
     ensures disks { D.faults dir.old ≤ D.faults dir.new }
     ensures disk_fault { result ≡ Err DiskFault → Rose (D.faults dir.old) (D.faults dir.new) }
 {
-    let Some(size) = next_unit(intake, input, place)? else {
+    let Some(head) = next_unit(intake, input, place)? else {
         return Ok(None);
     };
+    let size = head.size as usize;
     let (_, rest) = intake.as_slice().split_at(UNIT_HEAD);
     let (content, _) = rest.split_at(size);
-    if !server.take(dir, content, out)? {
-        return Err(Stop::BadInput { at: place });
-    }
+    server.unit(dir, head, content, out)?;
     intake.consume(UNIT_HEAD + size);
     match deliver(output, out) {
         Ok(()) => Ok(Some(place + (UNIT_HEAD + size) as u64)),

@@ -1,19 +1,24 @@
 //! The units of an input, one after the other.
 
-ghost use Rattle.std.specs.Prelude.{◌≡◌, ◌+◌, ◌<◌, ◌≤◌, ◌++◌, ℕ, List, [], length, take, drop, Some, Err, IfOk, IfErr, IfSome, MatchOption, MatchResult};
+ghost use Rattle.std.specs.Prelude.{◌≡◌, ◌+◌, ◌<◌, ◌≤◌, ◌++◌, ℕ, List, [], length, take, drop, Some, Err, IfOk, IfSome, MatchOption, MatchResult};
 ghost use Rattle.std.specs.Option.{option_map};
 ghost use Rattle.mx_outside.specs.Causes.{Rose};
-ghost use Rattle.mx_top.specs.Units.{unit_head_at, content_at, last_place};
+ghost use Rattle.mx_top.specs.Units.{content_at, last_connection, last_place, unit_by, unit_head_at};
+ghost use Rattle.mx_top.specs.UnitViews.{head_view};
 ghost use Rattle.mx_top.specs.Progress.{StopsAt};
 ghost use Rattle.mx_top.specs.declared.stop.Stop.TheVariants.{ReadFault, WriteFault, DiskFault};
 
 use crate::intake::Intake;
 use crate::stop::Stop;
-use mx_msgpack::{after_byte, number_at};
+use mx_base::ConnId;
+use mx_msgpack::number_at;
 use mx_outside::Source;
 
 /// The bytes before those that a unit brings: a kind, a connection and a length.
 pub(crate) const UNIT_HEAD: usize = 9;
+
+/// The greatest number of a connection.
+pub(crate) const LAST_CONNECTION: u32 = 1023;
 
 /// The most bytes that a unit brings.
 const LONGEST_UNIT: u32 = 16_777_216;
@@ -21,23 +26,40 @@ const LONGEST_UNIT: u32 = 16_777_216;
 /// The byte that no unit passes.
 const LAST_PLACE: u64 = 1 << 40;
 
-/// The number of the one connection.
-const CONNECTION: u32 = 1;
+/// What a unit is about.
+#[derive(Clone, Copy, Debug, PartialEq, Eq)]
+pub(crate) enum UnitKind {
+    /// Bytes that came on a connection.
+    Bytes,
+    /// The close of a connection.
+    Close,
+}
 
-/// Reads the next unit, which stands at this place, so that it waits whole. Says how many bytes it
-/// brings, or nothing at the end of the input.
+/// What stands before the bytes that a unit brings.
+#[derive(Clone, Copy, Debug)]
+pub(crate) struct UnitHead {
+    pub(crate) kind: UnitKind,
+    /// From 0 to 1,023.
+    pub(crate) connection: ConnId,
+    /// How many bytes the unit brings.
+    pub(crate) size: u32,
+}
+
+/// Reads the next unit, which stands at this place, so that it waits whole. Gives its head, or
+/// nothing at the end of the input.
 pub(crate) fn next_unit<S: Source>(
     intake: &mut Intake,
     input: &mut S,
     place: u64,
-) -> Result<Option<usize>, Stop>
+) -> Result<Option<UnitHead>, Stop>
     ensures told { (left : List ℕ) → S.left input.old ≡ Some left → (more : List ℕ)
         × (S.left input.new ≡ Some more) × (intake.old ++ left ≡ intake.new ++ more)
         × MatchResult result
-        (λ found. MatchOption found (intake.new ++ more ≡ []) (λ size. content_at place (intake.new ++ more)
-        ≡ Some (take size (drop 9 intake.new), drop size (drop 9 intake.new) ++ more)))
+        (λ found. MatchOption found (intake.new ++ more ≡ []) (λ head. content_at place (intake.new ++ more)
+        ≡ Some (unit_by (head_view head) (take head.size (drop 9 intake.new)), drop head.size (drop 9 intake.new) ++ more)))
         (StopsAt place (intake.new ++ more)) }
-    ensures whole { IfOk result (λ found. IfSome found (λ size. (9 + size ≤ length intake.new) × ((place + 9) + size ≤ last_place))) }
+    ensures whole { IfOk result (λ found. IfSome found (λ head. (9 + head.size ≤ length intake.new) × ((place + 9) + head.size ≤ last_place))) }
+    ensures connection { IfOk result (λ found. IfSome found (λ head. head.connection.0 ≤ last_connection)) }
     ensures later { S.faults input.old ≤ S.faults input.new }
     ensures fault { result ≡ Err ReadFault → Rose (S.faults input.old) (S.faults input.new) }
     ensures no_write { result ≡ Err WriteFault → ⊥ }
@@ -46,18 +68,17 @@ pub(crate) fn next_unit<S: Source>(
     if !intake.fill(input, UNIT_HEAD)? {
         return no_head(intake.len(), place);
     }
-    let Some((size, _)) = unit_head_at(place, intake.as_slice()) else {
+    let Some((head, _)) = unit_head_at(place, intake.as_slice()) else {
         return Err(Stop::BadInput { at: place });
     };
-    let size = size as usize;
-    if !intake.fill(input, UNIT_HEAD + size)? {
+    if !intake.fill(input, UNIT_HEAD + head.size as usize)? {
         return Err(Stop::BadInput { at: place });
     }
-    Ok(Some(size))
+    Ok(Some(head))
 }
 
 /// What fewer bytes than a unit's head are: the end of the input, or a malformed unit.
-fn no_head(waiting: usize, place: u64) -> Result<Option<usize>, Stop>
+fn no_head(waiting: usize, place: u64) -> Result<Option<UnitHead>, Stop>
     ensures told { (bytes : List ℕ) → length bytes ≡ waiting → length bytes < 9
         → MatchResult result (λ found. MatchOption found (bytes ≡ []) (λ _. ⊥)) (StopsAt place bytes) }
     ensures no_fault { result ≡ Err ReadFault → ⊥ }
@@ -71,19 +92,29 @@ fn no_head(waiting: usize, place: u64) -> Result<Option<usize>, Stop>
     }
 }
 
-/// How many bytes a unit brings whose head stands first at this place, and the bytes after the head.
+/// The head of the unit that stands first at this place, and the bytes after the head.
 #[tactic(auto, unfolding(crate::specs::Units::unit_head_at))]
-fn unit_head_at(place: u64, bytes: &[u8]) -> Option<(u32, &[u8])>
-    ensures { option_map (λ x. (x.0, x.1.now)) result ≡ unit_head_at place bytes.now }
+fn unit_head_at(place: u64, bytes: &[u8]) -> Option<(UnitHead, &[u8])>
+    ensures { option_map (λ x. (head_view x.0, x.1.now)) result ≡ unit_head_at place bytes.now }
 {
-    let rest = after_byte(0, bytes)?;
+    let (kind, rest) = bytes.split_first()?;
     let (connection, rest) = number_at(rest)?;
     let (size, rest) = number_at(rest)?;
-    if connection != CONNECTION || size > LONGEST_UNIT {
+    let kind = match *kind {
+        0 => UnitKind::Bytes,
+        1 if size == 0 => UnitKind::Close,
+        _ => return None,
+    };
+    if connection > LAST_CONNECTION || size > LONGEST_UNIT {
         return None;
     }
     if place.saturating_add(9).saturating_add(u64::from(size)) > LAST_PLACE {
         return None;
     }
-    Some((size, rest))
+    let head = UnitHead {
+        kind,
+        connection: ConnId(connection),
+        size,
+    };
+    Some((head, rest))
 }

@@ -14,7 +14,7 @@ pub units-init : goal.units-init
 units-init g c = record {
   told = λ bytes told. has_read_nothing bytes c.in_ok-intake.intake (g.S.Source.left c.args.input.now) c.args.server.now
       (g.K.Sink.contents c.args.output.now) (g.D.Dir.states c.args.dir.now) told c.in_ok-intake.ensures;
-  ready = c.requires;
+  serves = c.requires;
   reads = omega arith;
   writes = omega arith;
   disks = omega arith;
@@ -44,7 +44,7 @@ units-preserved g c = record {
       has_read_more bytes c.step.new.intake t.0 (g.S.Source.left c.step.new.input) c.in-Some.next c.args.server.now c.units.server c.step.new.server
       so_far.units (g.K.Sink.contents c.args.output.now) (g.K.Sink.contents c.units.output) (g.K.Sink.contents c.step.new.output)
       (g.D.Dir.states c.args.dir.now) (g.D.Dir.states c.units.dir) (g.D.Dir.states c.step.new.dir) t.1 on so_far.wrote;
-  ready = c.in_ok-next.ensures.ready;
+  serves = c.in_ok-next.ensures.serves;
   reads = omega (arith, c.in_ok-next.ensures.reads);
   writes = omega (arith, c.in_ok-next.ensures.writes);
   disks = omega (arith, c.in_ok-next.ensures.disks);

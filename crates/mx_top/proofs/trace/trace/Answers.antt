@@ -1,5 +1,6 @@
 use Rattle.std.proofs.Common.{[], Err, ap, ◌∙◌}
 use Rattle.mx_top.proofs.RunLaws.{opening_seen, crash_seen, gate_seen}
+use Rattle.mx_top.proofs.ServerLaws.{can_serve}
 use Rattle.mx_top.proofs.SeenLaws.{output_seen, damage_seen}
 use Rattle.mx_top.proofs.trace.trace.Goals as goal
 
@@ -7,7 +8,7 @@ pub run_units-requires : goal.run_units-requires
 run_units-requires g c =
     let (start, begins, ready) = c.in-Ok.ensures.opened in
     let serves = c.in-Ok-new.ensures start (g.D.Dir.states c.open.new.dir) begins.seeded ready in
-    (start.base, [], serves.ready)
+    can_serve start c.in-Ok-new.server [] [] (g.D.Dir.states c.open.new.dir) serves
 
 pub returns-in-Ok-new-clause-output : goal.returns-in-Ok-new-clause-output
 returns-in-Ok-new-clause-output g c = λ bytes before told was.

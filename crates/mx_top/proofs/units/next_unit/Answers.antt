@@ -1,7 +1,9 @@
 use Rattle.std.proofs.Common.{◌≡◌, ◌+◌, ◌<◌, length, ◌++◌, Some, None, refl, sym, ap, ◌∙◌, arith}
 use Rattle.std.proofs.lemmas.List.{length-append}
 use Rattle.mx_top.specs.Units.{unit_head_at}
-use Rattle.mx_top.proofs.HeadLaws.{head_rest, content_whole, content_headless, content_short, is_enough, not_enough}
+use Rattle.mx_top.specs.UnitViews.{head_view}
+use Rattle.mx_top.proofs.UnitLaws.{head_parts, head_rest, head_within}
+use Rattle.mx_top.proofs.HeadLaws.{content_whole, content_headless, content_short, is_enough, not_enough}
 use Rattle.mx_top.proofs.units.next_unit.Goals as goal
 
 pub returns-in_default-clause-told : goal.returns-in_default-clause-told
@@ -16,28 +18,36 @@ pub returns-then-not-branch-2-clause-told : goal.returns-then-not-branch-2-claus
 returns-then-not-branch-2-clause-told g c = λ left told.
     let t = c.in_ok-fill.ensures.told left told in
     let u = c.in_ok-fill-2.ensures.told t.0 t.1 in
-    let head : unit_head_at c.args.place c.fill.new.self ≡ Some (c.in-Some.size, c.in-Some.field-0-1.now) = ap (unit_head_at c.args.place) (sym c.as_slice.ensures) ∙ sym c.in-Some.ensures in
-    let few = not_enough c.in_ok-fill-2.field-0 (9 + c.in-Some.size) (length c.fill-2.new.self) c.if-not-branch-2.true c.in_ok-fill-2.ensures.enough.1 in
+    let its = head_view c.in-Some.head in
+    let head : unit_head_at c.args.place c.fill.new.self ≡ Some (head_view c.in-Some.head, c.in-Some.field-0-1.now) = ap (unit_head_at c.args.place) (sym c.as_slice.ensures) ∙ sym c.in-Some.ensures in
+    let few = not_enough c.in_ok-fill-2.field-0 (9 + c.in-Some.head.size) (length c.fill-2.new.self) c.if-not-branch-2.true c.in_ok-fill-2.ensures.enough.1 in
     let none = u.3 c.if-not-branch-2.true in
     let long = length-append c.fill-2.new.self u.0 in
     let nothing = ap length none in
-    let short : length (c.fill-2.new.self ++ u.0) < 9 + c.in-Some.size = omega arith in
-    let seen = head_rest c.args.place c.fill.new.self (c.in-Some.size, c.in-Some.field-0-1.now) head in
+    let short : length (c.fill-2.new.self ++ u.0) < 9 + c.in-Some.head.size = omega arith in
+    let seen = head_rest c.args.place c.fill.new.self (its, c.in-Some.field-0-1.now) head in
+    let nine = seen.1 in
     let same_long = ap length u.2 ∙ long in
     let was_long = length-append c.fill.new.self t.0 in
     let some : 0 < length (c.fill-2.new.self ++ u.0) = omega arith in
-    (u.0, u.1, t.2 ∙ u.2, (refl, content_short c.args.place c.in-Some.size c.fill.new.self t.0 (c.fill-2.new.self ++ u.0) c.in-Some.field-0-1.now head u.2 short, some))
+    (u.0, u.1, t.2 ∙ u.2, (refl, content_short c.args.place its c.fill.new.self t.0 (c.fill-2.new.self ++ u.0) c.in-Some.field-0-1.now head u.2 short, some))
 
 pub returns-clause-told : goal.returns-clause-told
 returns-clause-told g c = λ left told.
     let t = c.in_ok-fill.ensures.told left told in
     let u = c.in_ok-fill-2.ensures.told t.0 t.1 in
-    let head : unit_head_at c.args.place c.fill.new.self ≡ Some (c.in-Some.size, c.in-Some.field-0-1.now) = ap (unit_head_at c.args.place) (sym c.as_slice.ensures) ∙ sym c.in-Some.ensures in
-    let enough = is_enough c.in_ok-fill-2.field-0 (9 + c.in-Some.size) (length c.fill-2.new.self) c.if-not-branch-2.false c.in_ok-fill-2.ensures.enough.0 in
-    (u.0, u.1, t.2 ∙ u.2, content_whole c.args.place c.in-Some.size c.fill.new.self t.0 c.fill-2.new.self u.0 c.in-Some.field-0-1.now head u.2 enough)
+    let head : unit_head_at c.args.place c.fill.new.self ≡ Some (head_view c.in-Some.head, c.in-Some.field-0-1.now) = ap (unit_head_at c.args.place) (sym c.as_slice.ensures) ∙ sym c.in-Some.ensures in
+    let enough = is_enough c.in_ok-fill-2.field-0 (9 + c.in-Some.head.size) (length c.fill-2.new.self) c.if-not-branch-2.false c.in_ok-fill-2.ensures.enough.0 in
+    (u.0, u.1, t.2 ∙ u.2, content_whole c.args.place (head_view c.in-Some.head) c.fill.new.self t.0 c.fill-2.new.self u.0 c.in-Some.field-0-1.now head u.2 enough)
 
 pub returns-clause-whole : goal.returns-clause-whole
 returns-clause-whole g c =
-    let head : unit_head_at c.args.place c.fill.new.self ≡ Some (c.in-Some.size, c.in-Some.field-0-1.now) = ap (unit_head_at c.args.place) (sym c.as_slice.ensures) ∙ sym c.in-Some.ensures in
-    let seen = head_rest c.args.place c.fill.new.self (c.in-Some.size, c.in-Some.field-0-1.now) head in
-    (is_enough c.in_ok-fill-2.field-0 (9 + c.in-Some.size) (length c.fill-2.new.self) c.if-not-branch-2.false c.in_ok-fill-2.ensures.enough.0, seen.2)
+    let head : unit_head_at c.args.place c.fill.new.self ≡ Some (head_view c.in-Some.head, c.in-Some.field-0-1.now) = ap (unit_head_at c.args.place) (sym c.as_slice.ensures) ∙ sym c.in-Some.ensures in
+    let seen = head_rest c.args.place c.fill.new.self (head_view c.in-Some.head, c.in-Some.field-0-1.now) head in
+    (is_enough c.in_ok-fill-2.field-0 (9 + c.in-Some.head.size) (length c.fill-2.new.self) c.if-not-branch-2.false c.in_ok-fill-2.ensures.enough.0, seen.2)
+
+pub returns-clause-connection : goal.returns-clause-connection
+returns-clause-connection g c =
+    let head : unit_head_at c.args.place c.fill.new.self ≡ Some (head_view c.in-Some.head, c.in-Some.field-0-1.now) = ap (unit_head_at c.args.place) (sym c.as_slice.ensures) ∙ sym c.in-Some.ensures in
+    let parts = head_parts c.args.place c.fill.new.self (head_view c.in-Some.head, c.in-Some.field-0-1.now) head in
+    (head_within c.args.place (head_view c.in-Some.head) parts.3).0

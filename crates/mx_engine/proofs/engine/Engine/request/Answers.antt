@@ -1,18 +1,14 @@
-use Rattle.std.proofs.Common.{ap}
+use Rattle.std.proofs.Common.{sym, ◌∙◌}
 use Rattle.mx_model.specs.Histories.{state_of}
-use Rattle.mx_model.specs.Views.{request_view}
 use Rattle.mx_engine.specs.Views.{reply_view}
-use Rattle.mx_engine.proofs.EngineLaws.{stands_selected, stands_replaced}
+use Rattle.mx_engine.proofs.EngineLaws.{stands_counted, stands_read_only}
 use Rattle.mx_engine.proofs.engine.Engine.request.Goals as goal
 
-pub returns-in-Select : goal.returns-in-Select
-returns-in-Select c = λ base history stands can.
-    let arm = c.in-Select in
-    stands_selected c.args.self.now base history c.args._name (request_view c.args.request.now) (reply_view c.select.result) arm.space arm.limit arm.key.now
-    stands can (ap request_view arm.is) (c.select.ensures (state_of base history) stands.holds)
+pub returns-then-not-takes : goal.returns-then-not-takes
+returns-then-not-takes c = λ base history stands can.
+    stands_read_only c.args.self.now base history c.args._name c.args.request.now stands can (sym c.takes.ensures ∙ c.if-not-takes.true)
 
-pub returns-in-Replace : goal.returns-in-Replace
-returns-in-Replace c = λ base history stands can.
-    let arm = c.in-Replace in
-    stands_replaced c.args.self.now c.replace.new.self base history c.args._name (request_view c.args.request.now) (reply_view c.replace.result) arm.space arm.tuple.now
-    stands can (ap request_view arm.is) (c.replace.ensures.answers (state_of base history) stands.holds) c.replace.ensures.keeps
+pub returns : goal.returns
+returns c = λ base history stands can.
+    stands_counted c.args.self.now c.answer.new.self base history c.args._name c.args.request.now (reply_view c.answer.result)
+    stands can (c.answer.ensures.answers (state_of base history) stands.holds) c.answer.ensures.keeps

@@ -1,32 +1,37 @@
-use Rattle.std.proofs.Common.{ap, ◌∙◌, Err}
-use Rattle.std.proofs.lemmas.Result.{err_from_is_err_and}
-use Rattle.mx_top.proofs.EndLaws.{end_keeps}
+use Rattle.std.proofs.Common.{subst}
+use Rattle.mx_model.specs.Histories.{IsLegal}
 use Rattle.mx_model.proofs.CommitLaws.{commits_follow}
-use Rattle.mx_top.proofs.StopLaws.{failed_alone, is_disk_stop}
+use Rattle.mx_top.specs.Crashes.{Lasts}
+use Rattle.mx_top.specs.Serving.{left_from}
+use Rattle.mx_top.proofs.BreakLaws.{end_broken}
+use Rattle.mx_top.proofs.ClosingLaws.{closed}
+use Rattle.mx_top.proofs.EndLaws.{end_keeps}
+use Rattle.mx_top.proofs.LastingLaws.{lasts_none, where_err}
 use Rattle.mx_top.proofs.ServingLaws.{end_lasts}
 use Rattle.mx_top.proofs.server.Server.end.Goals as goal
 
-pub returns-in_err-end-clause-fault : goal.returns-in_err-end-clause-fault
-returns-in_err-end-clause-fault g c = λ same.
-    let p = err_from_is_err_and c.from_residual.result c.from_residual.ensures.1 in
-    c.in_err-end.ensures.cause.failed (ap (λ e. Err e) (failed_alone c.in_err-end.field-0.0 c.from_residual.result (p.1 ∙ ap (λ e. Err e) p.2) same))
+pub returns-in_err-leave_all-clause-breaks : goal.returns-in_err-leave_all-clause-breaks
+returns-in_err-leave_all-clause-breaks g c = λ start units history serves.
+    let states = g.D.Dir.states c.args.dir.now in
+    where_err c.from_residual.result (end_broken start c.args.self units history states states serves (lasts_none start.base history states))
 
-pub returns-in_err-end-clause-stops : goal.returns-in_err-end-clause-stops
-returns-in_err-end-clause-stops g c =
-    let p = err_from_is_err_and c.from_residual.result c.from_residual.ensures.1 in
-    rw (p.1, p.2) (is_disk_stop c.in_err-end.field-0.0)
+pub returns-in_err-end-clause-breaks : goal.returns-in_err-end-clause-breaks
+returns-in_err-end-clause-breaks g c = λ start units history serves.
+    let old = g.D.Dir.states c.args.dir.now in
+    let new = g.D.Dir.states c.end.new.dir in
+    let lasts : Lasts start.base history old new =
+    end_lasts start.base history c.args.self.engine c.args.self.journal old new serves.ready c.end.ensures.told c.end.ensures.moments in
+    where_err c.from_residual-in_err-end.result (end_broken start c.args.self units history old new serves lasts)
 
-pub returns-clause-keeps : goal.returns-clause-keeps
-returns-clause-keeps g c = λ base history ready.
-    end_keeps base history c.args.self.engine c.args.self.journal (g.D.Dir.states c.args.dir.now) (g.D.Dir.states c.end.new.dir)
-    (commits_follow base history ready.behind.stands.legal) ready c.in_ok-end.ensures.told c.in_ok-end.ensures.ended
-
-pub returns-in_err-end-clause-lasts : goal.returns-in_err-end-clause-lasts
-returns-in_err-end-clause-lasts g c = λ base history ready.
-    end_lasts base history c.args.self.engine c.args.self.journal (g.D.Dir.states c.args.dir.now) (g.D.Dir.states c.end.new.dir) ready
-    c.end.ensures.told c.end.ensures.moments
-
-pub returns-clause-lasts : goal.returns-clause-lasts
-returns-clause-lasts g c = λ base history ready.
-    end_lasts base history c.args.self.engine c.args.self.journal (g.D.Dir.states c.args.dir.now) (g.D.Dir.states c.end.new.dir) ready
-    c.end.ensures.told c.end.ensures.moments
+pub returns-clause-closed : goal.returns-clause-closed
+returns-clause-closed g c = λ start units history serves.
+    let old = g.D.Dir.states c.args.dir.now in
+    let new = g.D.Dir.states c.end.new.dir in
+    let stands = serves.ready.behind.stands in
+    let left = c.in_ok-leave_all.ensures.left start.base history stands in
+    let lasts : Lasts start.base history old new =
+    end_lasts start.base history c.args.self.engine c.args.self.journal old new serves.ready c.end.ensures.told c.end.ensures.moments in
+    closed start c.args.self units history old new serves
+    (subst (λ l. IsLegal start.base (left_from 0 l history)) c.deref.ensures.value left.legal) lasts
+    (end_keeps start.base history c.args.self.engine c.args.self.journal old new (commits_follow start.base history stands.legal) serves.ready
+    c.in_ok-end.ensures.told c.in_ok-end.ensures.ended)

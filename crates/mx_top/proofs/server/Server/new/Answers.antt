@@ -1,15 +1,15 @@
-use Rattle.std.proofs.Common.{[], refl, ap, ◌∙◌, sym}
-use Rattle.mx_top.specs.Greeting.{greeting_of}
+use Rattle.std.proofs.Common.{[], refl, sym, ap, ◌∙◌}
+use Rattle.mx_reply.specs.Greeting.{greeting_of}
 use Rattle.mx_top.proofs.server.Server.new.Goals as goal
 
 pub returns : goal.returns
 returns c = λ start states seeded ready.
     let instance = ap (λ i. greeting_of i.instance c.args.seed.now) (c.ids.ensures start.base [] ready.behind.stands) in
     record {
-      greeting = c.in_ok-greeting.ensures ∙ instance ∙ ap (greeting_of start.base.ids.instance) (sym seeded);
+      greeting = c.in_ok-write_greeting.ensures ∙ instance ∙ ap (greeting_of start.base.ids.instance) (sym seeded);
       ready = ready;
       asks = refl;
-      told = λ on. refl;
-      whole = refl;
-      opened = refl;
+      told = refl;
+      table = c.in_ok-no_sessions.ensures.table;
+      sessions = λ connection within. c.in_ok-no_sessions.ensures.none connection;
     }

@@ -1,0 +1,44 @@
+//! Connections that come and go, side by side.
+
+use crate::harness::{GREETING, NONE, ON_ONE, TO_ONE, TRACE, joined, packet, reply, run_on, unit};
+use std::alloc::{AllocError, Global};
+use std::test::Fail;
+
+#[test]
+fn a_packet_may_have_two_mebibytes(rt: HostRuntime) -> Result<(), Fail> {
+    let alloc = rt.alloc();
+    let bytes = Vec::from_elem(alloc, 0, 2_097_140)?;
+    let ping = joined(
+        alloc,
+        &[
+            b"\xce\x00\x20\x00\x00\x82\x00\x40\x01\x01\x81\x7e\xc6\x00\x1f\xff\xf4",
+            &bytes,
+        ],
+    )?;
+    let ran = run_on(alloc, &TRACE, &unit(alloc, ON_ONE, &[&ping])?, NONE)?;
+    let told = reply(alloc, 0, 1, b"\x80")?;
+    assert_eq!(rt; ran.output, unit(alloc, TO_ONE, &[GREETING, &told])?);
+    Ok(())
+}
+
+/// A unit for each of so many connections, with a PING of connection and round as its sync.
+fn pings(alloc: Global, connections: u32, round: u8) -> Result<Vec<u8>, AllocError> {
+    let mut input = Vec::new(alloc);
+    for connection in 0..connections {
+        let [_, _, high, low] = connection.to_be_bytes();
+        let asked = packet(alloc, &[&[0x82, 0x00, 0x40, 0x01, 0xcd, low, round]])?;
+        input.extend_from_slice(&unit(alloc, &[0, 0, 0, high, low], &[&asked])?)?;
+    }
+    Ok(input)
+}
+
+#[test]
+fn a_thousand_connections_take_turns(rt: HostRuntime) -> Result<(), Fail> {
+    let alloc = rt.alloc();
+    let input = joined(alloc, &[&pings(alloc, 1024, 1)?, &pings(alloc, 1024, 2)?])?;
+    let ran = run_on(alloc, &TRACE, &input, NONE)?;
+    assert_eq!(rt; ran.status.as_str(), "Ok");
+    // A unit's head, and the greeting in the first round, and a reply of 29 bytes.
+    assert_eq!(rt; ran.output.len(), 1024 * (8 + 128 + 29) + 1024 * (8 + 29));
+    Ok(())
+}

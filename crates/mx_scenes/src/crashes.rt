@@ -1,0 +1,318 @@
+//! Tests of what a run finds in a directory where an earlier one was stopped.
+
+use crate::harness::{
+    BLOCK, END, FIRST, GREETING, HEADER, NEXT_HEADER, NONE, ON_ONE, Ran, SECOND, TO_ONE, TRACE,
+    append, directory_of, file, found, joined, packet, reply, run_in, unit,
+};
+use mx_fake::MemoryDir;
+use mx_outside::{Dir, DirFault};
+use std::alloc::{AllocError, Global};
+use std::process::Abort;
+use std::test::Fail;
+
+/// The block of the REPLACE of [2, "b"], as the second commit of replica 1.
+const SECOND_BLOCK: &[u8; 36] = b"\xd5\xba\x0b\xab\xce\0\0\0\x11\0\xce\xe6\xd2\x25\xad\xa3\0\0\0\
+    \x83\x00\x03\x02\x01\x03\x02\x82\x10\xcd\x02\x00\x21\x92\x02\xa1b";
+
+const THIRD: &str = "00000000000000000002.xlog";
+
+/// The header of the journal that begins behind two commits.
+const THIRD_HEADER: &[u8; 122] = b"XLOG\n0.13\nInstance: 00010203-0405-4607-8809-0a0b0c0d0e0f\n\
+    ReplicaSet: 10111213-1415-4617-9819-1a1b1c1d1e1f\nVClock: {1: 2}\n\n";
+
+/// The tuple of a key: [1, "a"], [2, "b"] and so on.
+fn tuple(key: u8) -> [u8; 4] {
+    [0x92, key, 0xa1, 0x60 | key]
+}
+
+/// REPLACE of a key's tuple into space 512, in a unit for each key; the key is the sync too.
+fn replaces(alloc: Global, keys: &[u8]) -> Result<Vec<u8>, AllocError> {
+    let mut input = Vec::new(alloc);
+    for key in keys {
+        let header = [0x82, 0x00, 0x03, 0x01, *key];
+        let body = b"\x82\x10\xcd\x02\x00\x21";
+        let asked = packet(alloc, &[&header, body, &tuple(*key)])?;
+        input.extend_from_slice(&unit(alloc, ON_ONE, &[&asked])?)?;
+    }
+    Ok(input)
+}
+
+/// SELECT of a key in space 512 by a limit of 1, in a unit for each key; the key is the sync too.
+fn selects(alloc: Global, keys: &[u8]) -> Result<Vec<u8>, AllocError> {
+    let mut input = Vec::new(alloc);
+    for key in keys {
+        let header = [0x82, 0x00, 0x01, 0x01, *key];
+        let body = b"\x84\x10\xcd\x02\x00\x12\x01\x14\x00\x20\x91";
+        let asked = packet(alloc, &[&header, body, &[*key]])?;
+        input.extend_from_slice(&unit(alloc, ON_ONE, &[&asked])?)?;
+    }
+    Ok(input)
+}
+
+/// The reply to the request of a key: its tuple, or no tuple.
+fn answer(alloc: Global, key: u8, is_there: bool) -> Result<Vec<u8>, AllocError> {
+    if is_there {
+        found(alloc, key, &tuple(key))
+    } else {
+        reply(alloc, 0, key, b"\x81\x30\xdd\x00\x00\x00\x00")
+    }
+}
+
+/// The output of a run that is asked for these keys in a unit each, where those up to `front` are
+/// there.
+fn answers(alloc: Global, keys: &[u8], front: u8) -> Result<Vec<u8>, AllocError> {
+    let mut output = Vec::new(alloc);
+    for key in keys {
+        let mut packets = Vec::new(alloc);
+        if output.is_empty() {
+            packets.extend_from_slice(GREETING)?;
+        }
+        packets.extend_from_slice(&answer(alloc, *key, *key <= front)?)?;
+        output.extend_from_slice(&unit(alloc, TO_ONE, &[&packets])?)?;
+    }
+    Ok(output)
+}
+
+/// A directory whose one journal has these bytes.
+fn directory_with(alloc: Global, bytes: &[u8]) -> Result<MemoryDir, DirFault> {
+    let mut dir = MemoryDir::new(alloc, Vec::new(alloc));
+    dir.create(alloc, FIRST)?;
+    append(alloc, &mut dir, FIRST, bytes)?;
+    Ok(dir)
+}
+
+/// Checks that a run on a journal of the first block and this end finds the keys up to `front`, which
+/// is 1 or 2, that it begins its own journal behind them, and that it leaves the other one as it was.
+fn check_end(rt: &impl Abort, alloc: Global, end: &[u8], front: u8) -> Result<(), Fail> {
+    let old = joined(alloc, &[HEADER, BLOCK, end])?;
+    let dir = directory_with(alloc, &old)?;
+    let ran = run_in(alloc, dir, &TRACE, &selects(alloc, &[1, 2])?, NONE)?;
+    assert_eq!(rt; ran.status.as_str(), "Ok", "behind the block {end:?}");
+    assert_eq!(rt;
+        ran.output,
+        answers(alloc, &[1, 2], front)?,
+        "behind the block {end:?}"
+    );
+    let (name, header) = if front == 2 {
+        (THIRD, THIRD_HEADER)
+    } else {
+        (SECOND, NEXT_HEADER)
+    };
+    let mut dir = directory_of(ran)?;
+    let names = dir.list(alloc)?;
+    assert_eq!(rt; names.as_slice().len(), 2, "behind the block {end:?}");
+    assert_eq!(rt; file(alloc, &mut dir, FIRST)?, old);
+    assert_eq!(rt;
+        file(alloc, &mut dir, name)?,
+        joined(alloc, &[header, END])?,
+        "behind the block {end:?}"
+    );
+    Ok(())
+}
+
+#[test]
+fn a_block_that_is_cut_anywhere_counts_for_nothing(rt: HostRuntime) -> Result<(), Fail> {
+    let alloc = rt.alloc();
+    for count in 0..36 {
+        check_end(&rt, alloc, &SECOND_BLOCK[..count], 1)?;
+    }
+    check_end(&rt, alloc, SECOND_BLOCK, 2)
+}
+
+/// The front of a block without data, whose checksum is 0.
+const NO_DATA: &[u8] = b"\xd5\xba\x0b\xab\xce\0\0\0\0\0\xce\0\0\0\0\xa3\0\0\0";
+
+/// Ends of the first journal: bytes, so many of the second block, and bytes behind these; and the
+/// last key that is found.
+const ENDS: [(&[u8], usize, &[u8], u8); 18] = [
+    (b"", 0, &[0], 1),
+    (b"", 0, &[0; 40], 1),
+    (b"", 0, &[0xff], 1),
+    (b"", 0, &[0xff; 40], 1),
+    (b"", 0, b"\xd5", 1),
+    (b"", 0, b"\xd5\x10", 1),
+    (b"", 0, b"\xd5\x10\xad", 1),
+    (b"", 0, END, 1),
+    (b"", 19, &[0; 17], 1),
+    (b"", 35, b"c", 1),
+    (b"", 35, &[0xff; 40], 1),
+    (END, 36, b"", 1),
+    (b"\xd5\x10\xad", 36, b"", 1),
+    (b"\0", 36, b"", 1),
+    (NO_DATA, 36, b"", 1),
+    (b"", 36, &[0; 40], 2),
+    (b"", 36, &[0xff; 40], 2),
+    (b"", 36, END, 2),
+];
+
+#[test]
+fn other_ends_count_for_nothing(rt: HostRuntime) -> Result<(), Fail> {
+    let alloc = rt.alloc();
+    for (before, count, behind, front) in ENDS {
+        let block = SECOND_BLOCK.get(..count).unwrap_or(b"");
+        let end = joined(alloc, &[before, block, behind])?;
+        check_end(&rt, alloc, &end, front)?;
+    }
+    Ok(())
+}
+
+/// Runs one after the other over one directory: the keys that each of them REPLACEs.
+type Runs = &'static [&'static [u8]];
+
+/// More calls than any of these runs make on the directory.
+const MOST_CALLS: u64 = 100;
+
+const RUNS: [Runs; 3] = [&[&[1, 2, 3]], &[&[1], &[2, 3, 4]], &[&[], &[1, 2, 3]]];
+
+/// One key more than any of these runs REPLACEs.
+const KEYS: [u8; 5] = [1, 2, 3, 4, 5];
+
+/// How a directory goes on behind the stop: as it is, or restarted by this choice. A block has 36
+/// bytes, and a header 118.
+const CHOICES: [Option<u32>; 8] = [
+    None,
+    Some(0),
+    Some(1),
+    Some(2),
+    Some(39),
+    Some(70),
+    Some(72),
+    Some(2001),
+];
+
+/// What was seen of runs that were stopped at a call, and of those that came after them.
+#[derive(Clone, Copy, Debug)]
+struct Seen {
+    /// Whether no run was stopped.
+    has_ended: bool,
+    /// The last key whose reply went out, if all that went out were the replies up to it.
+    acknowledged: Option<u8>,
+    /// The last key that the next run finds, if it finds all from 1 up to it.
+    found: Option<u8>,
+    /// The same of one more run, behind a crash that keeps nothing that wasn't synced.
+    found_again: Option<u8>,
+}
+
+impl Seen {
+    /// Whether what was acknowledged is found, and besides at most the next commit, where all of its
+    /// block may be there.
+    fn is_right(&self, runs: Runs, choice: Option<u32>) -> bool {
+        let (Some(least), Some(found)) = (self.acknowledged, self.found) else {
+            return false;
+        };
+        let is_cut = choice.is_some_and(|choice| choice / 2 < 36);
+        let next = least.saturating_add(1).min(last_key(runs));
+        let most = if is_cut { least } else { next };
+        least <= found && found <= most && self.found_again == self.found
+    }
+}
+
+/// The last key that these runs REPLACE.
+fn last_key(runs: Runs) -> u8 {
+    let last = runs.last().and_then(|keys| keys.last());
+    last.copied().unwrap_or(0)
+}
+
+/// The last key up to which an output is the answers to these keys, or `before` where it has none;
+/// nothing where it is something else.
+fn last_answered(
+    alloc: Global,
+    output: &[u8],
+    keys: &[u8],
+    before: u8,
+) -> Result<Option<u8>, AllocError> {
+    for count in 0..=keys.len() {
+        let answered = &keys[..count];
+        if output == answers(alloc, answered, u8::MAX)?.as_slice() {
+            return Ok(Some(answered.last().copied().unwrap_or(before)));
+        }
+    }
+    Ok(None)
+}
+
+/// The last key that a run found, if it ended well and found all from 1 up to it.
+fn last_told(alloc: Global, ran: &Ran) -> Result<Option<u8>, AllocError> {
+    for front in 0..=5 {
+        if ran.status.as_str() == "Ok" && ran.output == answers(alloc, &KEYS, front)? {
+            return Ok(Some(front));
+        }
+    }
+    Ok(None)
+}
+
+/// The last key that one more run finds in a directory, and the directory.
+fn last_found(alloc: Global, dir: MemoryDir) -> Result<(Option<u8>, MemoryDir), AllocError> {
+    let ran = run_in(alloc, dir, &TRACE, &selects(alloc, &KEYS)?, NONE)?;
+    let last = last_told(alloc, &ran)?;
+    Ok((last, directory_of(ran)?))
+}
+
+/// Runs over a new directory, of whose calls this one fails, up to the run that it stops. Says
+/// whether none was stopped, and the last key whose reply went out, and hands on the directory.
+fn stopped(
+    alloc: Global,
+    runs: Runs,
+    call: u64,
+) -> Result<(bool, Option<u8>, MemoryDir), AllocError> {
+    let mut failing = Vec::new(alloc);
+    failing.push(call)?;
+    let mut dir = MemoryDir::new(alloc, failing);
+    let mut acknowledged = Some(0);
+    for keys in runs {
+        let ran = run_in(alloc, dir, &TRACE, &replaces(alloc, keys)?, NONE)?;
+        if let Some(before) = acknowledged {
+            acknowledged = last_answered(alloc, &ran.output, keys, before)?;
+        }
+        let has_ended = ran.status.as_str() == "Ok";
+        dir = directory_of(ran)?;
+        if !has_ended {
+            return Ok((false, acknowledged, dir));
+        }
+    }
+    // The first call that no run made may be the one that fails, so it is one that changes nothing.
+    let _names = dir.list(alloc);
+    Ok((true, acknowledged, dir))
+}
+
+/// Stops runs at this call, crashes by the choice, and looks at what further runs find.
+fn look_after(alloc: Global, runs: Runs, call: u64, choice: Option<u32>) -> Result<Seen, DirFault> {
+    let (has_ended, acknowledged, mut dir) = stopped(alloc, runs, call)?;
+    if let Some(choice) = choice {
+        dir.restart(alloc, choice)?;
+    }
+    let (found, mut dir) = last_found(alloc, dir)?;
+    dir.restart(alloc, 1)?;
+    let (found_again, _) = last_found(alloc, dir)?;
+    Ok(Seen {
+        has_ended,
+        acknowledged,
+        found,
+        found_again,
+    })
+}
+
+#[test]
+fn what_was_acknowledged_is_found_after_a_stop_at_any_call(rt: HostRuntime) -> Result<(), Fail> {
+    let alloc = rt.alloc();
+    for runs in RUNS {
+        let mut has_ended = false;
+        let mut is_more_found = false;
+        for call in 1..MOST_CALLS {
+            if has_ended {
+                break;
+            }
+            for choice in CHOICES {
+                let seen = look_after(alloc, runs, call, choice)?;
+                assert!(rt;
+                    seen.is_right(runs, choice),
+                    "{runs:?} stopped at call {call}, and {choice:?}: {seen:?}"
+                );
+                has_ended = seen.has_ended;
+                is_more_found |= seen.found > seen.acknowledged;
+            }
+        }
+        assert!(rt; has_ended, "{runs:?} made more than {MOST_CALLS} calls");
+        assert!(rt; is_more_found, "{runs:?} left no block without its reply");
+    }
+    Ok(())
+}
