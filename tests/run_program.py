@@ -13,7 +13,21 @@ import tempfile
 import threading
 from pathlib import Path
 
-from units import EXAMPLE, PROGRAM, ROOT, SEED, TRACE, environment, is_built
+from units import (
+    EXAMPLE,
+    GREETING,
+    PROGRAM,
+    ROOT,
+    SEED,
+    TRACE,
+    close_unit,
+    contents,
+    environment,
+    input_unit,
+    is_built,
+    output_unit,
+    packet,
+)
 
 INPUT = (EXAMPLE / "input.bin").read_bytes()
 OUTPUT = (EXAMPLE / "output.bin").read_bytes()
@@ -200,6 +214,46 @@ def notices_are_printed():
         check_end(ended, 0, None, ended.stdout)
 
 
+def bytes_may_come_one_by_one():
+    one_by_one = b"".join(input_unit(bytes([byte])) for byte in INPUT[9:])
+    ended = run(TRACE, one_by_one)
+    check_end(ended, 0, None, ended.stdout)
+    assert b"".join(contents(ended.stdout)) == OUTPUT[8:], "the cut changes the output"
+
+
+def connections_come_and_go():
+    # A PING without a sync, the reply to it, a packet with c1 and its refusal.
+    ping, header = bytes.fromhex("03810040"), "8300ce%08x01cf%016x05ce00000000"
+    pong = packet(bytes.fromhex(header % (0, 0)), b"\x80")
+    bad = bytes.fromhex("0682004001" "07c1")
+    refused = packet(bytes.fromhex(header % (0x8014, 7)), b"\x81\x31\xb9Packet is not MessagePack")
+    given = [input_unit(ping, 1023), input_unit(ping + bad + ping), input_unit(ping), close_unit()]
+    told = [output_unit(GREETING + pong, 1023), output_unit(GREETING + pong + refused), output_unit(b"")]
+    given += [input_unit(ping, 1023), input_unit(ping)]
+    told += [output_unit(pong, 1023), output_unit(GREETING + pong)]
+    check_end(run(TRACE, b"".join(given)), 0, None, b"".join(told))
+
+
+def client_shows_a_conversation():
+    client = [sys.executable, ROOT / "examples" / "conversation.py"]
+    ended = subprocess.run(client, capture_output=True, text=True, timeout=SECONDS)
+    assert ended.returncode == 0, f"status {ended.returncode}, {ended.stderr!r}"
+    shown = [" ".join(line.split()) for line in ended.stdout.splitlines()]
+    for line in (
+        "greeting: Tarantool 2.11.0 (Binary) 00010203-0405-4607-8809-0a0b0c0d0e0f",
+        "OK, version 1, features [0, 1] (sync 1)",
+        "OK (sync 3)",
+        "OK, 1 tuple: [1, 'apple'] (sync 2)",
+        "OK, 0 tuples (sync 6)",
+        "error 36: Space 513 does not exist (sync 7)",
+        "error 69: Missing key 0x20 (sync 8)",
+        "error 20: Packet is not MessagePack (sync 7)",
+        "the server closes the connection",
+    ):
+        assert any(text.endswith(line) for text in shown), f"no line {line!r}"
+    assert shown[-1] == "OK (sync 1)", "the second connection 2 isn't answered"
+
+
 def bad_input_is_refused():
     check_end(run(TRACE, b"\x05"), 1, "BadInput 0")
 
@@ -302,6 +356,9 @@ CHECKS = (
     directory_has_one_process,
     words_are_refused,
     notices_are_printed,
+    bytes_may_come_one_by_one,
+    connections_come_and_go,
+    client_shows_a_conversation,
     bad_input_is_refused,
     cut_unit_is_refused,
     later_bad_unit_is_named,

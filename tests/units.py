@@ -52,14 +52,19 @@ def packet(header, body):
     return sized(b"\xce", header + body)
 
 
-def input_unit(packets):
-    """A unit of input: kind 0 and connection 1."""
-    return sized(b"\x00\x00\x00\x00\x01", packets)
+def input_unit(content, connection=1):
+    """A unit of input: bytes on a connection."""
+    return sized(b"\x00" + connection.to_bytes(4, "big"), content)
 
 
-def output_unit(replies):
-    """A unit of output to connection 1."""
-    return sized(b"\x00\x00\x00\x01", replies)
+def close_unit(connection=1):
+    """A unit of input: the close of a connection."""
+    return sized(b"\x01" + connection.to_bytes(4, "big"), b"")
+
+
+def output_unit(replies, connection=1):
+    """A unit of output to a connection."""
+    return sized(connection.to_bytes(4, "big"), replies)
 
 
 def tuple_of(key):

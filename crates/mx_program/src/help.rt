@@ -55,15 +55,15 @@ the disk before its answer goes out, and the next run finds it. One process uses
 directory at a time.
 
 Input is a list of units. Each number in them is big-endian:
-  kind         1 byte, 0: a client sent packets
-  connection   4 bytes, 1
-  length       4 bytes, at most 16777216
-  packets      that many bytes: whole IPROTO packets
+  kind         1 byte: 0, bytes came on a connection; 1, it was closed
+  connection   4 bytes, at most 1023
+  length       4 bytes, at most 16777216; 0 for a close
+  bytes        that many: IPROTO packets, cut anywhere
 
-Output is a list of units too. It begins with the greeting, and then has the answers
-to the packets in their order:
+Output is a list of units too. What a connection is sent begins with the greeting, and
+then has the answers to its packets in their order:
   connection   4 bytes
-  length       4 bytes
+  length       4 bytes; 0 where the server ended the connection
   bytes        that many
 
 Exit status:
