@@ -4,6 +4,9 @@
 Each input sets 1,000 keys, and then has pairs of a REPLACE and a SELECT of one key. What the
 setting alone costs is taken off, and the rest is divided by the number of the pairs' requests. A
 server whose work on a request doesn't grow with the number of requests has a ratio near 1.
+
+Then the cut is measured: what a byte costs more that comes in a unit of its own, beside what a unit
+costs that brings an empty-bodied PING.
 """
 
 import argparse
@@ -25,11 +28,17 @@ KEYS = 1000
 STEP = 389
 SIZES = (1_000, 10_000, 100_000)
 MOST_BYTES = 16_777_216
+# As many connections as take turns.
+CONNECTIONS = 1000
 SHAPES = {
-    "keys": "one unit, 1,000 keys",
-    "key": "one unit, one key",
+    "keys": "units of 16 MiB, 1,000 keys",
+    "key": "units of 16 MiB, one key",
     "units": "a unit per pair",
+    "connections": "a unit per pair, 1,000 connections in turn",
+    "bytes": "a unit per byte",
 }
+# A size, a header of one key, the type, and no body.
+PING = b"\x03\x81\x00\x40"
 
 
 def packet(kind, sync, body):
@@ -81,25 +90,34 @@ def pairs(shape, count):
 def requests(shape, count):
     """The input with this many pairs."""
     asked = pairs(shape, count)
-    return setting() + (b"".join(map(input_unit, asked)) if shape == "units" else units(asked))
-
-
-def output_bytes(output):
-    """What the units of the output hold, one after another."""
-    at, held = 0, bytearray()
-    while at < len(output):
-        size = int.from_bytes(output[at + 4 : at + 8], "big")
-        held += output[at + 8 : at + 8 + size]
-        at += 8 + size
-    return bytes(held)
+    if shape == "connections":
+        made = b"".join(input_unit(pair, at % CONNECTIONS) for at, pair in enumerate(asked))
+    elif shape == "units":
+        made = b"".join(map(input_unit, asked))
+    elif shape == "bytes":
+        made = b"".join(input_unit(bytes([byte])) for pair in asked for byte in pair)
+    else:
+        made = units(asked)
+    return setting() + made
 
 
 def answers(output):
-    """How many replies with tuples the output has after the greeting."""
-    held, at, found = output_bytes(output), 128, 0
-    while at < len(held):
-        found += held[at + 5 : at + 12] == b"\x83\x00\xce\x00\x00\x00\x00"
-        at += 5 + int.from_bytes(held[at + 1 : at + 5], "big")
+    """How many replies with tuples the output has, each behind its connection's greeting."""
+    sent, at = {}, 0
+    while at < len(output):
+        connection = output[at : at + 4]
+        size = int.from_bytes(output[at + 4 : at + 8], "big")
+        sent.setdefault(connection, bytearray()).extend(output[at + 8 : at + 8 + size])
+        at += 8 + size
+    return sum(map(tuples_in, sent.values()))
+
+
+def tuples_in(sent):
+    """How many replies with tuples a connection was sent."""
+    at, found = 128, 0
+    while at < len(sent):
+        found += sent[at + 5 : at + 12] == b"\x83\x00\xce\x00\x00\x00\x00"
+        at += 5 + int.from_bytes(sent[at + 1 : at + 5], "big")
     return found
 
 
@@ -153,6 +171,17 @@ def measure(shape, sizes, base):
         print(f"  largest to smallest: {costs[-1] / costs[0]:.3f}")
 
 
+def measure_cut(count, base):
+    """Prints what a byte costs more in a unit of its own, and what a unit of a PING costs."""
+    whole, _ = instructions(requests("keys", count))
+    cut, _ = instructions(requests("bytes", count))
+    size = sum(map(len, pairs("keys", count)))
+    pings, _ = instructions(setting() + input_unit(PING) * size)
+    print(f"the cut, at {count:,} pairs of {size:,} bytes:")
+    print(f"  a byte in a unit of its own: {(cut - whole) / size:,.1f} instructions more")
+    print(f"  a unit of a PING: {(pings - base) / size:,.1f} instructions", flush=True)
+
+
 def main():
     parser = argparse.ArgumentParser(description=__doc__.splitlines()[0])
     parser.add_argument("--shape", choices=SHAPES, action="append", help="only this shape")
@@ -166,6 +195,8 @@ def main():
     print(f"setting {KEYS:,} keys: {base:,} instructions")
     for shape in options.shape or SHAPES:
         measure(shape, options.sizes, base)
+    if not options.shape:
+        measure_cut(min(options.sizes), base)
 
 
 if __name__ == "__main__":
