@@ -6,3 +6,4 @@ pub mod Readers
 pub mod Spelling
 pub mod Owned
 pub mod Writing
+pub mod Items

@@ -4,6 +4,7 @@
 mod bad;
 mod bytes;
 mod head;
+mod items;
 mod laws;
 mod readers;
 mod reading;
@@ -15,6 +16,7 @@ mod writing;
 
 pub use bad::Bad;
 pub use bytes::Bytes;
+pub use items::{Items, array_of, parted};
 pub use laws::{
     no_spelling_begins_another, what_is_written_is_read_again, what_is_written_is_shortest,
 };
