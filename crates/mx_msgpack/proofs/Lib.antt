@@ -23,3 +23,4 @@ pub mod OwnedLaws
 pub mod WriterLaws
 pub mod ClaimLaws
 pub mod TakingLaws
+pub mod ItemLaws

@@ -1,7 +1,9 @@
 //! What the definitions say together.
 
-ghost use Rattle.std.specs.Prelude.{◌≡◌, ◌≤◌, ◌++◌, [], List, ℕ, length, Ok};
-ghost use Rattle.mx_msgpack.specs.Grammar.{Spells, Value, most_nested};
+ghost use Rattle.std.specs.Prelude.{◌≡◌, ◌≤◌, ◌++◌, [], List, ℕ, length, Ok, Some};
+ghost use Rattle.std.specs.List.{concat};
+ghost use Rattle.mx_msgpack.specs.Grammar.{Array, Spells, Value, Values, most_nested};
+ghost use Rattle.mx_msgpack.specs.Items.{SpellEach, items_of};
 ghost use Rattle.mx_msgpack.specs.Reading.{measured};
 ghost use Rattle.mx_msgpack.specs.Spelling.{AreBytes, IsSpellable, shortest};
 
@@ -25,4 +27,12 @@ pub fn what_is_written_is_read_again()
 pub fn what_is_written_is_shortest()
     ensures { (value : Value) (bytes : List ℕ) → AreBytes bytes → Spells most_nested value bytes
         → length (shortest value) ≤ length bytes }
+{}
+
+/// A law, which does nothing when it is called: bytes that spell an array are its head and then its
+/// items, and each item is the spelling of the value in its place.
+pub fn array_items_are_spelled()
+    ensures { (bytes : List ℕ) (values : Values) → Spells most_nested (Array values) bytes
+        → (head : List ℕ) × (items : List (List ℕ)) × (items_of bytes ≡ Some items)
+        × (bytes ≡ head ++ concat items) × SpellEach 63 values items }
 {}

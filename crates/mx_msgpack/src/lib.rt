@@ -18,7 +18,8 @@ pub use bad::Bad;
 pub use bytes::Bytes;
 pub use items::{Items, array_of, parted};
 pub use laws::{
-    no_spelling_begins_another, what_is_written_is_read_again, what_is_written_is_shortest,
+    array_items_are_spelled, no_spelling_begins_another, what_is_written_is_read_again,
+    what_is_written_is_shortest,
 };
 pub use readers::{after_byte, bytes_at, number_at, unsigned_32_at, unsigned_at};
 pub use reading::{ReadBad, read_value};
