@@ -1,6 +1,8 @@
 pub mod Results
 pub mod ValueLaws
 pub mod Stack
+pub mod FlatLaws
+pub mod StepLaws
 pub mod SignedLaws
 pub mod LeadingLaws
 pub mod Heads

@@ -85,60 +85,87 @@ pub stack_pops : (total room : ℕ) (left : List ℕ) (depth : ℕ) (bytes : Lis
 unfolding counters after_stack
 stack_pops total room left depth bytes e = rw e refl
 
--- one value of the innermost container
-one_value : (total room : ℕ) (left : List ℕ) (depth count : ℕ) (bytes : List ℕ) → get_or left depth 0 ≡ suc count
-    → after_stack total room (counters left (suc depth)) bytes ≡ (after_value total room bytes >>= after_stack total room (count ∷ counters left depth))
-unfolding counters after_stack
-one_value total room left depth count bytes e = rw e (bind_bind (after_value total room bytes) (after_all (after_value total room) count) (after_stack total (suc room) (counters left depth)))
+-- ---- one value of the innermost container, over a plain stack
 
-one_step : (total room : ℕ) (left : List ℕ) (depth count : ℕ) (bytes : List ℕ) (step : Result (Option Inside × List ℕ) Bad) → get_or left depth 0 ≡ suc count
-    → step_over (total - length bytes) bytes ≡ step
-    → after_stack total room (counters left (suc depth)) bytes
-    ≡ ((step >>= λ x. after_step (inside_of total room) (total - length bytes) x.0 x.1) >>= after_stack total room (count ∷ counters left depth))
-one_step total room left depth count bytes step e s =
-    one_value total room left depth count bytes e
-    ∙ ap (λ (r : Result (List ℕ) Bad). r >>= after_stack total room (count ∷ counters left depth))
-    (value_steps total room bytes ∙ ap (λ (r : Result (Option Inside × List ℕ) Bad). r >>= λ x. after_step (inside_of total room) (total - length bytes) x.0 x.1) s)
+module _ (total room count : ℕ) (others bytes : List ℕ) where
+  plain_value : after_stack total room (suc count ∷ others) bytes ≡ (after_value total room bytes >>= after_stack total room (count ∷ others))
+  unfolding after_stack
+  plain_value = bind_bind (after_value total room bytes) (after_all (after_value total room) count) (after_stack total (suc room) others)
+
+  plain_step : (step : Result (Option Inside × List ℕ) Bad) → step_over (total - length bytes) bytes ≡ step
+      → after_stack total room (suc count ∷ others) bytes
+      ≡ ((step >>= λ x. after_step (inside_of total room) (total - length bytes) x.0 x.1) >>= after_stack total room (count ∷ others))
+  plain_step step s =
+      plain_value
+      ∙ ap (λ (r : Result (List ℕ) Bad). r >>= after_stack total room (count ∷ others))
+      (value_steps total room bytes ∙ ap (λ (r : Result (Option Inside × List ℕ) Bad). r >>= λ x. after_step (inside_of total room) (total - length bytes) x.0 x.1) s)
+
+  pub plain_fails : (bad : Bad) → step_over (total - length bytes) bytes ≡ Err bad → after_stack total room (suc count ∷ others) bytes ≡ Err bad
+  plain_fails bad s = plain_step (Err bad) s
+
+  pub plain_steps : (rest : List ℕ) → step_over (total - length bytes) bytes ≡ Ok (None, rest)
+      → after_stack total room (suc count ∷ others) bytes ≡ after_stack total room (count ∷ others) rest
+  plain_steps rest s = plain_step (Ok (None, rest)) s
+
+module _ (total room count : ℕ) (others : List ℕ) (inside : Inside) (bytes rest : List ℕ) where
+  pub plain_long : most_length < inside.announced → step_over (total - length bytes) bytes ≡ Ok (Some inside, rest)
+      → after_stack total (suc room) (suc count ∷ others) bytes ≡ Err (Long (total - length bytes))
+  plain_long many s =
+      let stopped : after_inside (Some (after_value total room)) (total - length bytes) inside.announced (values_in inside) rest ≡ Err (Long (total - length bytes)) =
+      rw (lt-ltb most_length inside.announced many) refl in
+      plain_step total (suc room) count others bytes (Ok (Some inside, rest)) s
+      ∙ ap (λ (r : Result (List ℕ) Bad). r >>= after_stack total (suc room) (count ∷ others)) stopped
+
+  pub plain_pushes : inside.announced ≤ most_length → step_over (total - length bytes) bytes ≡ Ok (Some inside, rest)
+      → after_stack total (suc room) (suc count ∷ others) bytes ≡ after_stack total room (values_in inside ∷ count ∷ others) rest
+  unfolding after_stack
+  plain_pushes few s =
+      let going : after_inside (Some (after_value total room)) (total - length bytes) inside.announced (values_in inside) rest ≡ after_all (after_value total room) (values_in inside) rest =
+      rw (le-ltb most_length inside.announced few) refl in
+      plain_step total (suc room) count others bytes (Ok (Some inside, rest)) s
+      ∙ ap (λ (r : Result (List ℕ) Bad). r >>= after_stack total (suc room) (count ∷ others)) going
+
+-- ---- the same with the counters
+
+counters-one : (left : List ℕ) (depth count : ℕ) → get_or left depth 0 ≡ suc count → counters left (suc depth) ≡ suc count ∷ counters left depth
+unfolding counters
+counters-one left depth count e = rw e refl
 
 pub stack_fails : (total room : ℕ) (left : List ℕ) (depth count : ℕ) (bytes : List ℕ) (bad : Bad) → get_or left depth 0 ≡ suc count
     → step_over (total - length bytes) bytes ≡ Err bad
     → after_stack total room (counters left (suc depth)) bytes ≡ Err bad
-stack_fails total room left depth count bytes bad e s = one_step total room left depth count bytes (Err bad) e s
+stack_fails total room left depth count bytes bad e s = rw (counters-one left depth count e) (plain_fails total room count (counters left depth) bytes bad s)
 
 pub stack_steps : (total room : ℕ) (left : List ℕ) (depth count : ℕ) (bytes rest : List ℕ) → depth < length left → get_or left depth 0 ≡ suc count
     → step_over (total - length bytes) bytes ≡ Ok (None, rest)
     → after_stack total room (counters left (suc depth)) bytes ≡ after_stack total room (counters (set left depth count) (suc depth)) rest
 stack_steps total room left depth count bytes rest lt e s =
-    one_step total room left depth count bytes (Ok (None, rest)) e s
-    ∙ ap (λ (stack : List ℕ). after_stack total room stack rest) (sym (counters-at left depth count lt))
+    rw (counters-one left depth count e)
+    (plain_steps total room count (counters left depth) bytes rest s
+    ∙ ap (λ (stack : List ℕ). after_stack total room stack rest) (sym (counters-at left depth count lt)))
 
 pub stack_deep : (total : ℕ) (left : List ℕ) (depth count : ℕ) (inside : Inside) (bytes rest : List ℕ) → get_or left depth 0 ≡ suc count
     → step_over (total - length bytes) bytes ≡ Ok (Some inside, rest)
     → after_stack total 0 (counters left (suc depth)) bytes ≡ Err (Deep (total - length bytes))
-stack_deep total left depth count inside bytes rest e s = one_step total 0 left depth count bytes (Ok (Some inside, rest)) e s
+stack_deep total left depth count inside bytes rest e s =
+    rw (counters-one left depth count e) (plain_step total 0 count (counters left depth) bytes (Ok (Some inside, rest)) s)
 
 pub stack_long : (total room : ℕ) (left : List ℕ) (depth count : ℕ) (inside : Inside) (bytes rest : List ℕ) → most_length < inside.announced → get_or left depth 0 ≡ suc count
     → step_over (total - length bytes) bytes ≡ Ok (Some inside, rest)
     → after_stack total (suc room) (counters left (suc depth)) bytes ≡ Err (Long (total - length bytes))
 stack_long total room left depth count inside bytes rest many e s =
-    let stopped : after_inside (Some (after_value total room)) (total - length bytes) inside.announced (values_in inside) rest ≡ Err (Long (total - length bytes)) =
-    rw (lt-ltb most_length inside.announced many) refl in
-    one_step total (suc room) left depth count bytes (Ok (Some inside, rest)) e s
-    ∙ ap (λ (r : Result (List ℕ) Bad). r >>= after_stack total (suc room) (count ∷ counters left depth)) stopped
+    rw (counters-one left depth count e) (plain_long total room count (counters left depth) inside bytes rest many s)
 
 pub stack_pushes : (total room : ℕ) (left : List ℕ) (depth count : ℕ) (inside : Inside) (bytes rest : List ℕ) → suc depth < length left → inside.announced ≤ most_length
     → get_or left depth 0 ≡ suc count → step_over (total - length bytes) bytes ≡ Ok (Some inside, rest)
     → after_stack total (suc room) (counters left (suc depth)) bytes
     ≡ after_stack total room (counters (set (set left depth count) (suc depth) (values_in inside)) (suc (suc depth))) rest
-unfolding after_stack
 stack_pushes total room left depth count inside bytes rest lt few e s =
-    let going : after_inside (Some (after_value total room)) (total - length bytes) inside.announced (values_in inside) rest ≡ after_all (after_value total room) (values_in inside) rest =
-    rw (le-ltb most_length inside.announced few) refl in
-    one_step total (suc room) left depth count bytes (Ok (Some inside, rest)) e s
-    ∙ ap (λ (r : Result (List ℕ) Bad). r >>= after_stack total (suc room) (count ∷ counters left depth)) going
+    rw (counters-one left depth count e)
+    (plain_pushes total room count (counters left depth) inside bytes rest few s
     ∙ ap (λ (stack : List ℕ). after_stack total room (values_in inside ∷ stack) rest) (sym (counters-at left depth count (omega arith)))
     ∙ ap (λ (stack : List ℕ). after_stack total room stack rest)
-    (sym (counters-at (set left depth count) (suc depth) (values_in inside) (omega (arith, length-set {A = ℕ}))))
+    (sym (counters-at (set left depth count) (suc depth) (values_in inside) (omega (arith, length-set {A = ℕ})))))
 
 -- ---- the same, as the code counts
 
@@ -212,3 +239,21 @@ first_fails bytes bad e = first_step bytes (Err bad) e
 
 pub first_ends : (bytes rest : List ℕ) → step_over 0 bytes ≡ Ok (None, rest) → after_value (length bytes) 64 bytes ≡ Ok rest
 first_ends bytes rest e = first_step bytes (Ok (None, rest)) e
+
+pub first_inside : (bytes : List ℕ) (inside : Inside) (rest : List ℕ) → inside.announced ≤ most_length → step_over 0 bytes ≡ Ok (Some inside, rest)
+    → after_value (length bytes) 64 bytes ≡ after_all (after_value (length bytes) 63) (values_in inside) rest
+first_inside bytes inside rest few e =
+    let going : after_inside (Some (after_value (length bytes) 63)) 0 inside.announced (values_in inside) rest ≡ after_all (after_value (length bytes) 63) (values_in inside) rest =
+    rw (le-ltb most_length inside.announced few) refl in
+    first_step bytes (Ok (Some inside, rest)) e ∙ going
+
+pub first_long : (bytes : List ℕ) (inside : Inside) (rest : List ℕ) → most_length < inside.announced → step_over 0 bytes ≡ Ok (Some inside, rest)
+    → after_value (length bytes) 64 bytes ≡ Err (Long 0)
+first_long bytes inside rest many e =
+    let stopped : after_inside (Some (after_value (length bytes) 63)) 0 inside.announced (values_in inside) rest ≡ Err (Long 0) =
+    rw (lt-ltb most_length inside.announced many) refl in
+    first_step bytes (Ok (Some inside, rest)) e ∙ stopped
+
+pub stack_of_one : (total room count : ℕ) (bytes : List ℕ) → after_stack total room (count ∷ []) bytes ≡ after_all (after_value total room) count bytes
+unfolding after_stack
+stack_of_one total room count bytes = bind_Ok (after_all (after_value total room) count bytes)

@@ -1,6 +1,7 @@
 -- Numbers of 0 or more: what is read is spelled so, and what is spelled so is read, whatever follows.
 use Rattle.std.proofs.Common.{◌≡◌, ℕ, ◌-◌, ◌^◌, ◌≤◌, suc, true, List, ◌++◌, length, take, drop, Some, None, Result, Ok, Err, refl, sym, ap, ◌∙◌, append_assoc, inl, arith}
-use Rattle.std.proofs.Common.{nat_lt}
+use Rattle.std.proofs.Common.{nat_lt, ltb, Bool, false, ◌<◌, ◌∷◌, cond}
+use Rattle.std.proofs.lemmas.Bool.{lt-ltb}
 use Rattle.std.specs.Prelude.{ℤ, pos, negsuc, if◌then◌else◌}
 use Rattle.std.proofs.lemmas.List.{drop_at, length-append}
 use Rattle.mx_msgpack.specs.declared.bad.Bad.{Bad}
@@ -9,12 +10,15 @@ use Rattle.mx_msgpack.specs.declared.head.Head.TheVariants.{Nil, Bool as Boolean
 use Rattle.mx_msgpack.specs.Grammar as grammar
 use Rattle.mx_msgpack.specs.Grammar.{SpellsNumber, SpellsUnsigned, SpellsInt}
 use Rattle.mx_msgpack.specs.Reading.{head_at, after_value, reading_of, Shown, ShownNil, ShownBool, ShownInt, ShownStr, ShownBin, ShownArray, ShownMap, ShownOpaque, shown}
-use Rattle.mx_msgpack.specs.Readers.{Advances, IsStable, unsigned_from, unsigned_at, unsigned_32_at}
+use Rattle.mx_msgpack.specs.Readers.{Advances, IsStable, number_at, unsigned_from, unsigned_at, unsigned_32_at}
+use Rattle.mx_msgpack.specs.Reading as reading
+use Rattle.mx_msgpack.specs.declared.bad.Bad.TheVariants.{Short}
+use Rattle.byteorder.specs.Endian.{big_number}
 use Rattle.mx_msgpack.proofs.Options.{bind_some, allowed, same_some}
 use Rattle.mx_msgpack.proofs.Results.{bind_ok, ok_is}
 use Rattle.mx_msgpack.proofs.ValueLaws.{value_begins}
 use Rattle.mx_msgpack.proofs.Heads.{head_spelled, head_again}
-use Rattle.mx_msgpack.proofs.Shown.{int_seen}
+use Rattle.mx_msgpack.proofs.Shown.{head_fails, int_seen}
 use Rattle.mx_msgpack.proofs.FrontLaws.{spelled_some}
 
 -- ---- what is read is spelled
@@ -131,3 +135,43 @@ unfolding unsigned_32_at
 unsigned_32_at-IsStable bytes more found e =
     let p = unsigned_32_parts bytes found e in
     rw (unsigned_at-IsStable bytes more found p.0, p.1) refl
+
+-- ---- numbers by their leading byte
+
+headed : (bytes after : List ℕ) (number : ℕ) → head_at 0 bytes ≡ Ok (Int (pos number), after) → unsigned_at bytes ≡ Some (number, after)
+headed bytes after number e =
+    let s = head_spelled 0 bytes (Int (pos number)) after e in
+    ap unsigned_at s.1 ∙ int_read number s.0 after s.2
+
+headless : (bytes : List ℕ) (bad : Bad) → head_at 0 bytes ≡ Err bad → unsigned_at bytes ≡ None
+unfolding unsigned_at
+headless bytes bad e = ap (unsigned_from bytes) (head_fails bytes bad e)
+
+module _ (bytes rest : List ℕ) (leading : ℕ) (is : bytes ≡ leading ∷ rest) where
+  pub small : leading < 0x80 → unsigned_at bytes ≡ Some (leading, rest)
+  unfolding head_at
+  small low = headed bytes rest leading (rw (is, lt-ltb leading 0x80 low) refl)
+
+  wide_by : (width : ℕ) (b : Bool) → ltb (length rest) width ≡ b → head_at 0 bytes ≡ reading.unsigned_at width rest
+      → unsigned_at bytes ≡ cond b None (Some (big_number width (take width rest), drop width rest))
+  wide_by width true t e = headless bytes Short (e ∙ rw t refl)
+  wide_by width false t e = headed bytes (drop width rest) (big_number width (take width rest)) (e ∙ rw t refl)
+
+  wide : (width : ℕ) → head_at 0 bytes ≡ reading.unsigned_at width rest → unsigned_at bytes ≡ number_at width rest
+  wide width e = wide_by width (ltb (length rest) width) refl e
+
+  pub wide_1 : leading ≡ 0xcc → unsigned_at bytes ≡ number_at 1 rest
+  unfolding head_at
+  wide_1 k = wide 1 (rw (is, k) refl)
+
+  pub wide_2 : leading ≡ 0xcd → unsigned_at bytes ≡ number_at 2 rest
+  unfolding head_at
+  wide_2 k = wide 2 (rw (is, k) refl)
+
+  pub wide_4 : leading ≡ 0xce → unsigned_at bytes ≡ number_at 4 rest
+  unfolding head_at
+  wide_4 k = wide 4 (rw (is, k) refl)
+
+  pub wide_8 : leading ≡ 0xcf → unsigned_at bytes ≡ number_at 8 rest
+  unfolding head_at
+  wide_8 k = wide 8 (rw (is, k) refl)

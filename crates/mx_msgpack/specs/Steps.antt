@@ -1,10 +1,34 @@
 -- One step of the walk that measures a value: a head, and what stands behind it up to the next head.
-use Rattle.std.specs.Prelude.{ℕ, suc, List, Option, Some, None, Result, Ok, Err}
+use Rattle.std.specs.Prelude.{ℕ, suc, List, length, drop, Option, Some, None, Result, Ok, Err, nat_lt, ◌==◌, if◌then◌else◌}
 use Rattle.mx_msgpack.specs.declared.bad.Bad.{Bad}
+use Rattle.mx_msgpack.specs.declared.bad.Bad.TheVariants.{Short}
 use Rattle.mx_msgpack.specs.declared.head.Head.{Head}
 use Rattle.mx_msgpack.specs.declared.head.Head.TheVariants.{Nil, Bool as Boolean, Int, Str, Bin, Array, Map, Fixed, Extension}
 use Rattle.mx_msgpack.specs.declared.skipping.Inside.{Inside}
 use Rattle.mx_msgpack.specs.Reading.{◌>>=◌, head_at, after_bytes}
+
+-- the bytes after so many
+abbrev pub after_few : ℕ → List ℕ → Result (List ℕ) Bad
+after_few size rest = if nat_lt (length rest) size then Err Short else Ok (drop size rest)
+
+-- how many bytes follow a leading byte from ca to d8
+abbrev pub fixed_size : (leading : ℕ) → ℕ
+fixed_size leading =
+    if leading == 0xca then 4
+    else if leading == 0xcb then 8
+    else if leading == 0xcc then 1
+    else if leading == 0xcd then 2
+    else if leading == 0xce then 4
+    else if leading == 0xcf then 8
+    else if leading == 0xd0 then 1
+    else if leading == 0xd1 then 2
+    else if leading == 0xd2 then 4
+    else if leading == 0xd3 then 8
+    else if leading == 0xd4 then 2
+    else if leading == 0xd5 then 3
+    else if leading == 0xd6 then 5
+    else if leading == 0xd7 then 9
+    else 17
 
 abbrev pub behind : Result (List ℕ) Bad → Result (Option Inside × List ℕ) Bad
 behind (Ok rest) = Ok (None, rest)

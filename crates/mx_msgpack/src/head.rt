@@ -40,6 +40,7 @@ pub(crate) enum Kind {
 
 /// Reads the head of the value that stands first in `bytes`, and gives the bytes after the head.
 /// `at` is the place of the leading byte.
+#[inline]
 #[tactic(auto, unfolding(crate::specs::Reading::head_at))]
 pub(crate) fn head_at(at: usize, bytes: &[u8]) -> Result<(Head, &[u8]), Bad>
     ensures exact { Gives (λ x. (x.0, x.1.now)) result (head_at at bytes.now) }
@@ -61,6 +62,7 @@ pub(crate) fn head_at(at: usize, bytes: &[u8]) -> Result<(Head, &[u8]), Bad>
 }
 
 /// The head of a leading byte from c0 to c9.
+#[inline]
 fn low_head(at: usize, leading: u8, rest: &[u8]) -> Result<(Head, &[u8]), Bad>
     ensures exact { Gives (λ x. (x.0, x.1.now)) result (low_head at leading rest.now) }
     ensures shorter { IfOk result (λ x. length x.1.now ≤ length rest.now) }
@@ -80,6 +82,7 @@ fn low_head(at: usize, leading: u8, rest: &[u8]) -> Result<(Head, &[u8]), Bad>
 }
 
 /// The head of a leading byte from ca to d8.
+#[inline]
 fn number_head(leading: u8, rest: &[u8]) -> Result<(Head, &[u8]), Bad>
     ensures exact { Gives (λ x. (x.0, x.1.now)) result (number_head leading rest.now) }
     ensures shorter { IfOk result (λ x. length x.1.now ≤ length rest.now) }
@@ -104,6 +107,7 @@ fn number_head(leading: u8, rest: &[u8]) -> Result<(Head, &[u8]), Bad>
 }
 
 /// The head of a leading byte from d9 to df.
+#[inline]
 fn sized_head(leading: u8, rest: &[u8]) -> Result<(Head, &[u8]), Bad>
     ensures exact { Gives (λ x. (x.0, x.1.now)) result (sized_head leading rest.now) }
     ensures shorter { IfOk result (λ x. length x.1.now ≤ length rest.now) }
@@ -120,6 +124,7 @@ fn sized_head(leading: u8, rest: &[u8]) -> Result<(Head, &[u8]), Bad>
 }
 
 /// A head that goes on with a length of so many bytes.
+#[inline]
 fn sized_at(kind: Kind, width: usize, rest: &[u8]) -> Result<(Head, &[u8]), Bad>
     requires width { (width ≡ 1) ⊎ (width ≡ 2) ⊎ (width ≡ 4) }
     ensures exact { Gives (λ x. (x.0, x.1.now)) result (sized_at kind width rest.now) }
@@ -138,6 +143,7 @@ fn sized_at(kind: Kind, width: usize, rest: &[u8]) -> Result<(Head, &[u8]), Bad>
 }
 
 /// The head of this kind and length.
+#[inline]
 fn head_of(kind: Kind, size: u32) -> Head
     ensures { result ≡ head_of kind size }
 {
@@ -151,6 +157,7 @@ fn head_of(kind: Kind, size: u32) -> Head
 }
 
 /// A number of 0 or more, of so many bytes.
+#[inline]
 fn unsigned_at(width: usize, rest: &[u8]) -> Result<(Head, &[u8]), Bad>
     requires width { (width ≡ 1) ⊎ (width ≡ 2) ⊎ (width ≡ 4) ⊎ (width ≡ 8) }
     ensures exact { Gives (λ x. (x.0, x.1.now)) result (unsigned_at width rest.now) }
@@ -189,7 +196,8 @@ fn signed_at(width: usize, rest: &[u8]) -> Result<(Head, &[u8]), Bad>
 }
 
 /// The number in 1, 2, 4 or 8 bytes, the highest first.
-fn number_of(digits: &[u8]) -> u64
+#[inline(always)]
+pub(crate) fn number_of(digits: &[u8]) -> u64
     requires width { (length digits.now ≡ 1) ⊎ (length digits.now ≡ 2) ⊎ (length digits.now ≡ 4) ⊎ (length digits.now ≡ 8) }
     ensures { result ≡ big_number (length digits.now) digits.now }
 {

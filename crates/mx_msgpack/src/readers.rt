@@ -1,9 +1,10 @@
 //! Small pieces that stand first in some bytes, each with the bytes after it.
 
-ghost use Rattle.std.specs.Prelude.{◌≡◌};
+ghost use Rattle.std.specs.Prelude.{◌≡◌, ◌⊎◌};
 ghost use Rattle.std.specs.Option.{option_map, option_copied};
 ghost use Rattle.mx_msgpack.specs.Readers.{after_byte, number_at, bytes_at, unsigned_at, unsigned_32_at};
 
+use crate::head::number_of;
 use crate::value_ref::{ValueRef, read_ref};
 use byteorder::{BigEndian, ByteOrder};
 
@@ -40,8 +41,39 @@ pub fn bytes_at(count: usize, bytes: &[u8]) -> Option<(&[u8], &[u8])>
 
 /// An Int of MessagePack from 0 to `u64::MAX` in any of its spellings, and the bytes after it; `None` where
 /// another value stands first, or none.
-#[tactic(auto, unfolding(crate::specs::Readers::unsigned_at))]
 pub fn unsigned_at(bytes: &[u8]) -> Option<(u64, &[u8])>
+    ensures { option_map (λ x. (x.0, x.1.now)) result ≡ unsigned_at bytes.now }
+{
+    let Some((leading, rest)) = bytes.split_first() else {
+        return unsigned_read(bytes);
+    };
+    match *leading {
+        0x00..=0x7f => Some((u64::from(*leading), rest)),
+        0xcc => wide_at(1, rest),
+        0xcd => wide_at(2, rest),
+        0xce => wide_at(4, rest),
+        0xcf => wide_at(8, rest),
+        _ => unsigned_read(bytes),
+    }
+}
+
+/// A number of 1, 2, 4 or 8 bytes, the highest first, and the bytes after it; `None` where there are fewer.
+#[inline(always)]
+fn wide_at(width: usize, bytes: &[u8]) -> Option<(u64, &[u8])>
+    requires width { (width ≡ 1) ⊎ (width ≡ 2) ⊎ (width ≡ 4) ⊎ (width ≡ 8) }
+    ensures { option_map (λ x. (x.0, x.1.now)) result ≡ number_at width bytes.now }
+{
+    if bytes.len() < width {
+        return None;
+    }
+    let (digits, rest) = bytes.split_at(width);
+    Some((number_of(digits), rest))
+}
+
+/// As `unsigned_at`, by the value that stands first.
+#[inline(never)]
+#[tactic(auto, unfolding(crate::specs::Readers::unsigned_at))]
+fn unsigned_read(bytes: &[u8]) -> Option<(u64, &[u8])>
     ensures { option_map (λ x. (x.0, x.1.now)) result ≡ unsigned_at bytes.now }
 {
     match read_ref(bytes) {

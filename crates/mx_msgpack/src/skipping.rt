@@ -2,8 +2,8 @@
 
 ghost use Rattle.std.specs.Prelude.{◌≡◌, ◌<◌, ◌≤◌, ℕ, true, List, ◌∷◌, Ok, take, length, IfOk, IfErr, IfSome, Some, None};
 ghost use Rattle.mx_msgpack.specs.Grammar.{Value, Spells, most_nested};
-ghost use Rattle.mx_msgpack.specs.Reading.{Gives, after_bytes, measured, first_fault};
-ghost use Rattle.mx_msgpack.specs.Steps.{step_over};
+ghost use Rattle.mx_msgpack.specs.Reading.{Gives, after_bytes, head_at, measured, first_fault};
+ghost use Rattle.mx_msgpack.specs.Steps.{after_few, fixed_size, step_behind, step_over};
 
 use crate::bad::Bad;
 use crate::head::{Head, head_at};
@@ -41,12 +41,61 @@ fn measure(bytes: &[u8]) -> Result<usize, Bad>
     let (inside, rest) = step_over(0, bytes)?;
     match inside {
         None => Ok(bytes.len() - rest.len()),
-        Some(_) => walk(bytes),
+        Some(inside) => walk(inside, rest, bytes),
     }
 }
 
+/// As `skip`, from a head on that is read already.
+#[inline]
+pub(crate) fn measure_behind(head: Head, rest: &[u8], bytes: &[u8]) -> Result<usize, Bad>
+    requires head { head_at 0 bytes.now ≡ Ok (head, rest.now) }
+    requires within { length rest.now ≤ length bytes.now }
+    ensures { result ≡ measured bytes.now }
+{
+    let (inside, after) = step_behind(0, head, rest)?;
+    match inside {
+        None => Ok(bytes.len() - after.len()),
+        Some(inside) => walk(inside, after, bytes),
+    }
+}
+
+/// As `skip`, from head to head behind the head of a container, with one counter for all open
+/// containers: as few as are opened here can't stand too deep one inside the other.
+fn walk(inside: Inside, behind: &[u8], bytes: &[u8]) -> Result<usize, Bad>
+    requires step { step_over 0 bytes.now ≡ Ok (Some inside, behind.now) }
+    requires each { inside.each ≤ 2 }
+    requires within { length behind.now ≤ length bytes.now }
+    ensures { result ≡ measured bytes.now }
+{
+    if inside.announced > MOST_LENGTH {
+        return Err(Bad::Long(0));
+    }
+    // How many values are still to come in the open containers, and how many were opened.
+    let mut left = inside.each * inside.announced;
+    let mut opened = 1;
+    let mut rest = behind;
+    while left > 0 {
+        let at = bytes.len() - rest.len();
+        let (inside, after) = step_over(at, rest)?;
+        rest = after;
+        left -= 1;
+        if let Some(inside) = inside {
+            if opened == MOST_NESTED {
+                return walk_nested(bytes);
+            }
+            if inside.announced > MOST_LENGTH {
+                return Err(Bad::Long(at));
+            }
+            left += inside.each * inside.announced;
+            opened += 1;
+        }
+    }
+    Ok(bytes.len() - rest.len())
+}
+
 /// As `skip`, from head to head, with a counter for each open container.
-fn walk(bytes: &[u8]) -> Result<usize, Bad>
+#[inline(never)]
+fn walk_nested(bytes: &[u8]) -> Result<usize, Bad>
     ensures { result ≡ measured bytes.now }
 {
     // How many values are still to come: in the bytes themselves one, then in each open container.
@@ -79,17 +128,57 @@ fn walk(bytes: &[u8]) -> Result<usize, Bad>
 
 /// Steps over the head that stands first, and over what isn't values behind it. Gives what a
 /// container announces, where the head is one's, and the bytes after.
+#[inline(always)]
+#[tactic(auto, unfolding(crate::specs::Reading::head_at))]
 fn step_over(at: usize, bytes: &[u8]) -> Result<(Option<Inside>, &[u8]), Bad>
     ensures exact { Gives (λ x. (x.0, x.1.now)) result (step_over at bytes.now) }
     ensures shorter { IfOk result (λ x. length x.1.now < length bytes.now) }
     ensures each { IfOk result (λ x. IfSome x.0 (λ inside. inside.each ≤ 2)) }
 {
-    if let Some((leading, rest)) = bytes.split_first() {
-        if is_whole(*leading) {
-            return Ok((None, rest));
-        }
+    let Some((leading, rest)) = bytes.split_first() else {
+        return Err(Bad::Short);
+    };
+    match *leading {
+        0x00..=0x7f => Ok((None, rest)),
+        0x80..=0x8f => Ok((
+            Some(Inside {
+                announced: u32::from(*leading - 0x80),
+                each: 2,
+            }),
+            rest,
+        )),
+        0x90..=0x9f => Ok((
+            Some(Inside {
+                announced: u32::from(*leading - 0x90),
+                each: 1,
+            }),
+            rest,
+        )),
+        0xa0..=0xbf => Ok((None, after_few(usize::from(*leading - 0xa0), rest)?)),
+        0xca..=0xd8 => Ok((None, after_few(fixed_size(*leading), rest)?)),
+        0xc0..=0xc9 | 0xd9..=0xdf => step_sized(at, bytes),
+        0xe0..=0xff => Ok((None, rest)),
     }
+}
+
+/// As `step_over`, by the head's kind and number.
+#[inline(never)]
+fn step_sized(at: usize, bytes: &[u8]) -> Result<(Option<Inside>, &[u8]), Bad>
+    ensures exact { Gives (λ x. (x.0, x.1.now)) result (step_over at bytes.now) }
+    ensures shorter { IfOk result (λ x. length x.1.now < length bytes.now) }
+    ensures each { IfOk result (λ x. IfSome x.0 (λ inside. inside.each ≤ 2)) }
+{
     let (head, rest) = head_at(at, bytes)?;
+    step_behind(at, head, rest)
+}
+
+/// What a container announces, where the head is one's, and the bytes after what isn't values.
+#[inline(always)]
+fn step_behind(at: usize, head: Head, rest: &[u8]) -> Result<(Option<Inside>, &[u8]), Bad>
+    ensures exact { Gives (λ x. (x.0, x.1.now)) result (step_behind at head rest.now) }
+    ensures shorter { IfOk result (λ x. length x.1.now ≤ length rest.now) }
+    ensures each { IfOk result (λ x. IfSome x.0 (λ inside. inside.each ≤ 2)) }
+{
     match head {
         Head::Nil => Ok((None, rest)),
         Head::Bool(_) => Ok((None, rest)),
@@ -106,15 +195,45 @@ fn step_over(at: usize, bytes: &[u8]) -> Result<(Option<Inside>, &[u8]), Bad>
     }
 }
 
-/// Whether a value ends with its leading byte: a small Int.
-#[tactic(auto, unfolding(crate::specs::Reading::head_at))]
-fn is_whole(leading: u8) -> bool
-    ensures whole { result ≡ true → (at : ℕ) (rest : List ℕ) → step_over at (leading ∷ rest) ≡ Ok (None, rest) }
+/// How many bytes follow a leading byte from ca to d8: of a number, a float or an extension.
+#[inline(always)]
+fn fixed_size(leading: u8) -> usize
+    ensures { result ≡ fixed_size leading }
 {
-    leading < 0x80 || leading >= 0xe0
+    match leading {
+        0xca => 4,
+        0xcb => 8,
+        0xcc => 1,
+        0xcd => 2,
+        0xce => 4,
+        0xcf => 8,
+        0xd0 => 1,
+        0xd1 => 2,
+        0xd2 => 4,
+        0xd3 => 8,
+        0xd4 => 2,
+        0xd5 => 3,
+        0xd6 => 5,
+        0xd7 => 9,
+        _ => 17,
+    }
+}
+
+/// The bytes after so many.
+#[inline(always)]
+fn after_few(size: usize, rest: &[u8]) -> Result<&[u8], Bad>
+    ensures exact { Gives (λ x. x.now) result (after_few size rest.now) }
+    ensures shorter { IfOk result (λ x. length x.now ≤ length rest.now) }
+{
+    if rest.len() < size {
+        return Err(Bad::Short);
+    }
+    let (_, after) = rest.split_at(size);
+    Ok(after)
 }
 
 /// The bytes after so many, behind a head at this place that announces this length.
+#[inline(always)]
 fn after_bytes(at: usize, announced: u32, size: usize, rest: &[u8]) -> Result<&[u8], Bad>
     ensures exact { Gives (λ x. x.now) result (after_bytes at announced size rest.now) }
     ensures shorter { IfOk result (λ x. length x.now ≤ length rest.now) }
@@ -122,9 +241,5 @@ fn after_bytes(at: usize, announced: u32, size: usize, rest: &[u8]) -> Result<&[
     if announced > MOST_LENGTH {
         return Err(Bad::Long(at));
     }
-    if rest.len() < size {
-        return Err(Bad::Short);
-    }
-    let (_, after) = rest.split_at(size);
-    Ok(after)
+    after_few(size, rest)
 }

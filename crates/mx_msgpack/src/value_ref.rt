@@ -7,7 +7,7 @@ ghost use Rattle.mx_msgpack.specs.View.{view, Shows};
 
 use crate::bad::Bad;
 use crate::head::{Head, head_at};
-use crate::skipping::skip;
+use crate::skipping::measure_behind;
 
 /// A value in place. A container is its count and the bytes of all that it holds.
 #[derive(Clone, Copy, Debug)]
@@ -41,13 +41,14 @@ pub fn read_ref(bytes: &[u8]) -> Result<(ValueRef<'_>, usize), Bad>
     if let Head::Int(_) = head {
         return Ok((value_of(head, rest, bytes), bytes.len() - rest.len()));
     }
-    let size = skip(bytes)?;
+    let size = measure_behind(head, rest, bytes)?;
     let (whole, _) = bytes.split_at(size);
     let (content, _) = rest.split_at(size - (bytes.len() - rest.len()));
     Ok((value_of(head, content, whole), size))
 }
 
 /// The value of a head, of the bytes behind it, and of all of its bytes.
+#[inline(always)]
 fn value_of<'a>(head: Head, content: &'a [u8], whole: &'a [u8]) -> ValueRef<'a>
     ensures { view result ≡ shown head content.now whole.now }
 {

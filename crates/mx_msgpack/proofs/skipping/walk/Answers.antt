@@ -1,75 +1,66 @@
-use Rattle.std.proofs.Common.{◌≡◌, ◌-◌, ℕ, length, refl, sym, ◌∙◌, arith, length-set}
+use Rattle.std.proofs.Common.{◌≡◌, ◌-◌, length, sym, ◌∙◌, arith}
 use Rattle.std.proofs.lemmas.Result.{err_from_is_err_and}
+use Rattle.mx_msgpack.specs.Reading.{after_value}
 use Rattle.mx_msgpack.proofs.ValueLaws.{measured_ok, measured_err}
-use Rattle.mx_msgpack.proofs.Stack.{stack_begins, stack_ends, walk_pops, walk_fails, walk_steps, walk_deep, walk_long, walk_pushes}
+use Rattle.mx_msgpack.proofs.Stack.{first_long}
+use Rattle.mx_msgpack.proofs.FlatLaws.{top, values_few, flat_begins, flat_ends, flat_fails, flat_steps, flat_long, flat_pushes}
 use Rattle.mx_msgpack.proofs.skipping.walk.Goals as goal
 
-pub loop-depth-init : goal.loop-depth-init
-loop-depth-init c = record {
-  shallow = omega arith;
-  whole = refl;
-  within = omega arith;
-  same = stack_begins (length c.args.bytes.now) 64 _ c.args.bytes.now refl;
-}
+pub returns-then-inside-gt-MOST_LENGTH : goal.returns-then-inside-gt-MOST_LENGTH
+returns-then-inside-gt-MOST_LENGTH c =
+    measured_err c.args.bytes.now _ (first_long c.args.bytes.now c.args.inside c.args.behind.now (omega arith) c.requires.step)
 
-pub loop-depth-preserved-then-left-depth-eq0 : goal.loop-depth-preserved-then-left-depth-eq0
-loop-depth-preserved-then-left-depth-eq0 c = record {
-  shallow = omega arith;
-  whole = c.loop-depth.invariant.whole;
-  within = c.loop-depth.invariant.within;
-  same =
-      sym (walk_pops (length c.args.bytes.now) c.loop-depth.depth c.loop-depth.left c.loop-depth.rest.now c.loop-depth-test.true c.loop-depth.invariant.shallow c.if-left-depth-eq0.true)
-      ∙ c.loop-depth.invariant.same;
+pub loop-left-init : goal.loop-left-init
+loop-left-init c = record {
+  some = omega arith;
+  few = omega arith;
+  bound = values_few c.args.inside c.requires.each (omega arith);
+  within = c.requires.within;
+  same = flat_begins c.args.bytes.now c.args.inside c.args.behind.now c.requires.step (omega arith);
 }
 
 pub returns-in_err-inside : goal.returns-in_err-inside
 returns-in_err-inside c =
     let p = err_from_is_err_and c.from_residual.result c.from_residual.ensures.1 in
+    let t = top (length c.args.bytes.now) c.loop-left.rest.now _ c.loop-left.left c.loop-left.opened (omega arith) c.loop-left.invariant.same in
     rw (p.1, p.2)
     (measured_err c.args.bytes.now _
-    (sym c.loop-depth.invariant.same
-    ∙ walk_fails (length c.args.bytes.now) c.loop-depth.depth c.loop-depth.left c.loop-depth.rest.now c.loop-depth-test.true c.if-left-depth-eq0.false _ _
-    c.in_err-inside.ensures.exact))
+    (flat_fails (length c.args.bytes.now) c.loop-left.rest.now _ (c.loop-left.left - 1) c.loop-left.opened t _ c.in_err-inside.ensures.exact))
 
-pub returns-then-depth-gt-MOST_NESTED : goal.returns-then-depth-gt-MOST_NESTED
-returns-then-depth-gt-MOST_NESTED c =
+pub returns-then-inside-gt-MOST_LENGTH-2 : goal.returns-then-inside-gt-MOST_LENGTH-2
+returns-then-inside-gt-MOST_LENGTH-2 c =
+    let t = top (length c.args.bytes.now) c.loop-left.rest.now _ c.loop-left.left c.loop-left.opened (omega arith) c.loop-left.invariant.same in
     measured_err c.args.bytes.now _
-    (sym c.loop-depth.invariant.same
-    ∙ walk_deep (length c.args.bytes.now) c.loop-depth.depth c.loop-depth.left c.loop-depth.rest.now c.loop-depth-test.true c.if-left-depth-eq0.false
-    c.in-Some.inside c.in_ok-inside.after.now (omega arith) (rw c.in-Some.is at c.in_ok-inside.ensures.exact))
+    (flat_long (length c.args.bytes.now) c.loop-left.rest.now _ (c.loop-left.left - 1) c.loop-left.opened t c.in-Some.inside c.in_ok-inside.after.now
+    (omega (arith, c.loop-left.invariant.few)) (rw c.in-Some.is at c.in_ok-inside.ensures.exact) (omega arith))
 
-pub returns-then-inside-gt-MOST_LENGTH : goal.returns-then-inside-gt-MOST_LENGTH
-returns-then-inside-gt-MOST_LENGTH c =
-    measured_err c.args.bytes.now _
-    (sym c.loop-depth.invariant.same
-    ∙ walk_long (length c.args.bytes.now) c.loop-depth.depth c.loop-depth.left c.loop-depth.rest.now c.loop-depth-test.true c.if-left-depth-eq0.false
-    c.in-Some.inside c.in_ok-inside.after.now (omega arith) (omega arith) (rw c.in-Some.is at c.in_ok-inside.ensures.exact))
+pub loop-left-preserved-in-Some : goal.loop-left-preserved-in-Some
+loop-left-preserved-in-Some c =
+    let t = top (length c.args.bytes.now) c.loop-left.rest.now _ c.loop-left.left c.loop-left.opened (omega arith) c.loop-left.invariant.same in
+    record {
+      some = omega arith;
+      few = omega (arith, c.loop-left.invariant.few);
+      bound = omega (arith, c.loop-left.invariant.bound, values_few c.in-Some.inside (rw c.in-Some.is at c.in_ok-inside.ensures.each) (omega arith));
+      within = omega (arith, c.in_ok-inside.ensures.shorter, c.loop-left.invariant.within);
+      same =
+          flat_pushes (length c.args.bytes.now) c.loop-left.rest.now _ (c.loop-left.left - 1) c.loop-left.opened t c.in-Some.inside c.in_ok-inside.after.now
+          (omega (arith, c.loop-left.invariant.few)) (rw c.in-Some.is at c.in_ok-inside.ensures.exact) (omega arith);
+    }
 
-pub loop-depth-preserved-in-Some : goal.loop-depth-preserved-in-Some
-loop-depth-preserved-in-Some c = record {
-  shallow = omega arith;
-  whole = omega (arith, length-set {A = ℕ});
-  within = omega (arith, c.in_ok-inside.ensures.shorter);
-  same =
-      sym (walk_pushes (length c.args.bytes.now) c.loop-depth.depth c.loop-depth.left c.loop-depth.rest.now c.loop-depth-test.true c.if-left-depth-eq0.false
-      c.in-Some.inside c.in_ok-inside.after.now (omega arith) c.loop-depth.invariant.whole (omega arith)
-      (rw c.in-Some.is at c.in_ok-inside.ensures.exact))
-      ∙ c.loop-depth.invariant.same;
-}
-
-pub loop-depth-preserved : goal.loop-depth-preserved
-loop-depth-preserved c = record {
-  shallow = c.loop-depth.invariant.shallow;
-  whole = omega (arith, length-set {A = ℕ});
-  within = omega (arith, c.in_ok-inside.ensures.shorter);
-  same =
-      sym (walk_steps (length c.args.bytes.now) c.loop-depth.depth c.loop-depth.left c.loop-depth.rest.now c.loop-depth-test.true c.if-left-depth-eq0.false
-      (65 - c.loop-depth.depth) c.in_ok-inside.after.now (omega arith) (rw c.in_default.is at c.in_ok-inside.ensures.exact))
-      ∙ c.loop-depth.invariant.same;
-}
+pub loop-left-preserved : goal.loop-left-preserved
+loop-left-preserved c =
+    let t = top (length c.args.bytes.now) c.loop-left.rest.now _ c.loop-left.left c.loop-left.opened (omega arith) c.loop-left.invariant.same in
+    record {
+      some = c.loop-left.invariant.some;
+      few = c.loop-left.invariant.few;
+      bound = omega (arith, c.loop-left.invariant.bound);
+      within = omega (arith, c.in_ok-inside.ensures.shorter, c.loop-left.invariant.within);
+      same =
+          flat_steps (length c.args.bytes.now) c.loop-left.rest.now _ (c.loop-left.left - 1) c.loop-left.opened t c.in_ok-inside.after.now
+          (rw c.in_default.is at c.in_ok-inside.ensures.exact);
+    }
 
 pub returns : goal.returns
 returns c =
-    let none : c.loop-depth.depth ≡ 0 = omega arith in
-    let same = rw none at c.loop-depth.invariant.same in
-    measured_ok c.args.bytes.now c.loop-depth.rest.now (sym same ∙ stack_ends (length c.args.bytes.now) 65 c.loop-depth.left c.loop-depth.rest.now)
+    measured_ok c.args.bytes.now c.loop-left.rest.now
+    (flat_ends (length c.args.bytes.now) c.loop-left.rest.now _ c.loop-left.left c.loop-left.opened (omega arith) c.loop-left.invariant.same)

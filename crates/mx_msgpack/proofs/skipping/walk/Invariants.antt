@@ -1,15 +1,16 @@
-use Rattle.std.proofs.Common.{◌≡◌, ◌≤◌, length, ◌+◌, ◌-◌, ◌*◌}
+use Rattle.std.proofs.Common.{◌≡◌, ◌≤◌, length, ◌*◌}
 use Rattle.mx_msgpack.specs.Reading.{after_value}
-use Rattle.mx_msgpack.proofs.Stack.{counters, after_stack}
+use Rattle.mx_msgpack.proofs.FlatLaws.{Flat}
 use Rattle.mx_msgpack.proofs.skipping.walk.Given as goal
 
-abbrev pub invariant-loop-depth : goal.invariant-loop-depth
-invariant-loop-depth l = record {
-  shallow : l.depth ≤ 65;
-  whole : length l.left ≡ 65;
+abbrev pub invariant-loop-left : goal.invariant-loop-left
+invariant-loop-left l = record {
+  some : 1 ≤ l.opened;
+  few : l.opened ≤ 64;
+  bound : l.left ≤ 4194304 * l.opened;
   within : length l.rest ≤ length l.bytes;
-  same : after_stack (length l.bytes) (65 - l.depth) (counters l.left l.depth) l.rest ≡ after_value (length l.bytes) 64 l.bytes;
+  same : Flat (length l.bytes) l.left l.opened l.rest (after_value (length l.bytes) 64 l.bytes);
 }
 
-abbrev pub decreases-loop-depth : goal.decreases-loop-depth
-decreases-loop-depth l = 2 * length l.rest + l.depth
+abbrev pub decreases-loop-left : goal.decreases-loop-left
+decreases-loop-left l = length l.rest

@@ -1,0 +1,71 @@
+-- Steps by the leading byte alone.
+use Rattle.std.proofs.Common.{◌≡◌, ℕ, ◌-◌, ◌<◌, ◌≤◌, ℤ, Bool, true, false, cond, ltb, List, ◌∷◌, length, drop, Option, Some, None, Result, Ok, Err, refl, ap, ◌∙◌, arith}
+use Rattle.std.specs.Prelude.{◌==◌}
+use Rattle.std.proofs.lemmas.Bool.{lt-ltb, le-ltb}
+use Rattle.mx_msgpack.specs.declared.bad.Bad.{Bad}
+use Rattle.mx_msgpack.specs.declared.bad.Bad.TheVariants.{Short}
+use Rattle.mx_msgpack.specs.declared.head.Head.{Head}
+use Rattle.mx_msgpack.specs.declared.head.Head.TheVariants.{Int, Str}
+use Rattle.mx_msgpack.specs.declared.skipping.Inside.{Inside}
+use Rattle.mx_msgpack.specs.Grammar.{most_length}
+use Rattle.mx_msgpack.specs.Reading.{◌>>=◌, head_at, number_head, unsigned_at, signed_at, after_bytes}
+use Rattle.mx_msgpack.specs.Steps.{after_few, fixed_size, behind, step_behind, step_over}
+use Rattle.mx_msgpack.proofs.LeadingLaws.{leads_number}
+
+-- what a head leads to
+abbrev stepped : ℕ → Result (Head × List ℕ) Bad → Result (Option Inside × List ℕ) Bad
+stepped at read = read >>= λ head. step_behind at head.0 head.1
+
+module _ (at : ℕ) (rest : List ℕ) where
+  -- a test that both the head and the size follow
+  either : (b : Bool) (x y : Result (Head × List ℕ) Bad) (s t : ℕ) → stepped at x ≡ behind (after_few s rest) → stepped at y ≡ behind (after_few t rest)
+      → stepped at (cond b x y) ≡ behind (after_few (cond b s t) rest)
+  either true x y s t p q = p
+  either false x y s t p q = q
+
+  number : (b : Bool) (value : ℤ) (after : List ℕ) → stepped at (cond b (Err Short) (Ok (Int value, after))) ≡ behind (cond b (Err Short) (Ok after))
+  number true value after = refl
+  number false value after = refl
+
+  unsigned_steps : (width : ℕ) → stepped at (unsigned_at width rest) ≡ behind (after_few width rest)
+  unsigned_steps width = number (ltb (length rest) width) _ (drop width rest)
+
+  signed_steps : (width : ℕ) → stepped at (signed_at width rest) ≡ behind (after_few width rest)
+  signed_steps width = number (ltb (length rest) width) _ (drop width rest)
+
+  number_steps : (leading : ℕ) → stepped at (number_head leading rest) ≡ behind (after_few (fixed_size leading) rest)
+  number_steps leading =
+      either (leading == 0xca) _ _ _ _ refl
+      (either (leading == 0xcb) _ _ _ _ refl
+      (either (leading == 0xcc) _ _ _ _ (unsigned_steps 1)
+      (either (leading == 0xcd) _ _ _ _ (unsigned_steps 2)
+      (either (leading == 0xce) _ _ _ _ (unsigned_steps 4)
+      (either (leading == 0xcf) _ _ _ _ (unsigned_steps 8)
+      (either (leading == 0xd0) _ _ _ _ (signed_steps 1)
+      (either (leading == 0xd1) _ _ _ _ (signed_steps 2)
+      (either (leading == 0xd2) _ _ _ _ (signed_steps 4)
+      (either (leading == 0xd3) _ _ _ _ (signed_steps 8)
+      (either (leading == 0xd4) _ _ _ _ refl
+      (either (leading == 0xd5) _ _ _ _ refl
+      (either (leading == 0xd6) _ _ _ _ refl
+      (either (leading == 0xd7) _ _ _ _ refl refl)))))))))))))
+
+module _ (at leading : ℕ) (bytes rest : List ℕ) (is : bytes ≡ leading ∷ rest) where
+  -- a number, a float or an extension of a fixed length
+  pub fixed_steps : (size : ℕ) → 0xca ≤ leading → leading < 0xd9 → size ≡ fixed_size leading → step_over at bytes ≡ behind (after_few size rest)
+  fixed_steps size low high e = rw e (ap (stepped at) (leads_number at leading bytes rest is low high) ∙ number_steps at rest leading)
+
+  -- a short text
+  pub text_steps : (size : ℕ) → 0xa0 ≤ leading → leading < 0xc0 → size ≡ leading - 0xa0 → step_over at bytes ≡ behind (after_few size rest)
+  unfolding head_at
+  text_steps size low high e =
+      let f1 : ltb leading 0x80 ≡ false = le-ltb _ _ (omega arith) in
+      let f2 : ltb leading 0x90 ≡ false = le-ltb _ _ (omega arith) in
+      let f3 : ltb leading 0xa0 ≡ false = le-ltb _ _ low in
+      let t : ltb leading 0xc0 ≡ true = lt-ltb _ _ high in
+      let short : ltb most_length (leading - 0xa0) ≡ false = le-ltb _ _ (omega arith) in
+      rw (is, e, f1, f2, f3, t, short) refl
+
+-- a step from a head that is read already
+pub headed_steps : (at : ℕ) (bytes : List ℕ) (head : Head) (rest : List ℕ) → head_at at bytes ≡ Ok (head, rest) → step_over at bytes ≡ step_behind at head rest
+headed_steps at bytes head rest e = ap (stepped at) e
