@@ -156,7 +156,10 @@ fn step_over(at: usize, bytes: &[u8]) -> Result<(Option<Inside>, &[u8]), Bad>
         )),
         0xa0..=0xbf => Ok((None, after_few(usize::from(*leading - 0xa0), rest)?)),
         0xca..=0xd8 => Ok((None, after_few(fixed_size(*leading), rest)?)),
-        0xc0..=0xc9 | 0xd9..=0xdf => step_sized(at, bytes),
+        0xc0 => Ok((None, rest)),
+        0xc2 => Ok((None, rest)),
+        0xc3 => Ok((None, rest)),
+        0xc1 | 0xc4..=0xc9 | 0xd9..=0xdf => step_sized(at, bytes),
         0xe0..=0xff => Ok((None, rest)),
     }
 }
