@@ -9,7 +9,7 @@ use Rattle.mx_msgpack.specs.declared.head.Head.TheVariants.{Int, Str}
 use Rattle.mx_msgpack.specs.declared.skipping.Inside.{Inside}
 use Rattle.mx_msgpack.specs.Grammar.{most_length}
 use Rattle.mx_msgpack.specs.Reading.{◌>>=◌, head_at, number_head, unsigned_at, signed_at, after_bytes}
-use Rattle.mx_msgpack.specs.Steps.{after_few, fixed_size, behind, step_behind, step_over}
+use Rattle.mx_msgpack.specs.Steps.{IsPlain, after_few, fixed_size, behind, step_behind, step_over}
 use Rattle.mx_msgpack.proofs.LeadingLaws.{leads_number}
 
 -- what a head leads to
@@ -50,21 +50,55 @@ module _ (at : ℕ) (rest : List ℕ) where
       (either (leading == 0xd6) _ _ _ _ refl
       (either (leading == 0xd7) _ _ _ _ refl refl)))))))))))))
 
-module _ (at leading : ℕ) (bytes rest : List ℕ) (is : bytes ≡ leading ∷ rest) where
-  -- a number, a float or an extension of a fixed length
-  pub fixed_steps : (size : ℕ) → 0xca ≤ leading → leading < 0xd9 → size ≡ fixed_size leading → step_over at bytes ≡ behind (after_few size rest)
-  fixed_steps size low high e = rw e (ap (stepped at) (leads_number at leading bytes rest is low high) ∙ number_steps at rest leading)
+-- no byte follows
+none_after : (rest : List ℕ) → behind (after_few 0 rest) ≡ Ok (None, rest)
+none_after rest = rw (le-ltb (length rest) 0 (omega arith)) refl
 
-  -- a short text
-  pub text_steps : (size : ℕ) → 0xa0 ≤ leading → leading < 0xc0 → size ≡ leading - 0xa0 → step_over at bytes ≡ behind (after_few size rest)
-  unfolding head_at
-  text_steps size low high e =
-      let f1 : ltb leading 0x80 ≡ false = le-ltb _ _ (omega arith) in
-      let f2 : ltb leading 0x90 ≡ false = le-ltb _ _ (omega arith) in
-      let f3 : ltb leading 0xa0 ≡ false = le-ltb _ _ low in
-      let t : ltb leading 0xc0 ≡ true = lt-ltb _ _ high in
-      let short : ltb most_length (leading - 0xa0) ≡ false = le-ltb _ _ (omega arith) in
-      rw (is, e, f1, f2, f3, t, short) refl
+-- a number, a float or an extension of a fixed length
+pub fixed_plain : (leading size : ℕ) → 0xca ≤ leading → leading < 0xd9 → size ≡ fixed_size leading → IsPlain leading size
+fixed_plain leading size low high e = λ at rest. rw e (ap (stepped at) (leads_number at leading (leading ∷ rest) rest refl low high) ∙ number_steps at rest leading)
+
+-- a short text
+pub text_plain : (leading size : ℕ) → 0xa0 ≤ leading → leading < 0xc0 → size ≡ leading - 0xa0 → IsPlain leading size
+unfolding head_at
+text_plain leading size low high e =
+    let f1 : ltb leading 0x80 ≡ false = le-ltb _ _ (omega arith) in
+    let f2 : ltb leading 0x90 ≡ false = le-ltb _ _ (omega arith) in
+    let f3 : ltb leading 0xa0 ≡ false = le-ltb _ _ low in
+    let t : ltb leading 0xc0 ≡ true = lt-ltb _ _ high in
+    let short : ltb most_length (leading - 0xa0) ≡ false = le-ltb _ _ (omega arith) in
+    λ at rest. rw (e, f1, f2, f3, t, short) refl
+
+-- a small number, and one just below 0
+pub small_plain : (leading : ℕ) → leading < 0x80 → IsPlain leading 0
+unfolding head_at
+small_plain leading low = λ at rest. rw (none_after rest, lt-ltb leading 0x80 low) refl
+
+pub below_plain : (leading : ℕ) → 0xe0 ≤ leading → leading < 0x100 → IsPlain leading 0
+unfolding head_at
+below_plain leading low high =
+    let f1 : ltb leading 0x80 ≡ false = le-ltb _ _ (omega arith) in
+    let f2 : ltb leading 0x90 ≡ false = le-ltb _ _ (omega arith) in
+    let f3 : ltb leading 0xa0 ≡ false = le-ltb _ _ (omega arith) in
+    let f4 : ltb leading 0xc0 ≡ false = le-ltb _ _ (omega arith) in
+    let f5 : ltb leading 0xca ≡ false = le-ltb _ _ (omega arith) in
+    let f6 : ltb leading 0xd9 ≡ false = le-ltb _ _ (omega arith) in
+    let f7 : ltb leading 0xe0 ≡ false = le-ltb _ _ low in
+    let t : ltb leading 0x100 ≡ true = lt-ltb _ _ high in
+    λ at rest. rw (none_after rest, f1, f2, f3, f4, f5, f6, f7, t) refl
+
+-- nil and the two of Bool
+pub nil_plain : (leading : ℕ) → leading ≡ 0xc0 → IsPlain leading 0
+unfolding head_at
+nil_plain leading e = λ at rest. rw (none_after rest, e) refl
+
+pub false_plain : (leading : ℕ) → leading ≡ 0xc2 → IsPlain leading 0
+unfolding head_at
+false_plain leading e = λ at rest. rw (none_after rest, e) refl
+
+pub true_plain : (leading : ℕ) → leading ≡ 0xc3 → IsPlain leading 0
+unfolding head_at
+true_plain leading e = λ at rest. rw (none_after rest, e) refl
 
 -- a step from a head that is read already
 pub headed_steps : (at : ℕ) (bytes : List ℕ) (head : Head) (rest : List ℕ) → head_at at bytes ≡ Ok (head, rest) → step_over at bytes ≡ step_behind at head rest

@@ -1,5 +1,5 @@
 -- One step of the walk that measures a value: a head, and what stands behind it up to the next head.
-use Rattle.std.specs.Prelude.{ℕ, suc, List, length, drop, Option, Some, None, Result, Ok, Err, nat_lt, ◌==◌, if◌then◌else◌}
+use Rattle.std.specs.Prelude.{◌≡◌, ℕ, suc, List, ◌∷◌, length, drop, Option, Some, None, Result, Ok, Err, nat_lt, ◌==◌, if◌then◌else◌}
 use Rattle.mx_msgpack.specs.declared.bad.Bad.{Bad}
 use Rattle.mx_msgpack.specs.declared.bad.Bad.TheVariants.{Short}
 use Rattle.mx_msgpack.specs.declared.head.Head.{Head}
@@ -50,3 +50,7 @@ abbrev pub step_over : ℕ → List ℕ → Result (Option Inside × List ℕ) B
 step_over at bytes = do
   head ← head_at at bytes
   step_behind at head.0 head.1
+
+-- the leading byte alone tells that so many bytes follow, and that no values stand in them
+abbrev pub IsPlain : (leading size : ℕ) → Type 0
+IsPlain leading size = (at : ℕ) (rest : List ℕ) → step_over at (leading ∷ rest) ≡ behind (after_few size rest)

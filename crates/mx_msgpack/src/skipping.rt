@@ -3,7 +3,7 @@
 ghost use Rattle.std.specs.Prelude.{◌≡◌, ◌<◌, ◌≤◌, ℕ, true, List, ◌∷◌, Ok, take, length, IfOk, IfErr, IfSome, Some, None};
 ghost use Rattle.mx_msgpack.specs.Grammar.{Value, Spells, most_nested};
 ghost use Rattle.mx_msgpack.specs.Reading.{Gives, after_bytes, head_at, measured, first_fault};
-ghost use Rattle.mx_msgpack.specs.Steps.{after_few, fixed_size, step_behind, step_over};
+ghost use Rattle.mx_msgpack.specs.Steps.{IsPlain, fixed_size, step_behind, step_over};
 
 use crate::bad::Bad;
 use crate::head::{Head, head_at};
@@ -13,6 +13,9 @@ pub(crate) const MOST_NESTED: usize = 64;
 
 /// How many bytes a text, bytes or an extension may have, and how many values or pairs a container.
 pub(crate) const MOST_LENGTH: u32 = 2_097_152;
+
+/// The most bytes that follow a leading byte that alone tells the value's length.
+const MOST_PLAIN: usize = 31;
 
 /// What a container announces: so many values, or pairs of two of them.
 #[derive(Clone, Copy)]
@@ -38,6 +41,9 @@ pub fn skip(bytes: &[u8]) -> Result<usize, Bad>
 fn measure(bytes: &[u8]) -> Result<usize, Bad>
     ensures { result ≡ measured bytes.now }
 {
+    if let Some(rest) = plain_after(bytes) {
+        return Ok(bytes.len() - rest.len());
+    }
     let (inside, rest) = step_over(0, bytes)?;
     match inside {
         None => Ok(bytes.len() - rest.len()),
@@ -75,10 +81,14 @@ fn walk(inside: Inside, behind: &[u8], bytes: &[u8]) -> Result<usize, Bad>
     let mut opened = 1;
     let mut rest = behind;
     while left > 0 {
+        left -= 1;
+        if let Some(after) = plain_after(rest) {
+            rest = after;
+            continue;
+        }
         let at = bytes.len() - rest.len();
         let (inside, after) = step_over(at, rest)?;
         rest = after;
-        left -= 1;
         if let Some(inside) = inside {
             if opened == MOST_NESTED {
                 return walk_nested(bytes);
@@ -139,7 +149,6 @@ fn step_over(at: usize, bytes: &[u8]) -> Result<(Option<Inside>, &[u8]), Bad>
         return Err(Bad::Short);
     };
     match *leading {
-        0x00..=0x7f => Ok((None, rest)),
         0x80..=0x8f => Ok((
             Some(Inside {
                 announced: u32::from(*leading - 0x80),
@@ -154,19 +163,13 @@ fn step_over(at: usize, bytes: &[u8]) -> Result<(Option<Inside>, &[u8]), Bad>
             }),
             rest,
         )),
-        0xa0..=0xbf => Ok((None, after_few(usize::from(*leading - 0xa0), rest)?)),
-        0xca..=0xd8 => Ok((None, after_few(fixed_size(*leading), rest)?)),
-        0xc0 => Ok((None, rest)),
-        0xc2 => Ok((None, rest)),
-        0xc3 => Ok((None, rest)),
-        0xc1 | 0xc4..=0xc9 | 0xd9..=0xdf => step_sized(at, bytes),
-        0xe0..=0xff => Ok((None, rest)),
+        _ => step_headed(at, bytes),
     }
 }
 
 /// As `step_over`, by the head's kind and number.
 #[inline(never)]
-fn step_sized(at: usize, bytes: &[u8]) -> Result<(Option<Inside>, &[u8]), Bad>
+fn step_headed(at: usize, bytes: &[u8]) -> Result<(Option<Inside>, &[u8]), Bad>
     ensures exact { Gives (λ x. (x.0, x.1.now)) result (step_over at bytes.now) }
     ensures shorter { IfOk result (λ x. length x.1.now < length bytes.now) }
     ensures each { IfOk result (λ x. IfSome x.0 (λ inside. inside.each ≤ 2)) }
@@ -198,6 +201,42 @@ fn step_behind(at: usize, head: Head, rest: &[u8]) -> Result<(Option<Inside>, &[
     }
 }
 
+/// The bytes after the value that stands first, where its leading byte alone tells its length; `None`
+/// where it doesn't, or not all of the value is there.
+#[inline(always)]
+fn plain_after(bytes: &[u8]) -> Option<&[u8]>
+    ensures plain { IfSome result (λ after. (at : ℕ) → step_over at bytes.now ≡ Ok (None, after.now)) }
+    ensures shorter { IfSome result (λ after. length after.now < length bytes.now) }
+{
+    let Some((leading, rest)) = bytes.split_first() else {
+        return None;
+    };
+    let size = plain_size(*leading);
+    if size > MOST_PLAIN || rest.len() < size {
+        return None;
+    }
+    let (_, after) = rest.split_at(size);
+    Some(after)
+}
+
+/// How many bytes follow a leading byte that alone tells the value's length; more than `MOST_PLAIN` for
+/// another one.
+#[inline(always)]
+fn plain_size(leading: u8) -> usize
+    ensures { result ≤ 31 → IsPlain leading result }
+{
+    match leading {
+        0x00..=0x7f => 0,
+        0xa0..=0xbf => usize::from(leading - 0xa0),
+        0xc0 => 0,
+        0xc2 => 0,
+        0xc3 => 0,
+        0xca..=0xd8 => fixed_size(leading),
+        0xe0..=0xff => 0,
+        _ => MOST_PLAIN + 1,
+    }
+}
+
 /// How many bytes follow a leading byte from ca to d8: of a number, a float or an extension.
 #[inline(always)]
 fn fixed_size(leading: u8) -> usize
@@ -222,19 +261,6 @@ fn fixed_size(leading: u8) -> usize
     }
 }
 
-/// The bytes after so many.
-#[inline(always)]
-fn after_few(size: usize, rest: &[u8]) -> Result<&[u8], Bad>
-    ensures exact { Gives (λ x. x.now) result (after_few size rest.now) }
-    ensures shorter { IfOk result (λ x. length x.now ≤ length rest.now) }
-{
-    if rest.len() < size {
-        return Err(Bad::Short);
-    }
-    let (_, after) = rest.split_at(size);
-    Ok(after)
-}
-
 /// The bytes after so many, behind a head at this place that announces this length.
 #[inline(always)]
 fn after_bytes(at: usize, announced: u32, size: usize, rest: &[u8]) -> Result<&[u8], Bad>
@@ -244,5 +270,9 @@ fn after_bytes(at: usize, announced: u32, size: usize, rest: &[u8]) -> Result<&[
     if announced > MOST_LENGTH {
         return Err(Bad::Long(at));
     }
-    after_few(size, rest)
+    if rest.len() < size {
+        return Err(Bad::Short);
+    }
+    let (_, after) = rest.split_at(size);
+    Ok(after)
 }

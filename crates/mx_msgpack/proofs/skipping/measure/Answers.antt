@@ -10,3 +10,6 @@ returns-in_err-inside c =
 
 pub returns-in-None : goal.returns-in-None
 returns-in-None c = measured_ok c.args.bytes.now c.in_ok-inside.rest.now (first_ends c.args.bytes.now c.in_ok-inside.rest.now (rw c.in-None.is at c.in_ok-inside.ensures.exact))
+
+pub returns-in-Some : goal.returns-in-Some
+returns-in-Some c = measured_ok c.args.bytes.now c.in-Some.rest.now (first_ends c.args.bytes.now c.in-Some.rest.now (c.in-Some.ensures.plain 0))

@@ -27,24 +27,37 @@ returns-in_err-inside c =
     (measured_err c.args.bytes.now _
     (flat_fails (length c.args.bytes.now) c.loop-left.rest.now _ (c.loop-left.left - 1) c.loop-left.opened t _ c.in_err-inside.ensures.exact))
 
-pub returns-then-inside-gt-MOST_LENGTH-2 : goal.returns-then-inside-gt-MOST_LENGTH-2
-returns-then-inside-gt-MOST_LENGTH-2 c =
-    let t = top (length c.args.bytes.now) c.loop-left.rest.now _ c.loop-left.left c.loop-left.opened (omega arith) c.loop-left.invariant.same in
-    measured_err c.args.bytes.now _
-    (flat_long (length c.args.bytes.now) c.loop-left.rest.now _ (c.loop-left.left - 1) c.loop-left.opened t c.in-Some.inside c.in_ok-inside.after.now
-    (omega (arith, c.loop-left.invariant.few)) (rw c.in-Some.is at c.in_ok-inside.ensures.exact) (omega arith))
-
 pub loop-left-preserved-in-Some : goal.loop-left-preserved-in-Some
 loop-left-preserved-in-Some c =
     let t = top (length c.args.bytes.now) c.loop-left.rest.now _ c.loop-left.left c.loop-left.opened (omega arith) c.loop-left.invariant.same in
     record {
+      some = c.loop-left.invariant.some;
+      few = c.loop-left.invariant.few;
+      bound = omega (arith, c.loop-left.invariant.bound);
+      within = omega (arith, c.in-Some.ensures.shorter, c.loop-left.invariant.within);
+      same =
+          flat_steps (length c.args.bytes.now) c.loop-left.rest.now _ (c.loop-left.left - 1) c.loop-left.opened t c.in-Some.after.now
+          (c.in-Some.ensures.plain (length c.args.bytes.now - length c.loop-left.rest.now));
+    }
+
+pub returns-then-inside-gt-MOST_LENGTH-2 : goal.returns-then-inside-gt-MOST_LENGTH-2
+returns-then-inside-gt-MOST_LENGTH-2 c =
+    let t = top (length c.args.bytes.now) c.loop-left.rest.now _ c.loop-left.left c.loop-left.opened (omega arith) c.loop-left.invariant.same in
+    measured_err c.args.bytes.now _
+    (flat_long (length c.args.bytes.now) c.loop-left.rest.now _ (c.loop-left.left - 1) c.loop-left.opened t c.in-Some-inside.inside c.in_ok-inside.after.now
+    (omega (arith, c.loop-left.invariant.few)) (rw c.in-Some-inside.is at c.in_ok-inside.ensures.exact) (omega arith))
+
+pub loop-left-preserved-in-Some-inside : goal.loop-left-preserved-in-Some-inside
+loop-left-preserved-in-Some-inside c =
+    let t = top (length c.args.bytes.now) c.loop-left.rest.now _ c.loop-left.left c.loop-left.opened (omega arith) c.loop-left.invariant.same in
+    record {
       some = omega arith;
       few = omega (arith, c.loop-left.invariant.few);
-      bound = omega (arith, c.loop-left.invariant.bound, values_few c.in-Some.inside (rw c.in-Some.is at c.in_ok-inside.ensures.each) (omega arith));
+      bound = omega (arith, c.loop-left.invariant.bound, values_few c.in-Some-inside.inside (rw c.in-Some-inside.is at c.in_ok-inside.ensures.each) (omega arith));
       within = omega (arith, c.in_ok-inside.ensures.shorter, c.loop-left.invariant.within);
       same =
-          flat_pushes (length c.args.bytes.now) c.loop-left.rest.now _ (c.loop-left.left - 1) c.loop-left.opened t c.in-Some.inside c.in_ok-inside.after.now
-          (omega (arith, c.loop-left.invariant.few)) (rw c.in-Some.is at c.in_ok-inside.ensures.exact) (omega arith);
+          flat_pushes (length c.args.bytes.now) c.loop-left.rest.now _ (c.loop-left.left - 1) c.loop-left.opened t c.in-Some-inside.inside c.in_ok-inside.after.now
+          (omega (arith, c.loop-left.invariant.few)) (rw c.in-Some-inside.is at c.in_ok-inside.ensures.exact) (omega arith);
     }
 
 pub loop-left-preserved : goal.loop-left-preserved
@@ -57,7 +70,7 @@ loop-left-preserved c =
       within = omega (arith, c.in_ok-inside.ensures.shorter, c.loop-left.invariant.within);
       same =
           flat_steps (length c.args.bytes.now) c.loop-left.rest.now _ (c.loop-left.left - 1) c.loop-left.opened t c.in_ok-inside.after.now
-          (rw c.in_default.is at c.in_ok-inside.ensures.exact);
+          (rw c.in_default-inside.is at c.in_ok-inside.ensures.exact);
     }
 
 pub returns : goal.returns
