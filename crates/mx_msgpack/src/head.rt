@@ -1,6 +1,6 @@
 //! What the leading byte of a value says (MessagePack specification, "Formats").
 
-ghost use Rattle.std.specs.Prelude.{◌≡◌, ◌⊎◌, ◌≤◌, ◌<◌, length, Ok, Err, IfOk};
+ghost use Rattle.std.specs.Prelude.{◌≡◌, ◌⊎◌, ◌≤◌, ◌<◌, length, Ok, Err, IfOk, IfSome};
 ghost use Rattle.byteorder.specs.Endian.{big_number};
 ghost use Rattle.mx_msgpack.specs.Reading.{Gives, head_at, head_of, low_head, number_head, signed_at, sized_at, sized_head, unsigned_at};
 
@@ -58,6 +58,25 @@ pub(crate) fn head_at(at: usize, bytes: &[u8]) -> Result<(Head, &[u8]), Bad>
         0xca..=0xd8 => number_head(*leading, rest),
         0xd9..=0xdf => sized_head(*leading, rest),
         0xe0..=0xff => Ok((Head::Int(i128::from(*leading) - 0x100), rest)),
+    }
+}
+
+/// The head that stands first, where it is a leading byte alone that tells a number or a length.
+#[inline(always)]
+#[tactic(auto, unfolding(crate::specs::Reading::head_at))]
+pub(crate) fn short_head(bytes: &[u8]) -> Option<(Head, &[u8])>
+    ensures head { IfSome result (λ x. head_at 0 bytes.now ≡ Ok (x.0, x.1.now)) }
+    ensures shorter { IfSome result (λ x. length x.1.now < length bytes.now) }
+{
+    let Some((leading, rest)) = bytes.split_first() else {
+        return None;
+    };
+    match *leading {
+        0x00..=0x7f => Some((Head::Int(i128::from(*leading)), rest)),
+        0x80..=0x8f => Some((Head::Map(u32::from(*leading - 0x80)), rest)),
+        0x90..=0x9f => Some((Head::Array(u32::from(*leading - 0x90)), rest)),
+        0xa0..=0xbf => Some((Head::Str(u32::from(*leading - 0xa0)), rest)),
+        _ => None,
     }
 }
 

@@ -28,6 +28,7 @@ pub(crate) struct Inside {
 ///
 /// # Errors
 /// The first fault from the left, where no value stands first.
+#[inline]
 pub fn skip(bytes: &[u8]) -> Result<usize, Bad>
     ensures spelled { IfOk result (λ size. (size ≤ length bytes.now) × (value : Value) × Spells most_nested value (take size bytes.now)) }
     ensures only { (value : Value) (size : ℕ) → size ≤ length bytes.now → Spells most_nested value (take size bytes.now) → result ≡ Ok size }
@@ -38,6 +39,7 @@ pub fn skip(bytes: &[u8]) -> Result<usize, Bad>
 }
 
 /// As `skip`: a value without values inside by its head, and a container by a walk through it.
+#[inline]
 fn measure(bytes: &[u8]) -> Result<usize, Bad>
     ensures { result ≡ measured bytes.now }
 {
@@ -67,6 +69,7 @@ pub(crate) fn measure_behind(head: Head, rest: &[u8], bytes: &[u8]) -> Result<us
 
 /// As `skip`, from head to head behind the head of a container, with one counter for all open
 /// containers: as few as are opened here can't stand too deep one inside the other.
+#[inline(never)]
 fn walk(inside: Inside, behind: &[u8], bytes: &[u8]) -> Result<usize, Bad>
     requires step { step_over 0 bytes.now ≡ Ok (Some inside, behind.now) }
     requires each { inside.each ≤ 2 }

@@ -1,12 +1,12 @@
 //! A value where it stands in its bytes.
 
-ghost use Rattle.std.specs.Prelude.{◌≡◌, ◌≤◌, take, length, IfOk};
+ghost use Rattle.std.specs.Prelude.{◌≡◌, ◌≤◌, Ok, take, length, IfOk};
 ghost use Rattle.mx_msgpack.specs.Grammar.{Value, Spells, most_nested};
-ghost use Rattle.mx_msgpack.specs.Reading.{Gives, reading_of, shown};
+ghost use Rattle.mx_msgpack.specs.Reading.{Gives, head_at, reading_of, shown};
 ghost use Rattle.mx_msgpack.specs.View.{view, Shows};
 
 use crate::bad::Bad;
-use crate::head::{Head, head_at};
+use crate::head::{Head, head_at, short_head};
 use crate::skipping::measure_behind;
 
 /// A value in place. A container is its count and the bytes of all that it holds.
@@ -37,7 +37,26 @@ pub fn read_ref(bytes: &[u8]) -> Result<(ValueRef<'_>, usize), Bad>
         × Spells most_nested value (take x.1 bytes.now) × Shows (view x.0) value) }
     ensures exact { Gives (λ x. (view x.0, x.1)) result (reading_of bytes.now) }
 {
+    if let Some((head, rest)) = short_head(bytes) {
+        return read_behind(head, rest, bytes);
+    }
     let (head, rest) = head_at(0, bytes)?;
+    read_behind(head, rest, bytes)
+}
+
+/// As `read_ref`, from a head on that is read already.
+#[inline(always)]
+fn read_behind<'a>(
+    head: Head,
+    rest: &'a [u8],
+    bytes: &'a [u8],
+) -> Result<(ValueRef<'a>, usize), Bad>
+    requires head { head_at 0 bytes.now ≡ Ok (head, rest.now) }
+    requires within { length rest.now ≤ length bytes.now }
+    ensures spelled { IfOk result (λ x. (x.1 ≤ length bytes.now) × (value : Value)
+        × Spells most_nested value (take x.1 bytes.now) × Shows (view x.0) value) }
+    ensures exact { Gives (λ x. (view x.0, x.1)) result (reading_of bytes.now) }
+{
     if let Head::Int(_) = head {
         return Ok((value_of(head, rest, bytes), bytes.len() - rest.len()));
     }
