@@ -1,6 +1,6 @@
 -- The values that stand in a map: each is spelled whole, with room for one container less than the map.
 use Rattle.std.proofs.Common.{◌≡◌, ℕ, ◌-◌, ◌≤◌, List, [], ◌∷◌, ◌++◌, length, take, Option, Some, None, Result, Ok, Err, refl, sym, ap, ◌∙◌, subst, append_assoc, arith}
-use Rattle.std.specs.Prelude.{⊤, Bool, true, false, if◌then◌else◌}
+use Rattle.std.specs.Prelude.{pos, ⊤, Bool, true, false, if◌then◌else◌}
 use Rattle.std.proofs.lemmas.List.{append-nil, take_at, drop_at, length-append}
 use Rattle.mx_msgpack.specs.declared.bad.Bad.{Bad}
 use Rattle.mx_msgpack.specs.Grammar.{Value, Pairs, NoPair, MorePairs, pair_count, Spells, SpellsPairs}
@@ -11,6 +11,9 @@ use Rattle.mx_msgpack.proofs.ValueLaws.{measured_ok}
 use Rattle.mx_msgpack.proofs.Heads.{head_spelled}
 use Rattle.mx_msgpack.proofs.GrammarLaws.{value_again}
 use Rattle.mx_msgpack.proofs.ContainerLaws.{array_spelled}
+use Rattle.mx_msgpack.specs.Grammar as grammar
+use Rattle.mx_msgpack.specs.Readers.{unsigned_at}
+use Rattle.mx_msgpack.proofs.UnsignedLaws.{unsigned_spelled}
 use Rattle.mx_msgpack.proofs.FrontLaws.{roomier, measured_again}
 use Rattle.mx_msgpack.proofs.Options.{same_some}
 use Rattle.mx_msgpack.proofs.Shown.{Seen, value_seen}
@@ -36,6 +39,12 @@ first_is value front rest s =
       ap (λ r. (parted (front ++ rest) r).0) size ∙ take_at front rest (length front) refl,
       ap (λ r. (parted (front ++ rest) r).1) size ∙ drop_at front rest (length front) refl,
     )
+
+-- a number of 0 or more, and the bytes after it
+pub key_passed : (bytes : List ℕ) (found : ℕ × List ℕ) → unsigned_at bytes ≡ Some found → maps.after_value bytes ≡ found.1
+key_passed bytes found e =
+    let s = unsigned_spelled bytes found e in
+    ap maps.after_value s.1 ∙ (first_is (grammar.Int (pos found.0)) s.0 found.1 s.2).1
 
 seen_value : (bytes : List ℕ) (seen what : Shown) (n size : ℕ) → Seen bytes seen n → reading_of bytes ≡ Ok (what, size) → (value : Value) × Shows what value
 seen_value bytes seen what n size s e =

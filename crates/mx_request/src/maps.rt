@@ -2,7 +2,8 @@
 
 ghost use Rattle.std.specs.Prelude.{◌≡◌, ℕ, suc, ◌∷◌, map, length};
 ghost use Rattle.std.specs.Option.{option_copied};
-ghost use Rattle.mx_request.specs.Maps.{first_value, after_value, pairs_from, pairs_in, value_under};
+ghost use Rattle.mx_request.specs.Maps.{first_value, after_value, number_of, pairs_from, pairs_in, value_under};
+ghost use Rattle.mx_msgpack.specs.Readers.{unsigned_at};
 ghost use Rattle.mx_request.specs.Views.{noted};
 
 use mx_msgpack::{ValueRef, read_ref, skip, unsigned_at};
@@ -24,6 +25,7 @@ pub(crate) struct Pair<'a> {
 }
 
 /// The spelling of the value that stands first, and the bytes after it; no bytes where none does.
+#[inline]
 pub(crate) fn parted(bytes: &[u8]) -> (&[u8], &[u8])
     ensures first { result.0.now ≡ first_value bytes.now }
     ensures after { result.1.now ≡ after_value bytes.now }
@@ -51,17 +53,26 @@ pub(crate) fn pairs_in(bytes: &[u8]) -> Row<'_>
 }
 
 /// The pair that stands first, and the bytes after it.
+#[inline]
 pub(crate) fn first_pair(bytes: &[u8]) -> (Pair<'_>, &[u8])
     ensures { (others : ℕ) → pairs_from (suc others) bytes.now
         ≡ record { key = result.0.key; value = result.0.value.now } ∷ pairs_from others result.1.now }
 {
-    let key = match unsigned_at(bytes) {
-        Some((number, _)) => Some(number),
-        None => None,
-    };
-    let (_, behind) = parted(bytes);
+    let (key, behind) = first_key(bytes);
     let (value, rest) = parted(behind);
     (Pair { key, value }, rest)
+}
+
+/// The key that stands first, where it is a number of 0 or more, and the bytes after it.
+#[inline(always)]
+fn first_key(bytes: &[u8]) -> (Option<u64>, &[u8])
+    ensures key { result.0 ≡ number_of (unsigned_at bytes.now) }
+    ensures after { result.1.now ≡ after_value bytes.now }
+{
+    match unsigned_at(bytes) {
+        Some((number, rest)) => (Some(number), rest),
+        None => (None, parted(bytes).1),
+    }
 }
 
 /// The spellings of the values under these keys. Of a key that comes more than once the last value
@@ -84,6 +95,7 @@ pub(crate) fn values_under<'a>(keys: &[u8], bytes: &'a [u8], values: &mut [Optio
 }
 
 /// Puts a value in each place of its key.
+#[inline]
 fn note<'a>(keys: &[u8], key: u64, value: &'a [u8], values: &mut [Option<&'a [u8]>])
     requires { length values.old ≡ length keys.now }
     ensures { map option_copied values.new ≡ noted key value.now keys.now (map option_copied values.old) }
