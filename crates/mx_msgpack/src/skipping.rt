@@ -228,8 +228,10 @@ fn plain_after(bytes: &[u8]) -> Option<&[u8]>
 fn plain_size(leading: u8) -> usize
     ensures { result ≤ 31 → IsPlain leading result }
 {
+    if leading < 0x80 {
+        return 0;
+    }
     match leading {
-        0x00..=0x7f => 0,
         0xa0..=0xbf => usize::from(leading - 0xa0),
         0xc0 => 0,
         0xc2 => 0,

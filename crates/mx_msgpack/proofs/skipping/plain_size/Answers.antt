@@ -2,8 +2,8 @@ use Rattle.std.proofs.Common.{arith}
 use Rattle.mx_msgpack.proofs.StepLaws.{fixed_plain, text_plain, small_plain, below_plain, nil_plain, false_plain, true_plain}
 use Rattle.mx_msgpack.proofs.skipping.plain_size.Goals as goal
 
-pub returns-in-0-to-127 : goal.returns-in-0-to-127
-returns-in-0-to-127 c = λ few. small_plain c.args.leading (omega arith)
+pub returns-then-leading-lt128 : goal.returns-then-leading-lt128
+returns-then-leading-lt128 c = λ few. small_plain c.args.leading (omega arith)
 
 pub returns-in-160-to-191 : goal.returns-in-160-to-191
 returns-in-160-to-191 c = λ few. text_plain c.args.leading c.from.result (omega arith) (omega arith) c.from.ensures
