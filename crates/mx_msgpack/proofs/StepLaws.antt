@@ -1,14 +1,14 @@
 -- Steps by the leading byte alone.
-use Rattle.std.proofs.Common.{◌≡◌, ℕ, ◌-◌, ◌<◌, ◌≤◌, ℤ, Bool, true, false, cond, ltb, List, ◌∷◌, length, drop, Option, Some, None, Result, Ok, Err, refl, ap, ◌∙◌, arith}
+use Rattle.std.proofs.Common.{◌≡◌, ℕ, ◌-◌, ◌<◌, ◌≤◌, ℤ, Bool, true, false, cond, ltb, List, ◌∷◌, length, drop, Option, None, Result, Ok, Err, refl, ap, ◌∙◌, arith}
 use Rattle.std.specs.Prelude.{◌==◌}
 use Rattle.std.proofs.lemmas.Bool.{lt-ltb, le-ltb}
 use Rattle.mx_msgpack.specs.declared.bad.Bad.{Bad}
 use Rattle.mx_msgpack.specs.declared.bad.Bad.TheVariants.{Short}
 use Rattle.mx_msgpack.specs.declared.head.Head.{Head}
-use Rattle.mx_msgpack.specs.declared.head.Head.TheVariants.{Int, Str}
+use Rattle.mx_msgpack.specs.declared.head.Head.TheVariants.{Int}
 use Rattle.mx_msgpack.specs.declared.skipping.Inside.{Inside}
 use Rattle.mx_msgpack.specs.Grammar.{most_length}
-use Rattle.mx_msgpack.specs.Reading.{◌>>=◌, head_at, number_head, unsigned_at, signed_at, after_bytes}
+use Rattle.mx_msgpack.specs.Reading.{◌>>=◌, head_at, number_head, unsigned_at, signed_at}
 use Rattle.mx_msgpack.specs.Steps.{IsPlain, after_few, fixed_size, behind, step_behind, step_over}
 use Rattle.mx_msgpack.proofs.LeadingLaws.{leads_number}
 

@@ -1,6 +1,5 @@
-use Rattle.std.proofs.Common.{◌≡◌, ◌-◌, length, sym, ◌∙◌, arith}
+use Rattle.std.proofs.Common.{◌-◌, length, arith}
 use Rattle.std.proofs.lemmas.Result.{err_from_is_err_and}
-use Rattle.mx_msgpack.specs.Reading.{after_value}
 use Rattle.mx_msgpack.proofs.ValueLaws.{measured_ok, measured_err}
 use Rattle.mx_msgpack.proofs.Stack.{first_long}
 use Rattle.mx_msgpack.proofs.FlatLaws.{top, values_few, flat_begins, flat_ends, flat_fails, flat_steps, flat_long, flat_pushes}

@@ -1,4 +1,4 @@
-use Rattle.std.proofs.Common.{◌≡◌, ◌≤◌, length, ◌*◌}
+use Rattle.std.proofs.Common.{◌≤◌, length, ◌*◌}
 use Rattle.mx_msgpack.specs.Reading.{after_value}
 use Rattle.mx_msgpack.proofs.FlatLaws.{Flat}
 use Rattle.mx_msgpack.proofs.skipping.walk.Given as goal

@@ -1,4 +1,4 @@
-use Rattle.std.proofs.Common.{Ok, sym, arith}
+use Rattle.std.proofs.Common.{Ok, sym}
 use Rattle.std.proofs.lemmas.Result.{err_from_is_err_and}
 use Rattle.mx_msgpack.proofs.Measured.{measured_spelled}
 use Rattle.mx_msgpack.proofs.Shown.{value_fails, value_bounds, value_seen, int_seen}
