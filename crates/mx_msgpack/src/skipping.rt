@@ -54,7 +54,7 @@ fn measure(bytes: &[u8]) -> Result<usize, Bad>
 }
 
 /// As `skip`, from a head on that is read already.
-#[inline]
+#[inline(always)]
 pub(crate) fn measure_behind(head: Head, rest: &[u8], bytes: &[u8]) -> Result<usize, Bad>
     requires head { head_at 0 bytes.now ≡ Ok (head, rest.now) }
     requires within { length rest.now ≤ length bytes.now }
