@@ -15,6 +15,7 @@ pub struct Items<'a> {
 }
 
 /// The spelling of the value that stands first, and the bytes after it; no bytes where none does.
+#[inline]
 pub fn parted(bytes: &[u8]) -> (&[u8], &[u8])
     ensures first { result.0.now ≡ first_value bytes.now }
     ensures after { result.1.now ≡ after_value bytes.now }

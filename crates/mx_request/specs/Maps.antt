@@ -1,29 +1,14 @@
 -- The pairs of a map of MessagePack, by their keys.
-use Rattle.std.specs.Prelude.{ℕ, zero, suc, Bool, false, List, [], ◌∷◌, take, drop, Option, Some, None, Result, Ok, Err, ◌==◌, if◌then◌else◌}
+use Rattle.std.specs.Prelude.{ℕ, zero, suc, Bool, false, List, [], ◌∷◌, Option, Some, None, Result, Ok, Err, ◌==◌, if◌then◌else◌}
 use Rattle.mx_msgpack.specs.declared.bad.Bad.{Bad}
-use Rattle.mx_msgpack.specs.Reading.{Shown, ShownNil, ShownBool, ShownInt, ShownStr, ShownBin, ShownArray, ShownMap, ShownOpaque, measured, reading_of}
+use Rattle.mx_msgpack.specs.Reading.{Shown, ShownNil, ShownBool, ShownInt, ShownStr, ShownBin, ShownArray, ShownMap, ShownOpaque, reading_of}
 use Rattle.mx_msgpack.specs.Readers.{unsigned_at}
+pub use Rattle.mx_msgpack.specs.Items.{parted, first_value, after_value, values_from}
 
 -- a pair: its key, where that is a number of 0 or more, and its value's spelling
 pub record Pair : Type 0 where
   pub key : Option ℕ
   pub value : List ℕ
-
--- the spelling of the value that stands first, and the bytes after it; nothing where none does
-abbrev pub parted : List ℕ → Result ℕ Bad → List ℕ × List ℕ
-parted bytes (Err bad) = ([], [])
-parted bytes (Ok size) = (take size bytes, drop size bytes)
-
-abbrev pub first_value : List ℕ → List ℕ
-first_value bytes = (parted bytes (measured bytes)).0
-
-abbrev pub after_value : List ℕ → List ℕ
-after_value bytes = (parted bytes (measured bytes)).1
-
--- the values that stand in a row, each by its spelling
-abbrev pub values_from : (count : ℕ) → List ℕ → List (List ℕ)
-values_from zero bytes = []
-values_from (suc count) bytes = first_value bytes ∷ values_from count (after_value bytes)
 
 abbrev pub number_of : Option (ℕ × List ℕ) → Option ℕ
 number_of None = None

@@ -2,11 +2,12 @@
 
 ghost use Rattle.std.specs.Prelude.{◌≡◌, ℕ, suc, ◌∷◌, map, length};
 ghost use Rattle.std.specs.Option.{option_copied};
-ghost use Rattle.mx_request.specs.Maps.{first_value, after_value, number_of, pairs_from, pairs_in, value_under};
+ghost use Rattle.mx_msgpack.specs.Items.{after_value};
+ghost use Rattle.mx_request.specs.Maps.{number_of, pairs_from, pairs_in, value_under};
 ghost use Rattle.mx_msgpack.specs.Readers.{unsigned_at};
 ghost use Rattle.mx_request.specs.Views.{noted};
 
-use mx_msgpack::{ValueRef, read_ref, skip, unsigned_at};
+use mx_msgpack::{ValueRef, parted, read_ref, unsigned_at};
 
 /// So many values or pairs, and the bytes in which they stand in a row.
 #[derive(Clone, Copy)]
@@ -22,18 +23,6 @@ pub(crate) struct Pair<'a> {
     pub(crate) key: Option<u64>,
     /// The value's spelling.
     pub(crate) value: &'a [u8],
-}
-
-/// The spelling of the value that stands first, and the bytes after it; no bytes where none does.
-#[inline]
-pub(crate) fn parted(bytes: &[u8]) -> (&[u8], &[u8])
-    ensures first { result.0.now ≡ first_value bytes.now }
-    ensures after { result.1.now ≡ after_value bytes.now }
-{
-    match skip(bytes) {
-        Ok(size) => bytes.split_at(size),
-        Err(_) => (&[], &[]),
-    }
 }
 
 /// The pairs of the map that stands first; none where no map does.

@@ -9,9 +9,9 @@ ghost use Rattle.mx_request.specs.Kinds.{unsigned_in};
 ghost use Rattle.mx_request.specs.Views.{argument_count, arguments_view};
 
 use crate::kinds::unsigned_in;
-use crate::maps::{Row, parted};
+use crate::maps::Row;
 use mx_base::Refusal;
-use mx_msgpack::{ValueRef, read_ref};
+use mx_msgpack::{ValueRef, parted, read_ref};
 
 /// The most operations of a request.
 const MOST_OPERATIONS: u32 = 4_000;
