@@ -1,5 +1,5 @@
 -- The items of an array: they fill its bytes behind the head, and each is the spelling of the value in its place.
-use Rattle.std.proofs.Common.{◌≡◌, ℕ, zero, suc, ◌+◌, ◌-◌, ◌≤◌, Bool, true, false, cond, List, [], ◌∷◌, ◌++◌, length, take, drop, Option, Some, None, Result, Ok, Err, refl, sym, ap, ◌∙◌, arith, eqb, eqb-true, eq-eqb}
+use Rattle.std.proofs.Common.{◌≡◌, ℕ, zero, suc, ◌+◌, ◌-◌, ◌≤◌, Bool, true, false, cond, List, [], ◌∷◌, ◌++◌, length, take, drop, Option, Some, None, Result, Ok, Err, refl, sym, subst, ap, ◌∙◌, arith, eqb, eqb-true, eq-eqb}
 use Rattle.std.specs.List.{concat}
 use Rattle.std.specs.Option.{option_map}
 use Rattle.std.proofs.lemmas.List.{append-nil, take_at, drop_at, take-append-drop, length-append}
@@ -163,3 +163,29 @@ array_items bytes values (head, content, h, few, e, s) =
       e ∙ ap (λ (l : List ℕ). head ++ l) (sym (values_fill values content s)),
       values_each values content s,
     )
+
+-- an array that is read has no more items than a container may
+pub items_few : (bytes : List ℕ) (fields : List (List ℕ)) → items_of bytes ≡ Some fields → length fields ≤ most_length
+items_few bytes fields e = by_array (array_of bytes) refl e
+  where
+    by_array : (array : Option (ℕ × List ℕ)) → array_of bytes ≡ array → option_map (λ (x : ℕ × List ℕ). values_from x.0 x.1) array ≡ Some fields → length fields ≤ most_length
+    by_array None is e = absurd cc
+    by_array (Some (count, content)) is e =
+        let row = array_row bytes count content is in
+        let many = ap length (same_some (values_from count content) fields e) in
+        omega (arith, values_count count content, row.few)
+
+-- bytes that have items are spelled as an array
+pub items_spelled : (bytes : List ℕ) (fields : List (List ℕ)) → items_of bytes ≡ Some fields → (values : Values) × Spells most_nested (grammar.Array values) bytes
+items_spelled bytes fields e = by_array (array_of bytes) refl e
+  where
+    by_array : (array : Option (ℕ × List ℕ)) → array_of bytes ≡ array → option_map (λ (x : ℕ × List ℕ). values_from x.0 x.1) array ≡ Some fields
+        → (values : Values) × Spells most_nested (grammar.Array values) bytes
+    by_array None is e = absurd cc
+    by_array (Some (count, content)) is e = array_of_spelled bytes count content is
+
+-- the items of an array are the spellings of its values
+pub items_each : (bytes : List ℕ) (fields : List (List ℕ)) (values : Values) → items_of bytes ≡ Some fields → Spells most_nested (grammar.Array values) bytes → SpellEach 63 values fields
+items_each bytes fields values e s =
+    let all = array_items bytes values s in
+    subst (SpellEach 63 values) (same_some all.1 fields (sym all.2 ∙ e)) all.4
