@@ -1,0 +1,168 @@
+-- The fields of a tuple, each between its place and the next one.
+use Rattle.std.proofs.Common.{◌≡◌, ℕ, zero, suc, ◌+◌, ◌-◌, ◌<◌, ◌≤◌, Bool, true, false, cond, List, [], ◌∷◌, ◌++◌, length, take, drop, get_or, Option, Some, None, Result, Ok, Err, Bor, refl, sym, ap, ◌∙◌, append_assoc, arith, leb}
+use Rattle.std.specs.Prelude.{◌&&◌, nat_le, if◌then◌else◌}
+use Rattle.std.specs.List.{concat, slice_get, PartBy}
+use Rattle.std.specs.Option.{option_copied, option_map}
+use Rattle.std.specs.Result.{OkIff, result_unwrap_or}
+use Rattle.std.proofs.lemmas.Bool.{le-leb, leb-true}
+use Rattle.std.proofs.lemmas.List.{take_at, drop_at, length-append}
+use Rattle.std.proofs.lemmas.Option.{slice_get_read, slice_get_past}
+use Rattle.mx_msgpack.specs.Items.{first_value, after_value, values_from, array_of}
+use Rattle.mx_msgpack.proofs.ItemLaws.{array_row, row_fills, items_few}
+use Rattle.mx_tuple.specs.declared.tuple.Tuple.{Tuple}
+use Rattle.mx_tuple.specs.Fields.{places_from, HasFields}
+
+-- ---- a field by the places around it
+
+-- the bytes from one place to the next one, where both lie in the bytes and in order
+abbrev pub between : Option ℕ → Option ℕ → List ℕ → Option (List ℕ)
+between None to bytes = None
+between (Some from) None bytes = None
+between (Some from) (Some to) bytes = if nat_le from to && nat_le to (length bytes) then Some (take (to - from) (drop from bytes)) else None
+
+-- a field of a tuple: the bytes between its place and the next one
+abbrev pub field_at : List ℕ → (places : List ℕ) → ℕ → Option (List ℕ)
+field_at bytes places n = between (slice_get places n) (slice_get places (suc n)) bytes
+
+places_first : (at : ℕ) (fields : List (List ℕ)) → slice_get (places_from at fields) 0 ≡ Some at
+places_first at [] = refl
+places_first at (field ∷ fields) = refl
+
+pub places_many : (at : ℕ) (fields : List (List ℕ)) → length (places_from at fields) ≡ suc (length fields)
+places_many at [] = refl
+places_many at (field ∷ fields) = ap suc (places_many (at + length field) fields)
+
+-- the bytes between two places that lie in order
+between_in : (from to : ℕ) (bytes : List ℕ) → from ≤ to → to ≤ length bytes → between (Some from) (Some to) bytes ≡ Some (take (to - from) (drop from bytes))
+between_in from to bytes order within = rw (le-leb from to order, le-leb to (length bytes) within) refl
+
+first_between : (before field more bytes : List ℕ) (at : ℕ) → at ≡ length before → bytes ≡ before ++ (field ++ more) → between (Some at) (Some (at + length field)) bytes ≡ Some field
+first_between before field more bytes at place parts =
+    let l = ap length parts ∙ length-append before (field ++ more) in
+    let m = length-append field more in
+    let size : length field ≡ (at + length field) - at = omega arith in
+    between_in at (at + length field) bytes (omega arith) (omega arith)
+    ∙ ap (λ (x : List ℕ). Some (take ((at + length field) - at) x)) (ap (drop at) parts ∙ drop_at before (field ++ more) at (sym place))
+    ∙ ap (λ (x : List ℕ). Some x) (take_at field more ((at + length field) - at) size)
+
+pub row_between : (before : List ℕ) (fields : List (List ℕ)) (bytes : List ℕ) (at n : ℕ) → at ≡ length before → bytes ≡ before ++ concat fields
+    → slice_get fields n ≡ field_at bytes (places_from at fields) n
+row_between before [] bytes at zero place parts = refl
+row_between before [] bytes at (suc n) place parts = refl
+row_between before (field ∷ fields) bytes at zero place parts =
+    sym (first_between before field (concat fields) bytes at place parts)
+    ∙ ap (λ (to : Option ℕ). between (Some at) to bytes) (sym (places_first (at + length field) fields))
+row_between before (field ∷ fields) bytes at (suc n) place parts =
+    let l = length-append before field in
+    row_between (before ++ field) fields bytes (at + length field) n (omega arith) (parts ∙ sym (append_assoc before field (concat fields)))
+
+pub field_between : (tuple : Tuple) (bytes : List ℕ) (fields : List (List ℕ)) → HasFields tuple bytes fields → (n : ℕ) → slice_get fields n ≡ field_at bytes tuple.places.items n
+field_between tuple bytes fields has n =
+    let row = has.in_row in
+    rw row.2 (row_between row.0 fields bytes (length row.0) n refl row.1)
+
+-- ---- what the code reads
+
+-- the place that indexing gave
+pub place_read : (places seen : List ℕ) (n place : ℕ) → seen ≡ places → n < length seen → place ≡ get_or seen n place → slice_get places n ≡ Some place
+place_read places seen n place same lt e =
+    let long = ap length same in
+    slice_get_read places (length places) n place refl (omega arith) (e ∙ ap (λ (l : List ℕ). get_or l n place) same)
+
+none_is : (tuple : Tuple) (n : ℕ) → field_at tuple.bytes tuple.places.items n ≡ None
+    → (bytes : List ℕ) (fields : List (List ℕ)) → HasFields tuple bytes fields → None ≡ slice_get fields n
+none_is tuple n none bytes fields has =
+    sym (field_between tuple bytes fields has n ∙ ap (λ (l : List ℕ). field_at l tuple.places.items n) (sym has.bytes_are) ∙ none)
+
+-- no place for the field
+pub none_from : (tuple : Tuple) (seen : List ℕ) (n : ℕ) → seen ≡ tuple.places.items → length seen ≤ n
+    → (bytes : List ℕ) (fields : List (List ℕ)) → HasFields tuple bytes fields → None ≡ slice_get fields n
+none_from tuple seen n same past =
+    let len = ap length same in
+    none_is tuple n (rw (slice_get_past tuple.places.items n (omega arith)) refl)
+
+-- no place after it
+pub none_to : (tuple : Tuple) (seen : List ℕ) (n from : ℕ) → slice_get tuple.places.items n ≡ Some from → seen ≡ tuple.places.items → length seen ≤ n + 1
+    → (bytes : List ℕ) (fields : List (List ℕ)) → HasFields tuple bytes fields → None ≡ slice_get fields n
+none_to tuple seen n from e same past =
+    let len = ap length same in
+    none_is tuple n (rw (e, slice_get_past tuple.places.items (suc n) (omega arith)) refl)
+
+-- the bytes that a range gave
+part_is : (bytes : List ℕ) (from to : ℕ) (part : Option (Bor (List ℕ))) → PartBy (λ (x : Bor (List ℕ)). x.now) bytes from to part
+    → option_copied part ≡ between (Some from) (Some to) bytes
+part_is bytes from to None (out, some) = by_order (leb from to) (leb to (length bytes)) refl refl
+  where
+    nothing : Option (List ℕ)
+    nothing = None
+
+    by_order : (first second : Bool) → leb from to ≡ first → leb to (length bytes) ≡ second → nothing ≡ cond (first && second) (Some (take (to - from) (drop from bytes))) None
+    by_order true true a b = let there = some (leb-true from to a, leb-true to (length bytes) b) in absurd cc
+    by_order true false a b = refl
+    by_order false true a b = refl
+    by_order false false a b = refl
+part_is bytes from to (Some part) ((order, within, e, size), some) = ap (λ (x : List ℕ). Some x) e ∙ sym (between_in from to bytes order within)
+
+pub part_read : (tuple : Tuple) (n from to : ℕ) (seen : List ℕ) (part : Option (Bor (List ℕ))) → slice_get tuple.places.items n ≡ Some from → slice_get tuple.places.items (n + 1) ≡ Some to
+    → seen ≡ tuple.bytes → PartBy (λ (x : Bor (List ℕ)). x.now) seen from to part
+    → (bytes : List ℕ) (fields : List (List ℕ)) → HasFields tuple bytes fields → option_copied part ≡ slice_get fields n
+part_read tuple n from to seen part f t same p bytes fields has =
+    let next : slice_get tuple.places.items (suc n) ≡ Some to = ap (slice_get tuple.places.items) (one_more n) ∙ t in
+    let whole : seen ≡ bytes = same ∙ has.bytes_are in
+    part_is seen from to part p
+    ∙ ap (between (Some from) (Some to)) whole
+    ∙ (λ i. between (sym f i) (sym next i) bytes)
+    ∙ sym (field_between tuple bytes fields has n)
+  where
+    one_more : (n : ℕ) → suc n ≡ n + 1
+    one_more n = omega arith
+
+-- how many fields there are, which a number of 32 bits tells
+pub counted : {E : Type 0} (tuple : Tuple) (answer : Result ℕ E) (places less count : ℕ) → places ≡ length tuple.places.items → less ≡ places - 1
+    → OkIff answer (less < 4294967296) less → count ≡ result_unwrap_or answer 0
+    → (bytes : List ℕ) (fields : List (List ℕ)) → HasFields tuple bytes fields → count ≡ length fields
+counted {E = E} tuple answer places less count l m fits e bytes fields has =
+    let row = has.in_row in
+    let many = l ∙ ap length row.2 ∙ places_many (length row.0) fields in
+    let few = items_few bytes fields has.fields_are in
+    e ∙ by_answer answer fits (omega arith) ∙ omega arith
+  where
+    by_answer : (answer : Result ℕ E) → OkIff answer (less < 4294967296) less → less < 4294967296 → result_unwrap_or answer 0 ≡ less
+    by_answer (Ok x) (small, same) lt = same
+    by_answer (Err bad) large lt = absurd (large lt)
+
+-- ---- the places of values in a row
+
+-- one value more
+pub one_place : (places : List ℕ) (at left : ℕ) (rest : List ℕ) → 0 < left
+    → (places ++ at ∷ []) ++ places_from (at + length (first_value rest)) (values_from (left - 1) (after_value rest)) ≡ places ++ places_from at (values_from left rest)
+one_place places at left rest some =
+    let e : left ≡ suc (left - 1) = omega arith in
+    append_assoc places (at ∷ []) (places_from (at + length (first_value rest)) (values_from (left - 1) (after_value rest)))
+    ∙ ap (λ (k : ℕ). places ++ places_from at (values_from k rest)) (sym e)
+
+-- an array's bytes are its head and its items
+pub items_within : (bytes : List ℕ) (count : ℕ) (content : List ℕ) → array_of bytes ≡ Some (count, content) → length content ≤ length bytes
+items_within bytes count content e =
+    let row = array_row bytes count content e in
+    let l = ap length row.parts ∙ length-append row.head content in
+    omega arith
+
+-- the tuple of an array's bytes and of its items' places
+pub tuple_made : (tuple : Tuple) (bytes : List ℕ) (count : ℕ) (content : List ℕ) → array_of bytes ≡ Some (count, content) → tuple.bytes ≡ bytes
+    → tuple.places.items ≡ places_from (length bytes - length content) (values_from count content) → (fields : List (List ℕ)) × HasFields tuple bytes fields
+tuple_made tuple bytes count content e same places =
+    let row = array_row bytes count content e in
+    let l = ap length row.parts ∙ length-append row.head content in
+    let start : length bytes - length content ≡ length row.head = omega arith in (
+      values_from count content,
+      record {
+        bytes_are = same;
+        fields_are = ap (option_map (λ (x : ℕ × List ℕ). values_from x.0 x.1)) e;
+        in_row = (
+          row.head,
+          row.parts ∙ ap (λ (l : List ℕ). row.head ++ l) (sym (row_fills bytes count content row)),
+          places ∙ ap (λ (at : ℕ). places_from at (values_from count content)) start,
+        );
+      },
+    )
