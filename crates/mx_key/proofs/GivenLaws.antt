@@ -1,0 +1,47 @@
+-- What an array gives for an index, by how many items it has.
+use Rattle.std.proofs.Common.{◌≡◌, ℕ, zero, suc, ◌<◌, ◌≤◌, List, [], ◌∷◌, length, Option, Some, Err, refl, ap, ◌∙◌}
+use Rattle.std.proofs.lemmas.Bool.{lt-ltb, le-ltb}
+use Rattle.std.specs.Option.{option_map}
+use Rattle.mx_msgpack.specs.Items.{array_of, after_value, values_from}
+use Rattle.mx_key.specs.declared.part.Part.{Part}
+use Rattle.mx_key.specs.declared.fault.Misfit.TheVariants.{TooLong}
+use Rattle.mx_key.specs.declared.iterator.IterKind.{IterKind}
+use Rattle.mx_key.specs.declared.edge.Edge.TheVariants.{Open}
+use Rattle.mx_key.specs.Keys.{Key, KeyPart, Boolean, Integer, Text, Binary}
+use Rattle.mx_key.specs.Ranges.{range_of, range_by}
+use Rattle.mx_key.specs.Comparable.{comparable_of, edges_of}
+use Rattle.mx_key.specs.Parts.{given, given_in, parts_given}
+
+length-values_from : (count : ℕ) (bytes : List ℕ) → length (values_from count bytes) ≡ count
+length-values_from zero bytes = refl
+length-values_from (suc count) bytes = ap suc (length-values_from count (after_value bytes))
+
+abbrev items_in : Option (ℕ × List ℕ) → Option (List (List ℕ))
+items_in o = option_map (λ array. values_from array.0 array.1) o
+
+module _ (def : List Part) (key : List ℕ) where
+  module _ (count : ℕ) (bytes : List ℕ) (e : array_of key ≡ Some (count, bytes)) where
+    pub given_few : count ≤ length def → given def key ≡ parts_given 0 def (values_from count bytes)
+    given_few few =
+        ap (λ (o : Option (ℕ × List ℕ)). given_in def (items_in o)) e
+        ∙ rw (length-values_from count bytes, le-ltb (length def) count few) refl
+
+    pub given_many : length def < count → given def key ≡ Err (TooLong count)
+    given_many many =
+        ap (λ (o : Option (ℕ × List ℕ)). given_in def (items_in o)) e
+        ∙ rw (length-values_from count bytes, lt-ltb (length def) count many) refl
+
+-- a key without bytes has no part, and sets no end
+some_bytes : (part : KeyPart) (parts : Key) → comparable_of (part ∷ parts) ≡ [] → ⊥
+some_bytes (Boolean truth) parts e = cc
+some_bytes (Integer number) parts e = cc
+some_bytes (Text text) parts e = cc
+some_bytes (Binary content) parts e = cc
+
+pub range_of_nothing : (iterator : IterKind) (key : Key) → comparable_of key ≡ [] → edges_of (range_of iterator key) ≡ record { low = Open; high = Open }
+range_of_nothing iterator [] e = refl
+range_of_nothing iterator (part ∷ parts) e = absurd (some_bytes part parts e)
+
+pub range_of_some : (iterator : IterKind) (key : Key) → (comparable_of key ≡ [] → ⊥) → range_of iterator key ≡ range_by iterator key
+range_of_some iterator [] some = absurd (some refl)
+range_of_some iterator (part ∷ parts) some = refl

@@ -1,0 +1,5 @@
+pub mod Keys
+pub mod Parts
+pub mod Ranges
+pub mod Comparable
+pub mod PartViews

@@ -1,0 +1,115 @@
+//! Ranges of keys, as their bytes.
+
+ghost use Rattle.std.specs.Prelude.{◌≡◌, OnErr, ◌++◌, ◌∷◌, [], OnOk, IfOk};
+ghost use Rattle.std.specs.Range.Bound.{bound_map};
+ghost use Rattle.mx_key.specs.Comparable.{bound_of, comparable_of, edges_of, holds, is_from, is_up_to};
+ghost use Rattle.mx_key.specs.Keys.{Key};
+ghost use Rattle.mx_key.specs.Ranges.{Range, ended};
+
+use mx_msgpack::Bytes;
+use std::alloc::{AllocError, Global};
+use std::cmp::Ord;
+use std::ops::Bound;
+
+/// An end of a range: comparable bytes, which lie in the range or not, or no bound.
+#[derive(Debug, Drop)]
+pub enum Edge {
+    Inclusive(Bytes),
+    Exclusive(Bytes),
+    Open,
+}
+
+/// A range of keys. A key lies in it where its comparable bytes do.
+#[derive(Debug, Drop)]
+pub struct KeyRange {
+    pub low: Edge,
+    pub high: Edge,
+}
+
+impl Edge {
+    /// The end as the bound of a map's range.
+    fn bound(&self) -> Bound<&Bytes>
+        ensures { bound_map (λ x. x.now) result ≡ bound_of self.now }
+    {
+        match self {
+            Edge::Inclusive(bytes) => Bound::Included(bytes),
+            Edge::Exclusive(bytes) => Bound::Excluded(bytes),
+            Edge::Open => Bound::Unbounded,
+        }
+    }
+
+    /// Whether bytes aren't below a low end.
+    fn is_from(&self, bytes: &[u8]) -> bool
+        ensures { result ≡ is_from self.now bytes.now }
+    {
+        match self {
+            Edge::Inclusive(end) => !bytes.cmp(end.as_slice()).is_lt(),
+            Edge::Exclusive(end) => bytes.cmp(end.as_slice()).is_gt(),
+            Edge::Open => true,
+        }
+    }
+
+    /// Whether bytes aren't above a high end.
+    fn is_up_to(&self, bytes: &[u8]) -> bool
+        ensures { result ≡ is_up_to self.now bytes.now }
+    {
+        match self {
+            Edge::Inclusive(end) => !bytes.cmp(end.as_slice()).is_gt(),
+            Edge::Exclusive(end) => bytes.cmp(end.as_slice()).is_lt(),
+            Edge::Open => true,
+        }
+    }
+}
+
+impl KeyRange {
+    /// The low end as the bound of a map's range.
+    pub fn low_bound(&self) -> Bound<&Bytes>
+        ensures { bound_map (λ x. x.now) result ≡ bound_of self.now.low }
+    {
+        self.low.bound()
+    }
+
+    /// The high end as the bound of a map's range.
+    pub fn high_bound(&self) -> Bound<&Bytes>
+        ensures { bound_map (λ x. x.now) result ≡ bound_of self.now.high }
+    {
+        self.high.bound()
+    }
+
+    /// Whether these comparable bytes lie in the range.
+    pub fn holds(&self, bytes: &[u8]) -> bool
+        ensures { result ≡ holds self.now bytes.now }
+    {
+        self.low.is_from(bytes) && self.high.is_up_to(bytes)
+    }
+
+    /// Ends the range with a key, given by its comparable bytes: a range that is gone through
+    /// downwards at its low end, and upwards at its high end.
+    ///
+    /// # Errors
+    /// Memory ran out. The range is then as it was.
+    pub fn end_with(&mut self, alloc: Global, down: bool, key: &[u8]) -> Result<(), AllocError>
+        ensures err { OnErr result (self.new ≡ self.old) }
+        ensures ended { (range : Range) (last : Key) → self.old ≡ edges_of range → key.now ≡ comparable_of last
+            → OnOk result (self.new ≡ edges_of (ended down last range)) }
+    {
+        let last = Bytes::from_slice(alloc, key)?;
+        if down {
+            self.low = Edge::Inclusive(last);
+        } else {
+            self.high = Edge::Exclusive(behind(last)?);
+        }
+        Ok(())
+    }
+}
+
+/// The bytes just behind all keys that begin with these bytes.
+///
+/// # Errors
+/// Memory ran out.
+pub fn behind(mut bytes: Bytes) -> Result<Bytes, AllocError>
+    ensures { IfOk result (λ end. end ≡ bytes ++ 255 ∷ []) }
+{
+    bytes.extend_from_slice(&[255])?;
+    Ok(bytes)
+}

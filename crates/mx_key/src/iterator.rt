@@ -1,0 +1,35 @@
+//! Iterators.
+
+ghost use Rattle.std.specs.Prelude.{◌≡◌};
+ghost use Rattle.mx_key.specs.Ranges.{descends};
+
+/// What a SELECT goes through, from its key on, and in which direction.
+#[derive(Clone, Copy, Debug, Drop, PartialEq, Eq)]
+pub enum IterKind {
+    /// All that the key begins, upwards.
+    Eq,
+    /// All that the key begins, downwards.
+    Req,
+    /// As `Ge`.
+    All,
+    /// All below the key, downwards.
+    Lt,
+    /// All that the key begins and all below it, downwards.
+    Le,
+    /// All that the key begins and all above it, upwards.
+    Ge,
+    /// All above what the key begins, upwards.
+    Gt,
+}
+
+impl IterKind {
+    /// Whether the iterator goes down.
+    pub fn descends(self) -> bool
+        ensures { result ≡ descends self }
+    {
+        match self {
+            IterKind::Req | IterKind::Lt | IterKind::Le => true,
+            IterKind::Eq | IterKind::All | IterKind::Ge | IterKind::Gt => false,
+        }
+    }
+}

@@ -1,0 +1,29 @@
+//! Keys: their parts, their order as bytes, and the ranges that iterators go through.
+#![tactic(auto)]
+
+mod edge;
+mod encoding;
+mod fault;
+mod fields;
+mod iterator;
+mod key_def;
+mod keys;
+mod laws;
+mod part;
+mod part_ref;
+mod ranges;
+mod writing;
+
+pub use edge::{Edge, KeyRange};
+pub use encoding::comparable;
+pub use fault::{KeyFault, Misfit};
+pub use fields::FieldSlices;
+pub use iterator::IterKind;
+pub use key_def::KeyDef;
+pub use keys::key_of;
+pub use laws::{a_range_holds_its_keys, bytes_are_ordered_as_keys};
+pub use part::{Part, PartKind};
+pub use ranges::{misfit, range};
+
+#[cfg(test)]
+mod tests;

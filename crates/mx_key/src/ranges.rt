@@ -1,0 +1,135 @@
+//! The range that an iterator goes through from a key.
+
+ghost use Rattle.std.specs.Prelude.{◌≡◌, ◌≤◌, ◌++◌, length, OnOk, Ok, Err, IfOk, MatchOption};
+ghost use Rattle.std.specs.BTreeMap.Range.{IsLeBy, IsLtBy};
+ghost use Rattle.std.specs.Cmp.Lexicographic.{slice_cmp};
+ghost use Rattle.std.specs.Ordering.{nat_cmp};
+ghost use Rattle.std.specs.Range.Bound.{IsForward};
+ghost use Rattle.mx_msgpack.specs.Items.{values_from};
+ghost use Rattle.mx_key.specs.Comparable.{bound_of, comparable_of, edges_of};
+ghost use Rattle.mx_key.specs.Parts.{given, parts_given};
+ghost use Rattle.mx_key.specs.Keys.{Key, AreFit};
+ghost use Rattle.mx_key.specs.Ranges.{range_by, range_of};
+
+use crate::edge::{Edge, KeyRange, behind};
+use crate::fault::Misfit;
+use crate::iterator::IterKind;
+use crate::key_def::KeyDef;
+use crate::part::Part;
+use crate::part_ref::part_in;
+use crate::writing::write_part;
+use mx_msgpack::{Bytes, Items, array_of, parted};
+use std::alloc::{AllocError, Global};
+
+/// Why a key, which is an array, doesn't fit an index of these parts: it is too long, or its first
+/// part of another type. `None` where it fits.
+pub fn misfit(def: &KeyDef, key: &[u8]) -> Option<Misfit>
+    ensures { MatchOption result
+        ((fitting : Key) × (given def.now key.now ≡ Ok fitting) × AreFit fitting)
+        (λ misfit. given def.now key.now ≡ Err misfit) }
+{
+    let items = array_of(key)?;
+    let parts = def.as_slice();
+    if items.count as usize > parts.len() {
+        return Some(Misfit::TooLong { parts: items.count });
+    }
+    wrong_part(parts, items)
+}
+
+/// The first item that is no part of its type; `None` where each is.
+fn wrong_part(parts: &[Part], items: Items<'_>) -> Option<Misfit>
+    requires { items.count ≤ length parts.now }
+    ensures { MatchOption result
+        ((fitting : Key) × (parts_given 0 parts.now (values_from items.entry.count items.entry.bytes.now) ≡ Ok fitting) × AreFit fitting)
+        (λ misfit. parts_given 0 parts.now (values_from items.entry.count items.entry.bytes.now) ≡ Err misfit) }
+{
+    let mut rest = items.bytes;
+    for place in 0..items.count {
+        let expected = parts[place as usize].kind;
+        let (item, after) = parted(rest);
+        if part_in(expected, item).is_none() {
+            return Some(Misfit::WrongPart {
+                part: place,
+                expected,
+            });
+        }
+        rest = after;
+    }
+    None
+}
+
+/// What an iterator goes through from a key, which is an array that fits an index of these parts.
+///
+/// # Errors
+/// Memory ran out.
+pub fn range(
+    alloc: Global,
+    def: &KeyDef,
+    iterator: IterKind,
+    key: &[u8],
+) -> Result<KeyRange, AllocError>
+    ensures picked { (fitting : Key) → given def.now key.now ≡ Ok fitting → IfOk result (λ range. range ≡ edges_of (range_of iterator fitting)) }
+    ensures forward { IfOk result (λ range. IsForward (IsLeBy (slice_cmp nat_cmp)) (IsLtBy (slice_cmp nat_cmp)) (bound_of range.low) (bound_of range.high)) }
+{
+    let bytes = given_bytes(alloc, def, key)?;
+    if bytes.is_empty() {
+        return Ok(KeyRange {
+            low: Edge::Open,
+            high: Edge::Open,
+        });
+    }
+    range_by(alloc, iterator, bytes)
+}
+
+/// What an iterator goes through from a key of one part or more, given by its comparable bytes.
+#[tactic(auto, using(crate::proofs::RangeLaws::not_above_behind))]
+fn range_by(alloc: Global, iterator: IterKind, key: Bytes) -> Result<KeyRange, AllocError>
+    ensures picked { (fitting : Key) → key ≡ comparable_of fitting → IfOk result (λ range. range ≡ edges_of (range_by iterator fitting)) }
+    ensures forward { IfOk result (λ range. IsForward (IsLeBy (slice_cmp nat_cmp)) (IsLtBy (slice_cmp nat_cmp)) (bound_of range.low) (bound_of range.high)) }
+{
+    let (low, high) = match iterator {
+        IterKind::Eq | IterKind::Req => {
+            let low = Bytes::from_slice(alloc, key.as_slice())?;
+            (Edge::Inclusive(low), Edge::Exclusive(behind(key)?))
+        }
+        IterKind::All | IterKind::Ge => (Edge::Inclusive(key), Edge::Open),
+        IterKind::Gt => (Edge::Exclusive(behind(key)?), Edge::Open),
+        IterKind::Le => (Edge::Open, Edge::Exclusive(behind(key)?)),
+        IterKind::Lt => (Edge::Open, Edge::Exclusive(key)),
+    };
+    Ok(KeyRange { low, high })
+}
+
+/// The comparable bytes of a key that fits an index of these parts; none where it is no array.
+fn given_bytes(alloc: Global, def: &KeyDef, key: &[u8]) -> Result<Bytes, AllocError>
+    ensures { (fitting : Key) → given def.now key.now ≡ Ok fitting → IfOk result (λ bytes. bytes ≡ comparable_of fitting) }
+{
+    let mut bytes = Bytes::new(alloc);
+    let Some(items) = array_of(key) else {
+        return Ok(bytes);
+    };
+    let parts = def.as_slice();
+    if items.count as usize > parts.len() {
+        return Ok(bytes);
+    }
+    write_items(parts, items, &mut bytes)?;
+    Ok(bytes)
+}
+
+/// Adds the comparable bytes of the items, which are parts of these types.
+fn write_items(parts: &[Part], items: Items<'_>, out: &mut Bytes) -> Result<(), AllocError>
+    requires { items.count ≤ length parts.now }
+    ensures { OnOk result ((fitting : Key) → parts_given 0 parts.now (values_from items.entry.count items.entry.bytes.now) ≡ Ok fitting
+        → out.new ≡ out.old ++ comparable_of fitting) }
+{
+    let mut rest = items.bytes;
+    for place in 0..items.count {
+        let (item, after) = parted(rest);
+        let Some(part) = part_in(parts[place as usize].kind, item) else {
+            return Ok(());
+        };
+        write_part(part, out)?;
+        rest = after;
+    }
+    Ok(())
+}
