@@ -1,12 +1,14 @@
 -- What a step makes of an engine, and of what it stands for.
-use Rattle.std.proofs.Common.{◌≡◌, inl, inr, ℕ, suc, ◌+◌, ◌-◌, ◌<◌, ◌≤◌, length, pos, Bool, true, false, not, List, [], ◌∷◌, ◌++◌, refl, true≢false, sym, ap, ◌∙◌, subst, append-nil, arith}
-use Rattle.std.specs.Prelude.{◌==◌, ◌&&◌, ◌||◌, Some, None, nat_lt, slice_index, slice_set, if◌then◌else◌}
+use Rattle.std.proofs.Common.{◌≡◌, ◌⊎◌, inl, inr, ℕ, suc, ◌+◌, ◌-◌, ◌<◌, ◌≤◌, length, pos, Bool, true, false, not, List, [], ◌∷◌, ◌++◌, refl, true≢false, sym, ap, ◌∙◌, subst, append-nil, arith}
+use Rattle.std.specs.FinMap.{get}
+use Rattle.std.specs.Prelude.{Ok, Err, ◌==◌, ◌&&◌, ◌||◌, Some, None, nat_lt, slice_index, slice_set, if◌then◌else◌}
 use Rattle.std.proofs.lemmas.Bool.{eqb-true, lt-ltb, le-ltb}
 use Rattle.mx_vclock.specs.Vclocks.{most_lsn, IsNext}
 use Rattle.mx_base.specs.declared.ids.SpaceId.{SpaceId}
+use Rattle.mx_base.specs.declared.ids.IndexId.{IndexId}
 use Rattle.mx_base.specs.declared.ids.TxnName.{TxnName}
 use Rattle.mx_base.specs.declared.refusal.Refusal.{Refusal}
-use Rattle.mx_base.specs.declared.refusal.Refusal.TheVariants.{OutOfMemory, ReadOnly, SpaceMissing, UnknownRequestType, TupleTooLong, LsnsUsedUp}
+use Rattle.mx_base.specs.declared.refusal.Refusal.TheVariants.{OutOfMemory, ReadOnly, SpaceMissing, UnknownRequestType, TupleTooLong, LsnsUsedUp, ResultTooLong}
 use Rattle.mx_request.specs.declared.request.Ask.TheVariants as ask
 use Rattle.mx_request.specs.declared.request.Request.{Request}
 use Rattle.mx_request.specs.declared.request.Request.TheVariants as request
@@ -16,16 +18,23 @@ use Rattle.mx_model.specs.declared.reply.Reply.TheVariants.{Tuples, Refused}
 use Rattle.mx_model.specs.declared.row.Row.TheVariants.{Replaced}
 use Rattle.mx_model.specs.declared.tx.Tx.{Tx}
 use Rattle.mx_model.specs.declared.state.State as coded
-use Rattle.mx_model.specs.Keys.{Integer, key_in}
-use Rattle.mx_model.specs.State.{State, test_space}
-use Rattle.mx_model.specs.Stored.{Holds, stored}
-use Rattle.mx_model.specs.Answers.{Answer, answer_to, refused, not_built, replaced, replacing, longest_tuple, begins_with_number, looked_up, put_by}
+use Rattle.mx_key.specs.declared.fault.KeyFault.{KeyFault}
+use Rattle.mx_key.specs.declared.fault.KeyFault.TheVariants.{NoMemory}
+use Rattle.mx_key.specs.declared.iterator.IterKind.{IterKind}
+use Rattle.mx_key.specs.declared.fault.Misfit.{Misfit}
+use Rattle.mx_key.specs.Keys.{Key, AreFit}
+use Rattle.mx_key.specs.Parts.{given}
+use Rattle.mx_model.specs.declared.selecting.SelectStop.{SelectStop}
+use Rattle.mx_model.specs.declared.selecting.SelectStop.TheVariants.{TooLong, NoMemory as NoRoom}
+use Rattle.mx_model.specs.Picks.{pick, entries_of, total_bytes, longest_result}
+use Rattle.mx_model.specs.State.{State, test_space, test_parts, key_in}
+use Rattle.mx_model.specs.Stored.{Holds}
+use Rattle.mx_model.specs.Answers.{Answer, Read, space_read, answer_to, refused, refused_after, not_built, schema_reads, in_space, selected, iterator_of, replaced, longest_tuple, fault_refusal, misfit_refusal, state_after_row}
 use Rattle.mx_model.specs.Transactions.{state_after, clock_after}
 use Rattle.mx_model.specs.Histories.{Base, History, Asked, Left, node_answer, answer_in, numbered, committed, is_write, commits_of, writable_node, is_want_of_memory, ledger_of, state_of, clock_of}
 use Rattle.mx_model.proofs.StateLaws.{HasOneSpace}
-use Rattle.mx_model.proofs.AnswerLaws.{space_is_missing, tuple_is_too_long, tuple_has_no_number, tuple_is_replaced, looked_up_leaves_none}
-use Rattle.mx_model.proofs.StoredLaws.{holds_same, holds_replaced}
-use Rattle.mx_model.proofs.HistoryLaws.{committed-no_row, state_of-asked, clock_of-asked, untaken-asked, untaken}
+use Rattle.mx_model.proofs.AnswerLaws.{space_is_missing, key_is_misfit, tuples_are_picked, result_is_too_long, tuple_is_too_long, tuple_has_no_key, tuple_is_replaced}
+use Rattle.mx_model.proofs.HistoryLaws.{select_no_row, committed-no_row, state_of-asked, clock_of-asked, untaken-asked, untaken}
 use Rattle.mx_engine.specs.declared.engine.Engine.{Engine}
 use Rattle.mx_engine.specs.Standing.{EngineStandsFor}
 use Rattle.mx_engine.specs.Steps.{IsTold, Keeps, Stores, Answers, transaction_of, lsn_after, answer_by, commits_by, takes}
@@ -85,34 +94,28 @@ answers_no_row old new before request reply told none stores clock =
 pub stores_nothing : (engine : Engine) (before : State) → Holds engine.state before → Stores engine engine before []
 stores_nothing engine before holds = record { holds = holds; pending = sym (append-nil engine.pending) }
 
--- the same is found, and the same transactions wait
-pub stores_same : (old new : Engine) (before : State) → Holds old.state before → ((other : ℕ) → stored new.state other ≡ stored old.state other)
-    → new.pending ≡ old.pending → Stores old new before []
-stores_same old new before holds same pending = record {
-  holds = holds_same old.state new.state before holds same;
-  pending = pending ∙ sym (append-nil old.pending);
-}
+-- the state holds the same, and the same transactions wait
+pub stores_same : (old new : Engine) (before : State) → Holds new.state before → new.pending ≡ old.pending → Stores old new before []
+stores_same old new before holds pending = record { holds = holds; pending = pending ∙ sym (append-nil old.pending) }
 
--- one tuple more is found, and its transaction waits
-pub stores_one : (old new : Engine) (before : State) (lsn key : ℕ) (tuple copy : List ℕ) (transaction : Tx) → Holds old.state before
-    → key_in tuple ≡ Integer (pos key) ∷ [] → copy ≡ tuple → transaction ≡ transaction_of lsn tuple
-    → ((other : ℕ) → stored new.state other ≡ (if other == key then Some copy else stored old.state other))
-    → new.pending ≡ old.pending ++ transaction ∷ [] → Stores old new before (transaction_of lsn tuple ∷ [])
-stores_one old new before lsn key tuple copy transaction holds keyed same is put pending = record {
-  holds = holds_replaced old.state new.state before key tuple holds keyed
-      (λ other. put other ∙ ap (λ t. if other == key then Some t else stored old.state other) same);
+-- the state holds one tuple more, and its transaction waits
+pub stores_one : (old new : Engine) (before : State) (lsn : ℕ) (tuple : List ℕ) (transaction : Tx) → transaction ≡ transaction_of lsn tuple
+    → Holds new.state (state_after_row before (Replaced test_space tuple)) → new.pending ≡ old.pending ++ transaction ∷ []
+    → Stores old new before (transaction_of lsn tuple ∷ [])
+stores_one old new before lsn tuple transaction is holds pending = record {
+  holds = holds;
   pending = pending ∙ ap (λ t. old.pending ++ t ∷ []) is;
 }
 
-pub answers_refused : (engine : Engine) (before : State) (request : Request) (refusal : Refusal) → answer_by engine before request ≡ refused refusal
-    → Holds engine.state before → Answers engine engine before request (Refused refusal)
-answers_refused engine before request refusal is holds =
+pub answers_refused : (engine : Engine) (before : State) (request : Request) (reads : List Read) (refusal : Refusal)
+    → answer_by engine before request ≡ refused_after reads refusal → Holds engine.state before → Answers engine engine before request (Refused refusal)
+answers_refused engine before request reads refusal is holds =
     answers_no_row engine engine before request (Refused refusal) (inl (sym (ap (λ a. a.reply) is))) (ap (λ a. a.row) is)
     (stores_nothing engine before holds) refl
 
 -- the one space is there
 abbrev pub one_space : (memory : coded.State) (before : State) → Holds memory before → HasOneSpace before
-one_space memory before holds = record { tuples = holds.tuples; there = holds.test; others = holds.others }
+one_space memory before holds = record { tuples = holds.keeps.tuples; there = holds.keeps.there; others = holds.keeps.others }
 
 -- a request that the node takes, that leaves no row and needs no memory
 pub answers_told : (engine : Engine) (before : State) (asked : Request) (reply : Reply) → takes engine.ids asked ≡ true → Holds engine.state before
@@ -127,57 +130,75 @@ pub answers_not_built : (engine : Engine) (before : State) (asked : Request) →
 answers_not_built engine before asked taken holds is =
     answers_told engine before asked (Refused (UnknownRequestType (kind_number asked))) taken holds (inl (sym (ap (λ a. a.reply) is))) (ap (λ a. a.row) is)
 
--- a SELECT that is looked up
-pub answers_looked_up : (engine : Engine) (before : State) (asked : Request) (reply : Reply) (space limit : ℕ) (key : List ℕ)
-    → takes engine.ids asked ≡ true → Holds engine.state before → answer_to before asked ≡ looked_up before space limit key
-    → IsTold reply (looked_up before space limit key) → Answers engine engine before asked reply
-answers_looked_up engine before asked reply space limit key taken holds is told =
-    answers_told engine before asked reply taken holds (subst (IsTold reply) (sym is) told)
-    (ap (λ a. a.row) is ∙ looked_up_leaves_none before space limit key)
+-- a SELECT
+pub answers_selected : (engine : Engine) (before : State) (asked : Request) (reply : Reply) (space : SpaceId) (index : IndexId)
+    (limit offset iterator : ℕ) (key sought : List ℕ) (kind : IterKind) → takes engine.ids asked ≡ true → Holds engine.state before
+    → asked ≡ request.Select space index limit offset iterator key → sought ≡ key → kind ≡ iterator_of iterator
+    → IsTold reply (in_space space.0 (get before space.0) (selected space.0 index.0 limit offset kind sought))
+    → Answers engine engine before asked reply
+answers_selected engine before asked reply space index limit offset iterator key sought kind taken holds is same by told =
+    let answer : answer_to before asked ≡ in_space space.0 (get before space.0) (selected space.0 index.0 limit offset kind sought) =
+    ap (answer_to before) is
+    ∙ ap (λ k. in_space space.0 (get before space.0) (selected space.0 index.0 limit offset k key)) (sym by)
+    ∙ ap (λ k. in_space space.0 (get before space.0) (selected space.0 index.0 limit offset kind k)) (sym same) in
+    answers_told engine before asked reply taken holds (subst (IsTold reply) (sym answer) told)
+    (ap (λ a. a.row) answer ∙ select_no_row space.0 index.0 limit offset kind sought (get before space.0))
 
 -- a REPLACE, by the first test that it fails
-module _ (engine : Engine) (before : State) (asked : Request) (space : SpaceId) (tuple : List ℕ)
-    (taken : takes engine.ids asked ≡ true) (is : asked ≡ request.Replace space tuple) (holds : Holds engine.state before) where
-  put_is : answer_to before asked ≡ put_by before asked space.0 tuple
-  put_is = ap (answer_to before) is ∙ ap (λ r. put_by before r space.0 tuple) (sym is)
+module _ (engine : Engine) (before : State) (space : SpaceId) (tuple : List ℕ)
+    (taken : takes engine.ids (request.Replace space tuple) ≡ true) (holds : Holds engine.state before) where
+  abbrev asked : Request
+  asked = request.Replace space tuple
 
-  refused_by : (refusal : Refusal) → put_by before asked space.0 tuple ≡ refused refusal → Answers engine engine before asked (Refused refusal)
-  refused_by refusal put =
-      answers_refused engine before asked refusal (answer_without_row engine before asked (refused refusal) taken (put_is ∙ put) refl) holds
+  refused_by : (reads : List Read) (refusal : Refusal) → answer_to before asked ≡ refused_after reads refusal
+      → Answers engine engine before asked (Refused refusal)
+  refused_by reads refusal put =
+      answers_refused engine before asked reads refusal (answer_without_row engine before asked (refused_after reads refusal) taken put refl) holds
 
   pub answers_missing : (space.0 ≡ test_space → ⊥) → Answers engine engine before asked (Refused (SpaceMissing space))
   answers_missing other =
-      refused_by (SpaceMissing space)
-      (space_is_missing before (one_space engine.state before holds) space.0 (λ _. replacing asked space.0 tuple) other)
+      refused_by (space_read space.0 ∷ []) (SpaceMissing space)
+      (space_is_missing before (one_space engine.state before holds) space.0 (λ _. replaced space.0 tuple) other)
 
   module _ (same : space.0 ≡ test_space) where
     pub answers_too_long : longest_tuple < length tuple → Answers engine engine before asked (Refused (TupleTooLong (length tuple)))
     answers_too_long above =
-        refused_by (TupleTooLong (length tuple)) (tuple_is_too_long before (one_space engine.state before holds) asked space.0 tuple same above)
+        refused_by (schema_reads space.0) (TupleTooLong (length tuple))
+        (tuple_is_too_long before (one_space engine.state before holds) space.0 tuple same above)
 
     module _ (short : length tuple ≤ longest_tuple) where
-      pub answers_no_number : begins_with_number tuple ≡ false → Answers engine engine before asked (Refused (UnknownRequestType (kind_number asked)))
-      answers_no_number none =
-          refused_by (UnknownRequestType (kind_number asked))
-          (tuple_has_no_number before (one_space engine.state before holds) asked space.0 tuple same short none)
+      -- it has no primary key, or memory was missing
+      pub answers_no_key : (fault : KeyFault) (refusal : Refusal) → refusal ≡ fault_refusal fault → (key_in test_parts tuple ≡ Err fault) ⊎ (fault ≡ NoMemory)
+          → Answers engine engine before asked (Refused refusal)
+      answers_no_key fault refusal is (inl faulty) =
+          subst (λ r. Answers engine engine before asked (Refused r)) (sym is)
+          (refused_by (schema_reads space.0) (fault_refusal fault)
+          (tuple_has_no_key before (one_space engine.state before holds) space.0 tuple same short fault faulty))
+      answers_no_key fault refusal is (inr none) =
+          subst (λ r. Answers engine engine before asked (Refused r)) (sym (is ∙ ap fault_refusal none))
+          record { told = inr refl; stores = stores_nothing engine before holds; clock = refl }
 
-      module _ (number : begins_with_number tuple ≡ true) where
+      module _ (key : Key) (keyed : key_in test_parts tuple ≡ Ok key) where
         -- the node is the one that may be written
         pub writes_here : engine.ids.me ≡ writable_node
-        writes_here = eqb-true engine.ids.me writable_node (writer (engine.ids.me == writable_node) (is_write asked) taken (ap is_write is))
+        writes_here = eqb-true engine.ids.me writable_node (writer (engine.ids.me == writable_node) true taken refl)
 
-        pub replaced_by : (used_up : Bool) → nat_lt most_lsn (lsn_after engine) ≡ used_up
-            → answer_by engine before asked ≡ (if used_up then refused LsnsUsedUp else replaced test_space tuple)
+        abbrev answer : Bool → Answer
+        answer used_up =
+            if used_up then refused_after (schema_reads space.0) LsnsUsedUp
+            else record { reply = Tuples (tuple ∷ []); row = Some (Replaced space.0 tuple); reads = schema_reads space.0 }
+
+        pub replaced_by : (used_up : Bool) → nat_lt most_lsn (lsn_after engine) ≡ used_up → answer_by engine before asked ≡ answer used_up
         replaced_by used_up test =
-            answer_taken engine before asked (replaced space.0 tuple) taken
-            (put_is ∙ tuple_is_replaced before (one_space engine.state before holds) asked space.0 tuple same short number)
-            ∙ ap (λ s. numbered (lsn_after engine) (replaced s tuple) (Some (Replaced s tuple))) same
-            ∙ ap (λ b. if b then refused LsnsUsedUp else replaced test_space tuple) test
+            answer_taken engine before asked (answer false) taken
+            (tuple_is_replaced before (one_space engine.state before holds) space.0 tuple same short key keyed)
+            ∙ ap answer test
 
         pub answers_used_up : most_lsn < suc (slice_index engine.clock writable_node) → Answers engine engine before asked (Refused LsnsUsedUp)
         answers_used_up above =
             let lsn = ap (λ id. suc (slice_index engine.clock id)) writes_here in
-            answers_refused engine before asked LsnsUsedUp (replaced_by true (ap (nat_lt most_lsn) lsn ∙ lt-ltb most_lsn _ above)) holds
+            answers_refused engine before asked (schema_reads space.0) LsnsUsedUp
+            (replaced_by true (ap (nat_lt most_lsn) lsn ∙ lt-ltb most_lsn _ above)) holds
 
 -- memory was missing
 pub answers_no_memory : (old new : Engine) (before : State) (request : Request) → Stores old new before [] → new.clock ≡ old.clock
@@ -185,24 +206,28 @@ pub answers_no_memory : (old new : Engine) (before : State) (request : Request) 
 answers_no_memory old new before request stores clock = record { told = inr refl; stores = stores; clock = clock }
 
 -- a REPLACE that is taken
-pub answers_replaced : (old put : Engine) (before : State) (asked : Request) (clock : List ℕ) (lsn : ℕ) (space : SpaceId) (tuple : List ℕ) (tuples : List (List ℕ))
-    → takes old.ids asked ≡ true → asked ≡ request.Replace space tuple → Holds old.state before → space.0 ≡ test_space → length tuple ≤ longest_tuple
-    → begins_with_number tuple ≡ true → IsNext old.clock writable_node lsn → tuples ≡ tuple ∷ []
-    → Stores old put before (transaction_of lsn tuple ∷ []) → clock ≡ slice_set old.clock writable_node lsn
-    → Answers old (record put { clock = clock }) before asked (Tuples tuples)
-answers_replaced old put before asked clock lsn space tuple tuples taken same holds there short numbered next shown stores reached =
-    let me = writes_here old before asked space tuple taken same holds there short numbered in
+pub answers_replaced : (old put : Engine) (before : State) (clock : List ℕ) (lsn : ℕ) (space : SpaceId) (tuple copy : List ℕ) (tuples : List (List ℕ)) (key : Key)
+    → takes old.ids (request.Replace space tuple) ≡ true → Holds old.state before → space.0 ≡ test_space → length tuple ≤ longest_tuple
+    → key_in test_parts tuple ≡ Ok key → copy ≡ tuple → IsNext old.clock writable_node lsn → tuples ≡ copy ∷ []
+    → Stores old put before (transaction_of lsn copy ∷ []) → clock ≡ slice_set old.clock writable_node lsn
+    → Answers old (record put { clock = clock }) before (request.Replace space tuple) (Tuples tuples)
+answers_replaced old put before clock lsn space tuple copy tuples key taken holds there short keyed same next shown stores reached =
+    let asked = request.Replace space tuple in
+    let me = writes_here old before space tuple taken holds there short key keyed in
     let number : lsn_after old ≡ lsn = ap (λ id. suc (slice_index old.clock id)) me ∙ sym next.follows in
-    let is : answer_by old before asked ≡ replaced test_space tuple =
-    replaced_by old before asked space tuple taken same holds there short numbered false
+    let answer : Answer = record { reply = Tuples (tuple ∷ []); row = Some (Replaced space.0 tuple); reads = schema_reads space.0 } in
+    let is : answer_by old before asked ≡ answer =
+    replaced_by old before space tuple taken holds there short key keyed false
     (ap (nat_lt most_lsn) number ∙ le-ltb most_lsn lsn next.allowed) in
-    let commits : transaction_of lsn tuple ∷ [] ≡ commits_by old before asked (Tuples tuples) =
+    let commits : transaction_of lsn copy ∷ [] ≡ commits_by old before asked (Tuples tuples) =
     sym (ap (λ a. committed old.ids.me (lsn_after old) false a.row) is
-    ∙ ap (λ id. committed id (lsn_after old) false (Some (Replaced test_space tuple))) me
-    ∙ ap (λ first. committed writable_node first false (Some (Replaced test_space tuple))) number) in
+    ∙ ap (λ id. committed id (lsn_after old) false (Some (Replaced space.0 tuple))) me
+    ∙ ap (λ first. committed writable_node first false (Some (Replaced space.0 tuple))) number
+    ∙ ap (λ s. committed writable_node lsn false (Some (Replaced s tuple))) there
+    ∙ ap (λ t. committed writable_node lsn false (Some (Replaced test_space t))) (sym same)) in
     let last : lsn ≡ (lsn + 1) - 1 = omega arith in
     record {
-      told = inl (ap (λ t. Tuples t) shown ∙ sym (ap (λ a. a.reply) is));
+      told = inl (ap (λ t. Tuples t) (shown ∙ ap (λ t. t ∷ []) same) ∙ sym (ap (λ a. a.reply) is));
       stores = subst (Stores old (record put { clock = clock }) before) commits record { holds = stores.holds; pending = stores.pending };
       clock = reached ∙ ap (slice_set old.clock writable_node) last ∙ ap (clock_after old.clock) commits;
     }
@@ -281,5 +306,39 @@ pub stands_read_only : (engine : Engine) (base : Base) (history : History) (name
 stands_read_only engine base history name asked stands can other =
     let before = state_of base history in
     stands_counted engine (counted engine) base history name asked (Refused (ReadOnly (record { 0 = writable_node }))) stands can
-    (answers_refused (counted engine) before asked (ReadOnly (record { 0 = writable_node })) (answer_read_only (counted engine) before asked other) stands.holds)
+    (answers_refused (counted engine) before asked [] (ReadOnly (record { 0 = writable_node })) (answer_read_only (counted engine) before asked other) stands.holds)
     record { ids = refl; count = refl; durable = refl }
+
+-- ---- a SELECT, by the first test that it fails
+
+module _ (memory : coded.State) (before : State) (holds : Holds memory before) (space : SpaceId) (index : IndexId) (limit offset : ℕ) (iterator : IterKind) (key : List ℕ)
+    (same : space.0 ≡ test_space) (first : index.0 ≡ 0) where
+  abbrev select : Answer
+  select = in_space space.0 (get before space.0) (selected space.0 index.0 limit offset iterator key)
+
+  pub tells_misfit : (misfit : Misfit) (refusal : Refusal) → refusal ≡ misfit_refusal misfit → given test_parts key ≡ Err misfit → IsTold (Refused refusal) select
+  tells_misfit misfit refusal is gives =
+      inl (ap (λ r. Refused r) is
+      ∙ sym (ap (λ a. a.reply) (key_is_misfit before (one_space memory before holds) space.0 index.0 limit offset iterator key same first misfit gives)))
+
+  module _ (fitting : Key) (gives : given test_parts key ≡ Ok fitting) where
+    abbrev picked : List (List ℕ)
+    picked = (pick (entries_of holds.keeps.tuples) iterator fitting offset limit).tuples
+
+    pub tells_tuples : (tuples : List (List ℕ)) → tuples ≡ picked → total_bytes tuples ≤ longest_result → IsTold (Tuples tuples) select
+    tells_tuples tuples is short =
+        inl (ap (λ t. Tuples t) is
+        ∙ sym (ap (λ a. a.reply) (tuples_are_picked before (one_space memory before holds) space.0 index.0 limit offset iterator key same first fitting gives
+        (subst (λ t. total_bytes t ≤ longest_result) is short))))
+
+    pub tells_too_long : (stop : SelectStop) → stop ≡ TooLong → ((stop ≡ TooLong) × (longest_result < total_bytes picked)) ⊎ (stop ≡ NoRoom)
+        → IsTold (Refused ResultTooLong) select
+    tells_too_long stop is (inl (same_stop, above)) =
+        inl (sym (ap (λ a. a.reply) (result_is_too_long before (one_space memory before holds) space.0 index.0 limit offset iterator key same first fitting gives above)))
+    tells_too_long stop is (inr none) = absurd cc
+
+-- a REPLACE as it was asked
+pub answers_asked : (old new : Engine) (before : State) (wanted : Request) (reply : Reply) (space : SpaceId) (tuple shown : List ℕ)
+    → wanted ≡ request.Replace space tuple → shown ≡ tuple → Answers old new before (request.Replace space shown) reply → Answers old new before wanted reply
+answers_asked old new before wanted reply space tuple shown same shown_is answers =
+    subst (λ r. Answers old new before r reply) (ap (request.Replace space) shown_is ∙ sym same) answers

@@ -1,18 +1,21 @@
 //! The engine.
 
-ghost use Rattle.std.specs.Prelude.{◌≡◌, true, ◌<◌, ◌-◌, ◌^◌, ◌∷◌, [], ℕ, suc, pos, length, take, slice_index, slice_set, IfOk, MatchOption, MatchResult};
+ghost use Rattle.std.specs.Prelude.{◌≡◌, ◌⊎◌, true, ◌<◌, ◌-◌, ◌^◌, ◌∷◌, [], Ok, suc, length, slice_index, slice_set, IfOk, MatchOption, MatchResult};
 ghost use Rattle.mx_vclock.specs.Vclocks.{most_lsn, IsNext};
 ghost use Rattle.std.specs.List.{Contains};
-ghost use Rattle.std.specs.Option.{option_to_list, option_copied};
-ghost use Rattle.mx_model.specs.Keys.{Integer, key_in};
+ghost use Rattle.std.specs.FinMap.{get};
+ghost use Rattle.mx_key.specs.Comparable.{comparable_of};
+ghost use Rattle.mx_key.specs.Keys.{Key, AreFit};
 ghost use Rattle.mx_model.specs.State as plain;
-ghost use Rattle.mx_model.specs.Stored.{Holds, stored};
+ghost use Rattle.mx_model.specs.State.{key_in, test_name, test_parts};
+ghost use Rattle.mx_model.specs.Stored.{Holds};
 ghost use Rattle.mx_base.specs.declared.refusal.Refusal.{Refusal};
+ghost use Rattle.mx_base.specs.declared.refusal.Refusal.TheVariants.{IndexMissing, OutOfMemory};
 ghost use Rattle.mx_request.specs.declared.request.Ask.TheVariants as ask;
 ghost use Rattle.mx_request.specs.declared.request.Request.TheVariants.{Replace};
 ghost use Rattle.mx_request.specs.Spelling.{IsAskable};
 ghost use Rattle.mx_model.specs.declared.reply.Reply.TheVariants.{Refused};
-ghost use Rattle.mx_model.specs.Answers.{looked_up};
+ghost use Rattle.mx_model.specs.Answers.{in_space, selected};
 ghost use Rattle.mx_model.specs.Histories.{Base, History, Asked, Left, Took, Confirmed, ledger_of, clock_of, is_write};
 ghost use Rattle.mx_engine.specs.Standing.{EngineStandsFor};
 ghost use Rattle.mx_engine.specs.Steps as steps;
@@ -21,10 +24,10 @@ ghost use Rattle.mx_engine.specs.Views.{reply_view};
 
 use crate::answer::Answer;
 use crate::pending::Pending;
-use mx_base::{ConnId, Refusal, ReplicaId, SpaceId, TxnName};
+use mx_base::{ConnId, IndexId, Refusal, ReplicaId, SpaceId, TxnName};
 use mx_model::{
-    Ids, LONGEST_TUPLE, Row, Rows, State, TEST_SPACE, Tx, Txs, begins_with_number,
-    is_by_primary_key, key_of, not_built,
+    Ids, Keyed, LONGEST_TUPLE, Pick, Row, Rows, SelectStop, State, TEST_SPACE, Tx, Txs,
+    fault_refusal, index_missing, iterator_of, misfit_refusal, not_built,
 };
 use mx_msgpack::{Bytes, Tuples};
 use mx_request::Request;
@@ -187,14 +190,15 @@ impl Engine {
                 iterator,
                 key,
             } => {
-                let key = key.as_slice();
-                let by_key = is_by_primary_key(*index, *offset, *iterator, key);
-                if space.0 == TEST_SPACE && !by_key {
-                    return Err(not_built(request));
-                }
-                self.select(*space, *limit, key)
+                let pick = Pick {
+                    iterator: iterator_of(*iterator),
+                    key: key.as_slice(),
+                    offset: *offset,
+                    limit: *limit,
+                };
+                self.select(*space, *index, &pick)
             }
-            Request::Replace { space, tuple } => self.replace(request, *space, tuple.as_slice()),
+            Request::Replace { space, tuple } => self.replace(*space, tuple.as_slice()),
             Request::Nop | Request::Ping => Ok(Answer::Empty),
             Request::Id => Ok(Answer::Id),
             Request::Insert { .. }
@@ -210,29 +214,31 @@ impl Engine {
         }
     }
 
-    /// The tuple of the key, where the limit allows one.
-    fn select(&self, space: SpaceId, limit: u32, key: &[u8]) -> Result<Answer, Refusal>
-        ensures { (state : plain.State) → Holds self.now.state state → IsTold (reply_view result) (looked_up state space.0 limit key.now) }
+    /// The tuples that an iterator picks.
+    fn select(&self, space: SpaceId, index: IndexId, pick: &Pick<'_>) -> Result<Answer, Refusal>
+        ensures { (state : plain.State) → Holds self.now.state state → IsTold (reply_view result)
+            (in_space space.0 (get state space.0) (selected space.0 index.0 pick.now.limit pick.now.offset pick.now.iterator pick.now.key.now)) }
     {
         if space.0 != TEST_SPACE {
             return Err(Refusal::SpaceMissing { space });
         }
-        match shown(self.alloc, find_within(&self.state, limit, key)) {
-            Ok(tuples) => Ok(Answer::Tuples(tuples)),
-            Err(_) => Err(Refusal::OutOfMemory),
+        if index.0 != 0 {
+            return Err(missing_index(self.alloc, index));
+        }
+        if let Some(misfit) = self.state.misfit(pick.key) {
+            return Err(misfit_refusal(misfit));
+        }
+        match self.state.select(self.alloc, pick) {
+            Ok(selected) => Ok(Answer::Tuples(selected.tuples)),
+            Err(SelectStop::TooLong) => Err(Refusal::ResultTooLong),
+            Err(SelectStop::NoMemory) => Err(Refusal::OutOfMemory),
         }
     }
 
     /// Puts the tuple in its place, as a commit, and shows it.
-    fn replace(
-        &mut self,
-        request: &Request,
-        space: SpaceId,
-        tuple: &[u8],
-    ) -> Result<Answer, Refusal>
-        requires taken { steps.takes self.old.ids request.now ≡ true }
-        requires same { request.now ≡ Replace space tuple.now }
-        ensures answers { (state : plain.State) → Holds self.old.state state → Answers self.old self.new state request.now (reply_view result) }
+    fn replace(&mut self, space: SpaceId, tuple: &[u8]) -> Result<Answer, Refusal>
+        requires { steps.takes self.old.ids (Replace space tuple.now) ≡ true }
+        ensures answers { (state : plain.State) → Holds self.old.state state → Answers self.old self.new state (Replace space tuple.now) (reply_view result) }
         ensures keeps { Keeps self.old self.new }
     {
         if space.0 != TEST_SPACE {
@@ -242,14 +248,15 @@ impl Engine {
             let bytes = tuple.len() as u64;
             return Err(Refusal::TupleTooLong { bytes });
         }
-        if !begins_with_number(tuple) {
-            return Err(not_built(request));
-        }
+        let keyed = match self.state.key_tuple(self.alloc, tuple) {
+            Ok(keyed) => keyed,
+            Err(fault) => return Err(fault_refusal(fault)),
+        };
         let mut clock = self.clock;
         let Some(lsn) = go_on(&mut clock) else {
             return Err(Refusal::LsnsUsedUp);
         };
-        match self.commit(lsn, tuple) {
+        match self.commit(lsn, keyed) {
             Ok(tuples) => {
                 self.clock = clock;
                 Ok(Answer::Tuples(tuples))
@@ -262,23 +269,33 @@ impl Engine {
     ///
     /// # Errors
     /// Memory ran out. Nothing changed then.
-    fn commit(&mut self, lsn: u64, tuple: &[u8]) -> Result<Tuples, AllocError>
-        ensures shown { IfOk result (λ tuples. tuples ≡ tuple.now ∷ []) }
-        ensures stores { (state : plain.State) → Holds self.old.state state → MatchResult result
-            (λ _. Stores self.old self.new state (steps.transaction_of lsn tuple.now ∷ []))
+    fn commit(&mut self, lsn: u64, keyed: Keyed) -> Result<Tuples, AllocError>
+        ensures shown { IfOk result (λ tuples. tuples ≡ keyed.tuple ∷ []) }
+        ensures stores { (state : plain.State) (key : Key) → Holds self.old.state state → key_in test_parts keyed.tuple ≡ Ok key → AreFit key → keyed.key ≡ comparable_of key
+            → MatchResult result
+            (λ _. Stores self.old self.new state (steps.transaction_of lsn keyed.tuple ∷ []))
             (λ _. Stores self.old self.new state []) }
-        ensures clock { self.new.clock ≡ self.old.clock }
         ensures keeps { Keeps self.old self.new }
+        ensures clock { self.new.clock ≡ self.old.clock }
     {
-        let tuples = shown(self.alloc, Some(tuple))?;
-        let transaction = transaction_of(self.alloc, lsn, tuple)?;
-        let stored = Bytes::from_slice(self.alloc, tuple)?;
+        let transaction = transaction_of(self.alloc, lsn, keyed.tuple.as_slice())?;
+        let tuples = shown(self.alloc, keyed.tuple.as_slice())?;
         self.pending.push(transaction)?;
-        if let Err(fault) = self.state.replace(key_of(tuple), stored) {
+        if let Err(fault) = self.state.replace(keyed) {
             self.pending.pop();
             return Err(fault);
         }
         Ok(tuples)
+    }
+}
+
+/// The refusal of an index that isn't there.
+fn missing_index(alloc: Global, index: IndexId) -> Refusal
+    ensures { (result ≡ IndexMissing index test_name) ⊎ (result ≡ OutOfMemory) }
+{
+    match index_missing(alloc, index) {
+        Ok(refusal) => refusal,
+        Err(_) => Refusal::OutOfMemory,
     }
 }
 
@@ -318,25 +335,12 @@ fn go_on(clock: &mut Vclock) -> Option<u64>
     }
 }
 
-/// The tuple of the key, where the limit allows one.
-fn find_within<'a>(state: &'a State, limit: u32, key: &[u8]) -> Option<&'a [u8]>
-    ensures { (number : ℕ) → key_in key.now ≡ Integer (pos number) ∷ []
-        → option_to_list (option_copied result) ≡ take limit (option_to_list (stored state.now number)) }
-{
-    if limit == 0 {
-        return None;
-    }
-    state.find(key_of(key))
-}
-
-/// The tuple that was found, by itself.
-fn shown(alloc: Global, found: Option<&[u8]>) -> Result<Tuples, AllocError>
-    ensures { IfOk result (λ tuples. tuples ≡ option_to_list (option_copied found.entry)) }
+/// The tuple by itself.
+fn shown(alloc: Global, tuple: &[u8]) -> Result<Tuples, AllocError>
+    ensures { IfOk result (λ tuples. tuples ≡ tuple.now ∷ []) }
 {
     let mut tuples = Tuples::new(alloc);
-    if let Some(tuple) = found {
-        tuples.push(Bytes::from_slice(alloc, tuple)?)?;
-    }
+    tuples.push(Bytes::from_slice(alloc, tuple)?)?;
     Ok(tuples)
 }
 

@@ -1,5 +1,5 @@
 -- What the tests' first transaction and empty directory are.
-use Rattle.std.proofs.Common.{◌≡◌, ℕ, List, [], ◌∷◌, IsSome, is_some, Any, pos, refl, sym, ap, inl, arith, Option, Some, Result, Ok, Err, IfOk}
+use Rattle.std.proofs.Common.{◌≡◌, ℕ, List, [], ◌∷◌, IsSome, Any, pos, refl, sym, ap, inl, arith, Option, Some, Result, Ok, Err, IfOk}
 use Rattle.std.proofs.lemmas.List.{length-append}
 use mathlib.Core.Bool.{true≢false}
 use mathlib.Core.Path.{subst}
@@ -10,10 +10,8 @@ use Rattle.std.specs.Ordering.{nat_cmp}
 use Rattle.mx_outside.specs.Disks.{Disk, IfTold, or_none}
 use Rattle.mx_fake.specs.Changes.{no_files}
 use Rattle.mx_msgpack.specs.Grammar.{Int, Str, NoValue, MoreValues}
-use Rattle.mx_msgpack.specs.Reading.{reading_of, head_at, after_value}
 use Rattle.mx_msgpack.specs.Spelling.{shortest_unsigned}
 use Rattle.mx_msgpack.proofs.SpellingLaws.{shortest_length}
-use Rattle.mx_msgpack.proofs.UnsignedLaws.{unsigned_read}
 use Rattle.mx_model.specs.declared.row.Row.{Row}
 use Rattle.mx_model.specs.declared.row.Row.TheVariants.{Replaced}
 use Rattle.mx_model.specs.declared.tx.Tx.{Tx}
@@ -28,10 +26,9 @@ abbrev pub first_tuple : List ℕ
 first_tuple = 0x92 ∷ 0x01 ∷ 0xa1 ∷ 0x61 ∷ []
 
 first_is_tuple : IsTuple first_tuple
-unfolding reading_of head_at after_value
-first_is_tuple = record {
-  values = MoreValues (Int (pos 1)) (MoreValues (Str (0x61 ∷ [])) NoValue);
-  spelled = (
+first_is_tuple = (
+  MoreValues (Int (pos 1)) (MoreValues (Str (0x61 ∷ [])) NoValue),
+  (
     0x92 ∷ [],
     0x01 ∷ 0xa1 ∷ 0x61 ∷ [],
     inl (omega arith, refl),
@@ -44,9 +41,8 @@ first_is_tuple = record {
       inl (1, refl, inl (omega arith, refl)),
       (0xa1 ∷ 0x61 ∷ [], [], refl, (0xa1 ∷ [], inl (omega arith, refl), omega arith, refl), refl),
     ),
-  );
-  numbered = ap is_some (unsigned_read 1 (0x01 ∷ []) (0xa1 ∷ 0x61 ∷ []) (inl (omega arith, refl)));
-}
+  ),
+)
 
 first_is_row : IsRow (Replaced 512 first_tuple)
 first_is_row =

@@ -8,8 +8,7 @@ ghost use Rattle.mx_model.specs.Rows.{transaction_at, row_in, replaced_in, short
 ghost use Rattle.mx_journal.specs.Views.{tx_view, pairs_view};
 
 use crate::maps::{Pairs, map_at, number_under, value_under};
-use mx_model::items_in;
-use mx_msgpack::{skip, unsigned_32_at, unsigned_at};
+use mx_msgpack::{ValueRef, read_ref, unsigned_32_at};
 
 /// The key of a row's type.
 const TYPE_KEY: u64 = 0x00;
@@ -128,9 +127,10 @@ pub(crate) fn spelled_len(number: u32) -> usize
 fn tuple_at(bytes: &[u8]) -> Option<&[u8]>
     ensures { option_copied result ≡ tuple_at bytes.now }
 {
-    let size = skip(bytes).ok()?;
-    unsigned_at(items_in(bytes))?;
-    Some(bytes.split_at(size).0)
+    match read_ref(bytes) {
+        Ok((ValueRef::Array { .. }, size)) => Some(bytes.split_at(size).0),
+        _ => None,
+    }
 }
 
 /// The replica id, where it isn't that of rows which stay on one replica.

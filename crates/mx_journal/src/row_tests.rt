@@ -154,7 +154,7 @@ fn refuses_headers(rt: HostRuntime) -> Result<(), Fail> {
 
 #[test]
 fn reads_bodies(rt: HostRuntime) -> Result<(), Fail> {
-    let table: [(&[u8], u32, &[u8], &[u8]); 6] = [
+    let table: [(&[u8], u32, &[u8], &[u8]); 8] = [
         (&[0x82, 0x10, 0x05, 0x21, 0x91, 0x07], 5, &[0x91, 0x07], &[]),
         (&[0x82, 0x21, 0x91, 0x07, 0x10, 0x05], 5, &[0x91, 0x07], &[]),
         (
@@ -183,6 +183,14 @@ fn reads_bodies(rt: HostRuntime) -> Result<(), Fail> {
             &[0x91, 0x07],
             &[0x83, 0xc0],
         ),
+        // Tuples whose fields make no key are the state's to refuse.
+        (
+            &[0x82, 0x10, 0x05, 0x21, 0x91, 0xa1, 0x07],
+            5,
+            &[0x91, 0xa1, 0x07],
+            &[],
+        ),
+        (&[0x82, 0x10, 0x05, 0x21, 0x90], 5, &[0x90], &[]),
     ];
     for (body, space, tuple, rest) in table {
         let row = joined(rt.alloc(), &ROW[..BODY], body)?;
@@ -197,18 +205,16 @@ fn reads_bodies(rt: HostRuntime) -> Result<(), Fail> {
 
 #[test]
 fn refuses_bodies(rt: HostRuntime) -> Result<(), Fail> {
-    let table: [&[u8]; 10] = [
+    let table: [&[u8]; 8] = [
         // Without a tuple, and without a space.
         &[0x81, 0x10, 0x05],
         &[0x81, 0x21, 0x91, 0x07],
         // Spaces of more than 32 bits, and of no number.
         &[0x82, 0x10, 0xcf, 0, 0, 0, 1, 0, 0, 0, 0, 0x21, 0x91, 0x07],
         &[0x82, 0x10, 0xa1, 0x05, 0x21, 0x91, 0x07],
-        // Tuples that are no array, or have no number first.
+        // Tuples that are no array.
         &[0x82, 0x10, 0x05, 0x21, 0x81, 0x07, 0x07],
         &[0x82, 0x10, 0x05, 0x21, 0x07],
-        &[0x82, 0x10, 0x05, 0x21, 0x91, 0xa1, 0x07],
-        &[0x82, 0x10, 0x05, 0x21, 0x90],
         // No map.
         &[0x92, 0x10, 0x05],
         &[0xc0],

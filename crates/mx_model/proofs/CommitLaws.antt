@@ -1,6 +1,6 @@
 -- What a legal history commits can be written and read again.
 use Rattle.std.proofs.Common.{◌≡◌, ℕ, suc, ◌+◌, ◌-◌, ◌^◌, ◌<◌, ◌≤◌, Bool, true, false, not, List, [], ◌∷◌, ◌++◌, length, length-append, refl, sym, ap, ◌∙◌, subst, arith}
-use Rattle.std.specs.Prelude.{◌==◌, ◌&&◌, Option, Some, None, is_some, nat_lt, nat_le, slice_index, if◌then◌else◌}
+use Rattle.std.specs.Prelude.{◌==◌, ◌&&◌, Option, Some, None, Result, Ok, Err, is_some, is_ok, nat_lt, nat_le, slice_index, if◌then◌else◌}
 use Rattle.std.specs.FinMap as map
 use Rattle.std.proofs.lemmas.Bool.{eq-eqb}
 use Rattle.std.proofs.lemmas.Bool.Decides.{nat_tests}
@@ -17,11 +17,13 @@ use Rattle.mx_model.specs.declared.row.Row.TheVariants.{Replaced}
 use Rattle.mx_model.specs.declared.tx.Tx.{Tx}
 use Rattle.mx_model.specs.declared.reply.Reply.{Reply}
 use Rattle.mx_model.specs.State as state
-use Rattle.mx_model.specs.State.{State}
-use Rattle.mx_model.specs.Answers.{Answer, answer_to, refused, not_built, replaced, replacing, longest_tuple, begins_with_number, is_by_primary_key, in_space, state_after_rows}
+use Rattle.mx_model.specs.State.{State, test_parts, key_in}
+use Rattle.mx_key.specs.declared.fault.KeyFault.{KeyFault}
+use Rattle.mx_key.specs.Keys.{Key}
+use Rattle.mx_model.specs.Answers.{Answer, answer_to, refused, refused_after, schema_reads, iterator_of, replaced, replaced_by, longest_tuple, in_space, state_after_rows}
 use Rattle.mx_model.specs.Transactions.{state_after, clock_after, clock_after_one}
 use Rattle.mx_model.specs.Rows.{IsRow, space_key, tuple_key}
-use Rattle.mx_model.specs.Files.{AllFollow}
+use Rattle.mx_model.specs.Files.{AllFollow, takes_row}
 use Rattle.mx_model.specs.Histories.{Base, History, Asked, Left, Took, Confirmed, Ledger, IsLegal, IsReply, is_want_of_memory, writable_node, numbered, committed, commits_of, ledger_of, journal_of, state_in, clock_in, next_lsn}
 use Rattle.mx_model.proofs.HistoryLaws.{committed-no_row, select_no_row, node_no_row}
 
@@ -49,58 +51,69 @@ lsn_of clock replica = suc (slice_index clock replica)
 writable : (me : ℕ) → not (me == writable_node) ≡ false → me ≡ writable_node
 writable me test = grind (arith, nat_tests)
 
--- a tuple that isn't too long and begins with a number makes a row that can be written
+-- a tuple that isn't too long makes a row that can be written
 row_can_be_written : (space : ℕ) (tuple : List ℕ) → space < 2 ^ 32 → IsInnerArray tuple → nat_lt longest_tuple (length tuple) ≡ false
-    → begins_with_number tuple ≡ true → IsRow (Replaced space tuple)
-row_can_be_written space tuple fits inner short begins =
+    → IsRow (Replaced space tuple)
+row_can_be_written space tuple fits inner short =
     let most = below longest_tuple (length tuple) short in
     let number = shortest_length space in
     let long = length-append (0x82 ∷ space_key ∷ shortest_unsigned space) (tuple_key ∷ tuple) in
-    (fits, record { values = inner.0; spelled = inner.1; numbered = begins }, omega arith)
+    (fits, inner, omega arith)
 
-module _ (now : State) (clock : List ℕ) (replica space : ℕ) (tuple : List ℕ) (asked : Request) (without_memory : Bool)
+short_enough : (most length : ℕ) → nat_lt most length ≡ false → nat_le length most ≡ true
+short_enough most length test = grind (arith, nat_tests)
+
+module _ (now : State) (clock : List ℕ) (replica space : ℕ) (tuple : List ℕ) (without_memory : Bool)
     (fits : space < 2 ^ 32) (inner : IsInnerArray tuple) where
   -- the transactions that an answer commits
   abbrev commits : Answer → List Tx
   commits answer = committed replica (lsn_of clock replica) without_memory answer.row
 
   -- a commit of the row
-  one_follows : (w : Bool) → IsRow (Replaced space tuple) → replica ≡ writable_node → is_some (map.get now space) ≡ true
+  one_follows : (w : Bool) → IsRow (Replaced space tuple) → replica ≡ writable_node → takes_row now (Replaced space tuple) ≡ true
       → nat_lt most_lsn (lsn_of clock replica) ≡ false
       → AllFollow now clock (committed replica (lsn_of clock replica) w (Some (Replaced space tuple)))
-  one_follows true can node there within = tt
-  one_follows false can node there within = (
+  one_follows true can node takes within = tt
+  one_follows false can node takes within = (
     record { replica = (omega arith, omega arith); first = (omega arith, below most_lsn (lsn_of clock replica) within); row = (Replaced space tuple, refl, can) },
     (ap (λ b. b && nat_le ((lsn_of clock replica + 1) - 1) most_lsn) (eq-eqb (lsn_of clock replica) (lsn_of clock replica) refl) ∙ not_above most_lsn (lsn_of clock replica) within),
-    (ap (λ b. b && true) there),
+    (ap (λ b. b && true) takes),
     tt,
   )
 
-  numbered_follows : (above : Bool) → IsRow (Replaced space tuple) → replica ≡ writable_node → is_some (map.get now space) ≡ true
+  numbered_follows : (above : Bool) (key : Key) → IsRow (Replaced space tuple) → replica ≡ writable_node → takes_row now (Replaced space tuple) ≡ true
       → nat_lt most_lsn (lsn_of clock replica) ≡ above
-      → AllFollow now clock (commits (if above then refused LsnsUsedUp else replaced space tuple))
-  numbered_follows true can node there test = no_commit now clock replica (lsn_of clock replica) without_memory
-  numbered_follows false can node there test = one_follows without_memory can node there test
+      → AllFollow now clock (commits (if above then refused_after (schema_reads space) LsnsUsedUp else replaced_by space tuple (Ok key)))
+  numbered_follows true key can node takes test = no_commit now clock replica (lsn_of clock replica) without_memory
+  numbered_follows false key can node takes test = one_follows without_memory can node takes test
+
+  -- what a tuple with this primary key, or none, commits
+  keyed_follows : (key : Result Key KeyFault) → key_in test_parts tuple ≡ key → nat_lt longest_tuple (length tuple) ≡ false
+      → replica ≡ writable_node → is_some (map.get now space) ≡ true
+      → AllFollow now clock (commits (numbered (lsn_of clock replica) (replaced_by space tuple key) (replaced_by space tuple key).row))
+  keyed_follows (Err fault) is short node there = no_commit now clock replica (lsn_of clock replica) without_memory
+  keyed_follows (Ok key) is short node there =
+      let takes : takes_row now (Replaced space tuple) ≡ true =
+      ap (λ b. b && nat_le (length tuple) longest_tuple && is_ok (key_in test_parts tuple)) there
+      ∙ ap (λ b. b && is_ok (key_in test_parts tuple)) (short_enough longest_tuple (length tuple) short) ∙ ap is_ok is in
+      numbered_follows (nat_lt most_lsn (lsn_of clock replica)) key (row_can_be_written space tuple fits inner short) node takes refl
 
   -- what a REPLACE in a space that is there commits
-  replacing_follows : (long begins : Bool) → nat_lt longest_tuple (length tuple) ≡ long → begins_with_number tuple ≡ begins
-      → replica ≡ writable_node → is_some (map.get now space) ≡ true
+  replacing_follows : (long : Bool) → nat_lt longest_tuple (length tuple) ≡ long → replica ≡ writable_node → is_some (map.get now space) ≡ true
       → AllFollow now clock (commits (numbered (lsn_of clock replica)
-      (if long then refused (TupleTooLong (length tuple)) else if begins then replaced space tuple else not_built asked)
-      (if long then refused (TupleTooLong (length tuple)) else if begins then replaced space tuple else not_built asked).row))
-  replacing_follows true begins long number node there = no_commit now clock replica (lsn_of clock replica) without_memory
-  replacing_follows false false long number node there = no_commit now clock replica (lsn_of clock replica) without_memory
-  replacing_follows false true long number node there =
-      numbered_follows (nat_lt most_lsn (lsn_of clock replica)) (row_can_be_written space tuple fits inner long number) node there refl
+      (if long then refused_after (schema_reads space) (TupleTooLong (length tuple)) else replaced_by space tuple (key_in test_parts tuple))
+      (if long then refused_after (schema_reads space) (TupleTooLong (length tuple)) else replaced_by space tuple (key_in test_parts tuple)).row))
+  replacing_follows true long node there = no_commit now clock replica (lsn_of clock replica) without_memory
+  replacing_follows false short node there = keyed_follows (key_in test_parts tuple) refl short node there
 
   -- what a REPLACE commits
   replaced_follows : (read_only : Bool) (found : Option state.Tuples) → not (replica == writable_node) ≡ read_only → map.get now space ≡ found
       → AllFollow now clock (commits (if read_only then refused (ReadOnly (record { 0 = writable_node }))
-      else numbered (lsn_of clock replica) (in_space space found (λ _. replacing asked space tuple)) (in_space space found (λ _. replacing asked space tuple)).row))
+      else numbered (lsn_of clock replica) (in_space space found (λ _. replaced space tuple)) (in_space space found (λ _. replaced space tuple)).row))
   replaced_follows true found node there = no_commit now clock replica (lsn_of clock replica) without_memory
   replaced_follows false None node there = no_commit now clock replica (lsn_of clock replica) without_memory
   replaced_follows false (Some tuples) node there =
-      replacing_follows (nat_lt longest_tuple (length tuple)) (begins_with_number tuple) refl refl (writable replica node) (ap is_some there)
+      replacing_follows (nat_lt longest_tuple (length tuple)) refl (writable replica node) (ap is_some there)
 
 -- a request that leaves no row commits nothing
 none_follows : (base : Base) (ledger : Ledger) (asked : Request) (reply : Reply) → (answer_to (state_in base ledger) asked).row ≡ None
@@ -116,10 +129,9 @@ request_follows : (base : Base) (ledger : Ledger) (asked : Request) (reply : Rep
     → AllFollow (state_in base ledger) (clock_in base ledger) (commits_of base ledger (ask.Request asked) reply)
 request_follows base ledger (request.Select space index limit offset iterator key) reply can =
     none_follows base ledger (request.Select space index limit offset iterator key) reply
-    (select_no_row (is_by_primary_key index.0 offset iterator key) (request.Select space index limit offset iterator key) space.0
-    (map.get (state_in base ledger) space.0) limit key)
+    (select_no_row space.0 index.0 limit offset (iterator_of iterator) key (map.get (state_in base ledger) space.0))
 request_follows base ledger (request.Replace space tuple) reply can =
-    replaced_follows (state_in base ledger) (clock_in base ledger) base.ids.me space.0 tuple (request.Replace space tuple) (is_want_of_memory reply) can.0 can.1
+    replaced_follows (state_in base ledger) (clock_in base ledger) base.ids.me space.0 tuple (is_want_of_memory reply) can.0 can.1
     (not (base.ids.me == writable_node)) (map.get (state_in base ledger) space.0) refl refl
 request_follows base ledger (request.Insert space tuple) reply can = none_follows base ledger (request.Insert space tuple) reply refl
 request_follows base ledger (request.Update space index first key operations) reply can =

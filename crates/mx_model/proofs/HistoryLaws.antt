@@ -1,29 +1,27 @@
 -- What one step more makes of a history, and that a history whose steps all had memory is that of its asks.
 use Rattle.std.proofs.Common.{◌≡◌, inl, inr, ℕ, ◌≤◌, Bool, true, false, List, [], ◌∷◌, ◌++◌, length, drop, refl, sym, ap, ◌∙◌, append-nil, length-append, arith}
-use Rattle.std.specs.Prelude.{Option, Some, None, not, ◌&&◌, ◌==◌, if◌then◌else◌}
-use Rattle.std.specs.FinMap as map
+use Rattle.std.specs.Prelude.{Option, Some, None, Result, Ok, Err, not, nat_lt, ◌&&◌, ◌==◌, if◌then◌else◌}
 use Rattle.std.proofs.lemmas.List.{drop-append-le}
-use Rattle.mx_base.specs.declared.refusal.Refusal.TheVariants.{OutOfMemory, ReadOnly}
+use Rattle.mx_base.specs.declared.refusal.Refusal.TheVariants.{OutOfMemory, ReadOnly, IndexMissing, ResultTooLong}
 use Rattle.mx_base.specs.declared.ids.TxnName.{TxnName}
 use Rattle.mx_request.specs.declared.request.Ask.{Ask}
 use Rattle.mx_request.specs.declared.request.Ask.TheVariants as ask
 use Rattle.mx_request.specs.declared.request.Request.{Request}
 use Rattle.mx_model.specs.declared.reply.Reply.{Reply}
-use Rattle.mx_model.specs.declared.reply.Reply.TheVariants.{Refused}
+use Rattle.mx_model.specs.declared.reply.Reply.TheVariants.{Tuples, Refused}
 use Rattle.mx_model.specs.declared.tx.Tx.{Tx}
 use Rattle.mx_model.specs.declared.ids.Ids.{Ids}
-use Rattle.mx_model.specs.Keys.{key_in}
 use Rattle.mx_model.specs.State as state
-use Rattle.mx_model.specs.State.{State}
-use Rattle.mx_model.specs.Answers.{Row, answer_to, refused, not_built, in_space, selected, state_after_row, state_after_rows}
+use Rattle.mx_model.specs.State.{State, test_name, test_parts}
+use Rattle.mx_model.specs.Picks.{Selection, pick, entries_of, total_bytes, longest_result}
+use Rattle.mx_key.specs.declared.fault.Misfit.{Misfit}
+use Rattle.mx_key.specs.declared.iterator.IterKind.{IterKind}
+use Rattle.mx_key.specs.Keys.{Key}
+use Rattle.mx_key.specs.Parts.{given}
+use Rattle.mx_key.specs.Ranges.{Range, range_of}
+use Rattle.mx_model.specs.Answers.{answer_to, refused, refused_after, in_space, schema_reads, range_reads, answered, selected_by, selected, state_after_rows}
 use Rattle.mx_model.specs.Transactions.{state_after, clock_after, clock_after_one}
 use Rattle.mx_model.specs.Histories.{Base, Asked, Left, Took, Confirmed, History, Ledger, is_want_of_memory, node_answer, numbered, committed, commits_of, ledger_of, journal_of, state_of, clock_of, reply_to, IsReply, IsLegal, asks_in, HasMemory, asking, leaving, step_for, history_from, is_write, writable_node}
-use Rattle.mx_model.proofs.StateLaws.{HasOneSpace, rows_keep_one_space}
-
-pub state_after_rows-append : (base : State) (xs ys : List Row)
-    → state_after_rows base (xs ++ ys) ≡ state_after_rows (state_after_rows base xs) ys
-state_after_rows-append base [] ys = refl
-state_after_rows-append base (x ∷ xs) ys = state_after_rows-append (state_after_row base x) xs ys
 
 pub state_after-append : (base : State) (xs ys : List Tx)
     → state_after base (xs ++ ys) ≡ state_after (state_after base xs) ys
@@ -109,16 +107,6 @@ history_of_asks base (Took transactions upto ∷ earlier) legal memory =
 history_of_asks base (Confirmed upto ∷ earlier) legal memory =
     history_of_asks base earlier legal.0 memory.0 ∙ ap (history_from base []) (sym (append-nil (asks_in earlier)))
 
--- the one space is there after any transactions
-pub transactions_keep_one_space : (transactions : List Tx) (now : State) → HasOneSpace now → HasOneSpace (state_after now transactions)
-transactions_keep_one_space [] now has = has
-transactions_keep_one_space (transaction ∷ others) now has =
-    transactions_keep_one_space others (state_after_rows now transaction.rows) (rows_keep_one_space transaction.rows now has)
-
--- and after any history
-pub history_keeps_one_space : (base : Base) (history : History) → HasOneSpace base.state → HasOneSpace (state_of base history)
-history_keeps_one_space base history has = transactions_keep_one_space (journal_of base history) base.state has
-
 -- no more was taken than was committed
 pub taken_within : (base : Base) (history : History) → (ledger_of base history).taken ≤ length (journal_of base history)
 taken_within base [] = omega arith
@@ -150,12 +138,33 @@ pub committed-no_row : (replica lsn : ℕ) (without_memory : Bool) → committed
 committed-no_row replica lsn true = refl
 committed-no_row replica lsn false = refl
 
--- a SELECT leaves no row, whether it is by the primary key or not
-pub select_no_row : (by_key : Bool) (request : Request) (space : ℕ) (found : Option state.Tuples) (limit : ℕ) (key : List ℕ)
-    → (in_space space found (λ tuples. if by_key then selected limit (map.get tuples (key_in key)) else not_built request)).row ≡ None
-select_no_row by_key request space None limit key = refl
-select_no_row true request space (Some tuples) limit key = refl
-select_no_row false request space (Some tuples) limit key = refl
+answered_no_row : (space index : ℕ) (whole : Range) (found : Selection) (long : Bool) → nat_lt longest_result (total_bytes found.tuples) ≡ long
+    → (answered space index whole found).row ≡ None
+answered_no_row space index whole found long test = by_test (nat_lt longest_result (total_bytes found.tuples))
+  where
+    by_test : (long : Bool)
+        → (if long then refused_after (schema_reads space ++ range_reads space index (Some whole)) ResultTooLong
+        else record { reply = Tuples found.tuples; row = None; reads = schema_reads space ++ range_reads space index found.read }).row ≡ None
+    by_test true = refl
+    by_test false = refl
+
+selected_by_no_row : (space limit offset : ℕ) (iterator : IterKind) (tuples : state.Tuples) (key : Result Key Misfit)
+    → (selected_by space limit offset iterator tuples key).row ≡ None
+selected_by_no_row space limit offset iterator tuples (Err misfit) = refl
+selected_by_no_row space limit offset iterator tuples (Ok key) =
+    answered_no_row space 0 (range_of iterator key) (pick (entries_of tuples) iterator key offset limit) _ refl
+
+-- a SELECT leaves no row
+pub select_no_row : (space index limit offset : ℕ) (iterator : IterKind) (key : List ℕ) (found : Option state.Tuples)
+    → (in_space space found (selected space index limit offset iterator key)).row ≡ None
+select_no_row space index limit offset iterator key None = refl
+select_no_row space index limit offset iterator key (Some tuples) = by_test (index == 0)
+  where
+    by_test : (first : Bool)
+        → (if first then selected_by space limit offset iterator tuples (given test_parts key)
+        else refused_after (schema_reads space) (IndexMissing (record { 0 = index }) test_name)).row ≡ None
+    by_test true = selected_by_no_row space limit offset iterator tuples (given test_parts key)
+    by_test false = refl
 
 -- where the statement leaves no row, the node leaves none
 pub node_no_row : (ids : Ids) (before : State) (lsn : ℕ) (request : Request) → (answer_to before request).row ≡ None
@@ -167,11 +176,3 @@ node_no_row ids before lsn request none = by_test (is_write request && not (ids.
         else numbered lsn (answer_to before request) (answer_to before request).row).row ≡ None
     by_test true = refl
     by_test false = ap (λ row. (numbered lsn (answer_to before request) row).row) none ∙ none
-
--- a node answers what writes nothing as the statement does
-pub read_answer : (ids : Ids) (before : State) (lsn : ℕ) (request : Request) → is_write request ≡ false → (answer_to before request).row ≡ None
-    → node_answer ids before lsn request ≡ answer_to before request
-read_answer ids before lsn request reads none =
-    ap (λ writes. if writes && not (ids.me == writable_node) then refused (ReadOnly (record { 0 = writable_node }))
-    else numbered lsn (answer_to before request) (answer_to before request).row) reads
-    ∙ ap (numbered lsn (answer_to before request)) none

@@ -1,8 +1,5 @@
 pub mod StateLaws
 pub mod HistoryLaws
-pub mod AnswerLaws
-pub mod SlowLaws
-pub mod StoredLaws
 pub mod NameLaws
 pub mod DirectoryLaws
 pub mod GrowthLaws
@@ -14,3 +11,9 @@ pub mod TransactionLaws
 pub mod CommitLaws
 pub mod BlockLaws
 pub mod OnceLaws
+pub mod AnswerLaws
+pub mod FieldLaws
+pub mod StoredLaws
+pub mod WindowLaws
+pub mod PickLaws
+pub mod SlowLaws

@@ -1,24 +1,26 @@
 -- The rows of a journal: what is written is read again, whatever follows, and is data of a block.
-use Rattle.std.proofs.Common.{◌≡◌, ℕ, ◌+◌, ◌^◌, ◌<◌, ◌≤◌, ◌==◌, List, [], ◌∷◌, ◌++◌, length, Option, Some, None, Ok, refl, sym, ap, subst, ◌∙◌, append_assoc, inl, arith}
-use Rattle.std.specs.Prelude.{pos, is_some, nat_lt, if◌then◌else◌}
-use Rattle.std.proofs.lemmas.Bool.{cond-true, le-leb, lt-ltb, le-ltb, ltb-false}
+use Rattle.std.proofs.Common.{◌≡◌, ℕ, ◌+◌, ◌^◌, ◌<◌, ◌≤◌, ◌==◌, List, [], ◌∷◌, ◌++◌, length, Option, Some, None, Result, Ok, Err, refl, sym, ap, subst, ◌∙◌, append_assoc, inl, arith}
+use Rattle.std.specs.Prelude.{pos, nat_lt, if◌then◌else◌}
+use Rattle.std.proofs.lemmas.Bool.{cond-true, eqb-true, le-leb, lt-ltb, le-ltb, ltb-false}
 use Rattle.std.proofs.lemmas.List.{append-nil, take_all, length-append}
 use Rattle.mx_msgpack.specs.Grammar as grammar
-use Rattle.mx_msgpack.specs.Grammar.{Pairs, NoPair, MorePairs, SpellsUnsigned, Spells, SpellsPairs}
+use Rattle.mx_msgpack.specs.Grammar.{value_count, Pairs, NoPair, MorePairs, SpellsUnsigned, Spells, SpellsPairs}
 use Rattle.mx_msgpack.specs.Readers.{Advances, unsigned_at, unsigned_32_at}
-use Rattle.mx_msgpack.specs.Reading.{measured}
+use Rattle.mx_msgpack.specs.declared.bad.Bad.{Bad}
+use Rattle.mx_msgpack.specs.Items.{array_shown, array_of}
+use Rattle.mx_msgpack.specs.Reading.{Shown, ShownNil, ShownBool, ShownInt, ShownStr, ShownBin, ShownArray, ShownMap, ShownOpaque, reading_of}
+use Rattle.mx_msgpack.proofs.ItemLaws.{array_read}
 use Rattle.mx_msgpack.specs.Spelling.{shortest_unsigned}
-use Rattle.mx_msgpack.proofs.Options.{bind_some, passed, same_some}
+use Rattle.mx_msgpack.proofs.Options.{bind_some, passed, allowed, same_some}
 use Rattle.mx_msgpack.proofs.UnsignedLaws.{unsigned_read}
 use Rattle.mx_msgpack.proofs.SpellingLaws.{shortest_spelled, unsigned_again, shortest_length}
 use Rattle.mx_msgpack.proofs.ReaderLaws.{all_from_some}
-use Rattle.mx_msgpack.proofs.FrontLaws.{roomier, measured_again}
+use Rattle.mx_msgpack.proofs.FrontLaws.{roomier}
 use Rattle.mx_xlog.specs.Blocks.{IsData}
-use Rattle.mx_model.specs.Keys.{items_in}
 use Rattle.mx_model.specs.declared.row.Row.{Row}
 use Rattle.mx_model.specs.declared.row.Row.TheVariants.{Replaced}
 use Rattle.mx_model.specs.declared.tx.Tx.{Tx}
-use Rattle.mx_model.specs.Rows.{type_key, replica_key, lsn_key, number_key, space_key, tuple_key, replace_type, longest_body, body_text, row_text, rows_text, transaction_text, IsTuple, IsRow, IsTransaction, map_at, later, value_under, number_under, stands_alone, only_alone, tuple_measured, tuple_at, short_enough, replaced_in, row_in, replica_in, transaction_at, only_whole, transactions_in}
+use Rattle.mx_model.specs.Rows.{type_key, replica_key, lsn_key, number_key, space_key, tuple_key, replace_type, longest_body, body_text, row_text, rows_text, transaction_text, IsTuple, IsRow, IsTransaction, map_at, later, value_under, number_under, stands_alone, only_alone, tuple_shown, tuple_at, short_enough, replaced_in, row_in, replica_in, transaction_at, only_whole, transactions_in}
 use Rattle.mx_model.proofs.PairLaws.{map_again, map_at-Advances, first_pair, last_pair, number_there}
 
 -- ---- a transaction by its parts
@@ -176,28 +178,41 @@ body_pairs space tuple = space_key ∷ (shortest_unsigned space ++ tuple_pair tu
 
 module _ (space : ℕ) (tuple : List ℕ) (below : space < 2 ^ 64) (is : IsTuple tuple) where
   body_value : Pairs
-  body_value = MorePairs (number_value space_key) (number_value space) (tuple_value is.values)
+  body_value = MorePairs (number_value space_key) (number_value space) (tuple_value is.0)
 
   body_spelled : SpellsPairs 63 body_value (body_pairs space tuple)
   unfolding body_value
   body_spelled =
-      pair_spelled space_key (number_value space) (shortest_unsigned space) (tuple_pair tuple) (tuple_value is.values) (omega arith) (inl (space, refl, shortest_spelled space below))
-      (last_spelled tuple_key (grammar.Array is.values) tuple (omega arith) is.spelled)
+      pair_spelled space_key (number_value space) (shortest_unsigned space) (tuple_pair tuple) (tuple_value is.0) (omega arith) (inl (space, refl, shortest_spelled space below))
+      (last_spelled tuple_key (grammar.Array is.0) tuple (omega arith) is.1)
 
   body_under : (wanted : ℕ) → value_under wanted 2 (body_pairs space tuple)
       ≡ later (if space_key == wanted then Some (shortest_unsigned space ++ tuple_pair tuple) else None) (if tuple_key == wanted then Some tuple else None)
   body_under wanted =
       let first = first_pair wanted 1 space_key (number_value space) (space_key ∷ []) (shortest_unsigned space) (tuple_pair tuple)
       (small space_key (omega arith)) (inl (space, refl, shortest_spelled space below)) in
-      let second = last_pair wanted tuple_key (grammar.Array is.values) (tuple_key ∷ []) tuple (small tuple_key (omega arith)) (roomier 63 (grammar.Array is.values) tuple is.spelled) in
+      let second = last_pair wanted tuple_key (grammar.Array is.0) (tuple_key ∷ []) tuple (small tuple_key (omega arith)) (roomier 63 (grammar.Array is.0) tuple is.1) in
       first ∙ ap (later (if space_key == wanted then Some (shortest_unsigned space ++ tuple_pair tuple) else None)) second
 
+whole_array : (bytes : List ℕ) (read : Result (Shown × ℕ) Bad) (array : ℕ × List ℕ) → array_shown (length bytes) read ≡ Some array
+    → tuple_shown bytes read ≡ Some bytes
+whole_array bytes (Err bad) array e = absurd cc
+whole_array bytes (Ok (ShownNil, size)) array e = absurd cc
+whole_array bytes (Ok (ShownBool truth, size)) array e = absurd cc
+whole_array bytes (Ok (ShownInt number, size)) array e = absurd cc
+whole_array bytes (Ok (ShownStr text, size)) array e = absurd cc
+whole_array bytes (Ok (ShownBin content, size)) array e = absurd cc
+whole_array bytes (Ok (ShownArray count items, size)) array e =
+    let whole = allowed (size == length bytes) (Some (count, items)) array e in
+    ap Some (take_all size bytes (omega (arith, eqb-true size (length bytes) whole.0)))
+whole_array bytes (Ok (ShownMap count pairs, size)) array e = absurd cc
+whole_array bytes (Ok (ShownOpaque spelling, size)) array e = absurd cc
+
 pub tuple_again : (tuple : List ℕ) → IsTuple tuple → tuple_at tuple ≡ Some tuple
-unfolding tuple_at
+unfolding tuple_at array_of
 tuple_again tuple is =
-    let size : measured tuple ≡ Ok (length tuple) =
-    ap measured (sym (append-nil tuple)) ∙ measured_again (grammar.Array is.values) tuple [] (roomier 63 (grammar.Array is.values) tuple is.spelled) in
-    ap (tuple_measured tuple) size ∙ cond-true (is_some (unsigned_at (items_in tuple))) _ _ is.numbered ∙ ap Some (take_all (length tuple) tuple (omega arith))
+    let (head, content, begins, few, parts, spelled) = roomier 63 (grammar.Array is.0) tuple is.1 in
+    whole_array tuple (reading_of tuple) (value_count is.0, content) (ap array_of parts ∙ array_read is.0 head content begins few spelled)
 
 space_again : (space : ℕ) (rest : List ℕ) → space < 2 ^ 32 → unsigned_32_at (shortest_unsigned space ++ rest) ≡ Some (space, rest)
 unfolding unsigned_32_at

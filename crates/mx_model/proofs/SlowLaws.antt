@@ -1,129 +1,182 @@
--- What the plain slow program finds among its rows is what the state after them holds.
-use Rattle.std.proofs.Common.{◌≡◌, ◌⊎◌, inl, inr, ℕ, Bool, true, false, pos, List, [], ◌∷◌, ◌++◌, cond, refl, sym, ap, ◌∙◌, append-nil, length, take, ◌<◌, ◌≤◌, eqb-true, eq-eqb, ne_eqb, true≢false, arith}
-use Rattle.std.specs.Prelude.{◌==◌, ◌&&◌, Result, Ok, Err, OnOk, Some, None, if◌then◌else◌}
+-- What the plain slow program finds and keeps is what the definitions say.
+use Rattle.std.proofs.Common.{◌≡◌, ◌⊎◌, inl, inr, ℕ, List, [], ◌∷◌, map, length, ◌<◌, ◌≤◌, sym, ap, ◌∙◌, subst}
+use Rattle.std.specs.Prelude.{Some, None, Result, Ok, Err, IfOk, MatchResult}
+use Rattle.std.specs.List.{filter}
 use Rattle.std.specs.Option.{option_to_list}
-use Rattle.std.specs.FinMap.{get, insert, get-empty}
-use Rattle.std.proofs.lemmas.Bool.{lt-ltb, le-ltb}
-use Rattle.std.proofs.lemmas.Bool.Decides.{nat_tests}
-use Rattle.mx_model.specs.Keys.{Integer, key_cmp, key_in, unsigned_in, items_in}
-use Rattle.mx_model.specs.State as state
-use Rattle.mx_model.specs.State.{State, test_space, first_state}
-use Rattle.mx_base.specs.declared.refusal.Refusal.TheVariants.{SpaceMissing, TupleTooLong}
+use Rattle.std.specs.FinMap.{get}
+use Rattle.mx_base.specs.declared.refusal.Refusal.{Refusal}
+use Rattle.mx_base.specs.declared.refusal.Refusal.TheVariants.{ResultTooLong, SpaceMissing, TupleTooLong}
+use Rattle.std.specs.BTreeMap.{insert_entry}
+use Rattle.std.specs.Ordering.{nat_cmp}
+use Rattle.std.specs.Cmp.Lexicographic.{slice_cmp}
+use Rattle.mx_key.specs.declared.fault.KeyFault.{KeyFault}
+use Rattle.mx_key.specs.declared.fault.KeyFault.TheVariants.{NoMemory as NoKeyMemory}
 use Rattle.mx_base.specs.declared.ids.SpaceId.{SpaceId}
 use Rattle.mx_base.specs.declared.ids.IndexId.{IndexId}
 use Rattle.mx_request.specs.declared.request.Request.{Request}
 use Rattle.mx_request.specs.declared.request.Request.TheVariants as request
+use Rattle.mx_key.specs.declared.edge.KeyRange.{KeyRange}
+use Rattle.mx_key.specs.declared.iterator.IterKind.{IterKind}
+use Rattle.mx_key.specs.Keys.{Key, AreFit}
+use Rattle.mx_key.specs.Parts.{given}
+use Rattle.mx_key.specs.Ranges.{range_of, descends}
+use Rattle.mx_key.specs.Comparable.{comparable_of, edges_of, holds}
+use Rattle.mx_key.proofs.RangeLaws.{range_holds}
 use Rattle.mx_model.specs.declared.reply.Reply.{Reply}
-use Rattle.mx_model.specs.declared.reply.Reply.TheVariants.{Tuples}
-use Rattle.mx_model.specs.Answers.{Row, Replaced, Answer, refused, not_built, selected, replaced, replacing, longest_tuple, begins_with_number, is_by_primary_key, in_space, looked_up, put_by, answer_to, state_after_row, state_after_rows}
-use Rattle.std.proofs.lemmas.List.{map_push, take_all}
-use Rattle.mx_model.specs.declared.slow.Stored.{Stored}
-use Rattle.mx_model.specs.Views.{row_view, rows_view}
-use Rattle.mx_model.specs.Slow.{HasKey, tuple_among, tuple_after}
-use Rattle.mx_model.proofs.StateLaws.{HasOneSpace, first_has_one_space, rows_keep_one_space, other_row_is_lost, get-first_state, get-state_after_row, get-insert_number}
-use Rattle.mx_model.proofs.HistoryLaws.{state_after_rows-append}
-use Rattle.mx_model.proofs.AnswerLaws.{space_is_there}
+use Rattle.mx_model.specs.declared.reply.Reply.TheVariants.{Tuples, Refused}
+use Rattle.mx_model.specs.declared.keying.Keyed.{Keyed}
+use Rattle.mx_model.specs.declared.selecting.SelectStop.{SelectStop}
+use Rattle.mx_model.specs.declared.selecting.SelectStop.TheVariants.{TooLong, NoMemory}
+use Rattle.mx_model.specs.declared.slow.Slow.{Slow}
+use Rattle.mx_model.specs.Stored.{Kept}
+use Rattle.mx_model.specs.State.{State, test_space, test_parts, key_in}
+use Rattle.mx_model.specs.Picks.{pick, entries_of, directed, window, total_bytes, longest_result}
+use Rattle.mx_model.specs.Answers.{Answer, Read, Replaced, answer_to, iterator_of, refused_after, space_read, schema_reads, in_space, selected, replaced, fault_refusal, longest_tuple, state_after_rows}
+use Rattle.mx_model.specs.Slow.{IsSlow, kept_list}
+use Rattle.mx_model.proofs.AnswerLaws as answers
+use Rattle.mx_model.proofs.HistoryLaws.{select_no_row}
+use Rattle.mx_model.proofs.PickLaws.{tuples_are_picked, fit_ends}
+use Rattle.mx_model.proofs.StateLaws.{HasOneSpace}
+use Rattle.mx_model.proofs.StoredLaws.{one_space, keeps_put}
 
-same_test : (a b : ℕ) → (a == b) ≡ (b == a)
-same_test a b = grind (arith, nat_tests)
+module _ (slow : Slow) (before : State) (is : IsSlow slow before) (space index limit offset : ℕ) (iterator : IterKind) (key : List ℕ)
+    (same : space ≡ test_space) (first : index ≡ 0) (fitting : Key) (gives : given slow.parts key ≡ Ok fitting) (fit : AreFit fitting)
+    (range : KeyRange) (reaches : range ≡ edges_of (range_of iterator fitting)) (kept : List Keyed) (lent : kept ≡ slow.kept.items) where
+  fits : given test_parts key ≡ Ok fitting
+  fits = ap (λ parts. given parts key) (sym is.parts) ∙ gives
 
-not_both : (a b c d : ℕ) → ((a ≡ b) × (c ≡ d) → ⊥) → ((a == b) && (c == d)) ≡ false
-not_both a b c d differ = grind (arith, nat_tests)
+  -- the tuples whose keys the range holds, in their window
+  abbrev found_by : KeyRange → List (List ℕ)
+  found_by edges = map (λ entry. entry.1) (window offset limit (directed (descends iterator) (filter (λ entry. holds edges entry.0) (kept_list slow.kept.items))))
 
--- the one space is there after any rows
-pub one_space : (rows : List Row) → HasOneSpace (state_after_rows first_state rows)
-one_space rows = rows_keep_one_space rows first_state first_has_one_space
+  abbrev lent_by : KeyRange → List (List ℕ)
+  lent_by edges = map (λ entry. entry.1) (window offset limit (directed (descends iterator) (filter (λ entry. holds edges entry.0) (kept_list kept))))
 
--- a new database has no tuple
-pub tuple_after-nil : (number : ℕ) → tuple_after [] number ≡ None
-tuple_after-nil number =
-    ap (λ found. tuple_among found (Integer (pos number) ∷ [])) (get-first_state test_space) ∙ get-empty key_cmp (Integer (pos number) ∷ [])
+  lent_is : lent_by range ≡ found_by range
+  lent_is = ap (λ l. map (λ (entry : Kept). entry.1) (window offset limit (directed (descends iterator) (filter (λ entry. holds range entry.0) (kept_list l))))) lent
 
-among_after_row : (now : State) (space : ℕ) (tuple : List ℕ) (held number : ℕ) (b : Bool) → (space == test_space) ≡ b
-    → key_in tuple ≡ Integer (pos held) ∷ [] → HasOneSpace now
-    → tuple_among (get (state_after_row now (Replaced space tuple)) test_space) (Integer (pos number) ∷ [])
-    ≡ (if b && (held == number) then Some tuple else tuple_among (get now test_space) (Integer (pos number) ∷ []))
-among_after_row now space tuple held number true same key has =
-    let key_of_number = Integer (pos number) ∷ [] in
-    ap (λ s. tuple_among (get (state_after_row now (Replaced s tuple)) test_space) key_of_number) (eqb-true space test_space same)
-    ∙ ap (λ found. tuple_among found key_of_number) (get-state_after_row now test_space tuple has.tuples test_space has.there)
-    ∙ ap (λ k. get (insert has.tuples k tuple) key_of_number) key
-    ∙ get-insert_number has.tuples held number tuple
-    ∙ ap (λ b. cond b (Some tuple) (get has.tuples key_of_number)) (same_test number held)
-    ∙ ap (λ found. cond (held == number) (Some tuple) (tuple_among found key_of_number)) (sym has.there)
-among_after_row now space tuple held number false other key has =
-    ap (λ s. tuple_among (get s test_space) (Integer (pos number) ∷ [])) (other_row_is_lost now space tuple other has)
+  found_is : found_by range ≡ (pick (entries_of is.keeps.tuples) iterator fitting offset limit).tuples
+  found_is =
+      ap found_by reaches
+      ∙ tuples_are_picked iterator fitting (λ sought f. range_holds (range_of iterator fitting) sought (fit_ends iterator fitting fit) f)
+      (entries_of is.keeps.tuples) is.keeps.fit (kept_list slow.kept.items) is.keeps.same offset limit
 
--- what one row more makes of what is found
-pub tuple_after-row : (rows : List Row) (space : ℕ) (tuple : List ℕ) (held number : ℕ) → key_in tuple ≡ Integer (pos held) ∷ []
-    → tuple_after (rows ++ Replaced space tuple ∷ []) number
-    ≡ (if (space == test_space) && (held == number) then Some tuple else tuple_after rows number)
-tuple_after-row rows space tuple held number key =
-    ap (λ s. tuple_among (get s test_space) (Integer (pos number) ∷ [])) (state_after_rows-append first_state rows (Replaced space tuple ∷ []))
-    ∙ among_after_row (state_after_rows first_state rows) space tuple held number (space == test_space) refl key (one_space rows)
+  abbrev select : Answer
+  select = in_space space (get before space) (selected space index limit offset iterator key)
 
--- the same of the rows as they are stored
-pub tuple_after-last : (rows earlier : List Stored) (last : Stored) (held number : ℕ) → rows ≡ earlier ++ last ∷ []
-    → key_in last.tuple ≡ Integer (pos held) ∷ []
-    → tuple_after (rows_view rows) number
-    ≡ (if (last.space == test_space) && (held == number) then Some last.tuple else tuple_after (rows_view earlier) number)
-tuple_after-last rows earlier last held number split key =
-    ap (λ stored. tuple_after (rows_view stored) number) split
-    ∙ ap (λ view. tuple_after view number) (map_push row_view earlier last)
-    ∙ tuple_after-row (rows_view earlier) last.space last.tuple held number key
+  pub slow_finds : (tuples : List (List ℕ)) → tuples ≡ lent_by range → total_bytes tuples ≤ longest_result → Tuples tuples ≡ select.reply
+  slow_finds tuples found short =
+      let picked = found ∙ lent_is ∙ found_is in
+      ap (λ t. Tuples t) picked
+      ∙ sym (ap (λ answer. answer.reply)
+      (answers.tuples_are_picked before (one_space (kept_list slow.kept.items) before is.keeps) space index limit offset iterator key same first fitting fits
+      (subst (λ t. total_bytes t ≤ longest_result) picked short)))
 
-module _ (rows earlier : List Stored) (last : Stored) (number : ℕ) (split : rows ≡ earlier ++ last ∷ []) where
-  -- the last row has the key
-  pub last_is_found : HasKey number (row_view last) → tuple_after (rows_view rows) number ≡ Some last.tuple
-  last_is_found has =
-      tuple_after-last rows earlier last number number split has.1
-      ∙ ap (λ b. cond (b && (number == number)) (Some last.tuple) (tuple_after (rows_view earlier) number)) (eq-eqb last.space test_space has.0)
-      ∙ ap (λ b. cond b (Some last.tuple) (tuple_after (rows_view earlier) number)) (eq-eqb number number refl)
+  pub slow_finds_too_much : longest_result < total_bytes (lent_by range) → Refused ResultTooLong ≡ select.reply
+  slow_finds_too_much above =
+      sym (ap (λ answer. answer.reply)
+      (answers.result_is_too_long before (one_space (kept_list slow.kept.items) before is.keeps) space index limit offset iterator key same first fitting fits
+      (subst (λ t. longest_result < total_bytes t) (lent_is ∙ found_is) above)))
 
-  -- it hasn't
-  pub last_is_passed : (HasKey number (row_view last) → ⊥) → tuple_after (rows_view rows) number ≡ tuple_after (rows_view earlier) number
-  last_is_passed other =
-      let held = unsigned_in (items_in last.tuple) in
-      let differ = λ (same : (last.space ≡ test_space) × (held ≡ number)). other (same.0, ap (λ n. Integer (pos n) ∷ []) same.1) in
-      tuple_after-last rows earlier last held number split refl
-      ∙ ap (λ b. cond b (Some last.tuple) (tuple_after (rows_view earlier) number)) (not_both last.space test_space held number differ)
+-- an answer that leaves no row leaves the program as it was
+pub keeps_without_row : (slow : Slow) (before : State) (answer : Answer) → IsSlow slow before → answer.row ≡ None
+    → IsSlow slow (state_after_rows before (option_to_list answer.row))
+keeps_without_row slow before answer is none = subst (λ row. IsSlow slow (state_after_rows before (option_to_list row))) (sym none) is
 
--- ---- what is answered after any rows
+-- the answer that was told, and what it leaves
+pub told_and_kept : (slow : Slow) (before : State) (reply : Reply) (answer : Answer) → IsSlow slow before → reply ≡ answer.reply → answer.row ≡ None
+    → (reply ≡ answer.reply) × IsSlow slow (state_after_rows before (option_to_list answer.row))
+told_and_kept slow before reply answer is told none = (told, keeps_without_row slow before answer is none)
 
--- the tuple of a key is looked for
-tuple_is_selected : (rows : List Row) (space limit number : ℕ) (key : List ℕ) → space ≡ test_space → key_in key ≡ Integer (pos number) ∷ []
-    → looked_up (state_after_rows first_state rows) space limit key ≡ selected limit (tuple_after rows number)
-tuple_is_selected rows space limit number key same is =
-    let has = one_space rows in
-    space_is_there (state_after_rows first_state rows) has space (λ tuples. selected limit (get tuples (key_in key))) same
-    ∙ ap (λ k. selected limit (get has.tuples k)) is
-    ∙ ap (λ found. selected limit (tuple_among found (Integer (pos number) ∷ []))) (sym has.there)
+-- a stop for too many bytes isn't one for want of memory
+pub stopped_too_long : {P : Type 0} (stop : SelectStop) → stop ≡ TooLong → ((stop ≡ TooLong) × P) ⊎ (stop ≡ NoMemory) → P
+stopped_too_long stop is (inl both) = both.1
+stopped_too_long stop is (inr none) = absurd cc
 
-module _ (rows : List Row) (space limit : ℕ) (key : List ℕ) (same : space ≡ test_space) where
-  -- nothing where the limit allows none
-  pub nothing_within_limit : limit ≡ 0 → (looked_up (state_after_rows first_state rows) space limit key).reply ≡ Tuples []
-  nothing_within_limit none =
-      ap (λ answer. answer.reply) (tuple_is_selected rows space limit (unsigned_in (items_in key)) key same refl)
-      ∙ ap (λ n. Tuples (take n (option_to_list (tuple_after rows (unsigned_in (items_in key)))))) none
+module _ (slow : Slow) (before : State) (is : IsSlow slow before) (space : ℕ) (tuple : List ℕ) where
+  abbrev put : Answer
+  put = in_space space (get before space) (λ _. replaced space tuple)
 
-  -- nothing where no tuple has the key
-  pub nothing_of_key : (number : ℕ) → key_in key ≡ Integer (pos number) ∷ [] → tuple_after rows number ≡ None
-      → (looked_up (state_after_rows first_state rows) space limit key).reply ≡ Tuples []
-  nothing_of_key number is absent =
-      ap (λ answer. answer.reply) (tuple_is_selected rows space limit number key same is)
-      ∙ ap (λ found. Tuples (take limit (option_to_list found))) absent
-      ∙ ap (λ tuples. Tuples tuples) (take_all limit [] (omega arith))
+  abbrev Told : Refusal → Type 0
+  Told refusal = (Refused refusal ≡ put.reply) × IsSlow slow (state_after_rows before (option_to_list put.row))
 
-  -- else the tuple
-  pub tuple_of_key : (number : ℕ) (tuple : List ℕ) → key_in key ≡ Integer (pos number) ∷ [] → 0 < limit → tuple_after rows number ≡ Some tuple
-      → (looked_up (state_after_rows first_state rows) space limit key).reply ≡ Tuples (tuple ∷ [])
-  tuple_of_key number tuple is room found =
-      ap (λ answer. answer.reply) (tuple_is_selected rows space limit number key same is)
-      ∙ ap (λ found. Tuples (take limit (option_to_list found))) found
-      ∙ ap (λ tuples. Tuples tuples) (take_all limit (tuple ∷ []) (omega arith))
+  abbrev has : HasOneSpace before
+  has = one_space (kept_list slow.kept.items) before is.keeps
 
--- an end that is as before, whatever was told
-pub told_without_row : {E : Type 0} (result : Result Reply E) (rows : List Row) (answer : Answer) → answer.row ≡ None
-    → OnOk result (rows ≡ rows ++ option_to_list answer.row)
-told_without_row (Ok reply) rows answer none = sym (append-nil rows) ∙ sym (ap (λ row. rows ++ option_to_list row) none)
-told_without_row (Err fault) rows answer none = tt
+  told : (refusal : Refusal) (reads : List Read) → put ≡ refused_after reads refusal → Told refusal
+  told refusal reads answer =
+      told_and_kept slow before (Refused refusal) put is (sym (ap (λ a. a.reply) answer)) (ap (λ a. a.row) answer)
+
+  pub slow_misses : (space ≡ test_space → ⊥) → Told (SpaceMissing (record { 0 = space }))
+  slow_misses other =
+      told (SpaceMissing (record { 0 = space })) (space_read space ∷ []) (answers.space_is_missing before has space (λ _. replaced space tuple) other)
+
+  module _ (same : space ≡ test_space) where
+    pub slow_refuses_length : longest_tuple < length tuple → Told (TupleTooLong (length tuple))
+    slow_refuses_length above = told (TupleTooLong (length tuple)) (schema_reads space) (answers.tuple_is_too_long before has space tuple same above)
+
+    module _ (short : length tuple ≤ longest_tuple) where
+      pub slow_refuses_fault : (fault : KeyFault) (refusal : Refusal) → refusal ≡ fault_refusal fault
+          → (key_in test_parts tuple ≡ Err fault) ⊎ (fault ≡ NoKeyMemory) → (fault ≡ NoKeyMemory → ⊥) → Told refusal
+      slow_refuses_fault fault refusal is (inl keyed) other =
+          subst Told (sym is) (told (fault_refusal fault) (schema_reads space) (answers.tuple_has_no_key before has space tuple same short fault keyed))
+      slow_refuses_fault fault refusal is (inr none) other = absurd (other none)
+
+      pub slow_replaces : (new : Slow) (key : Key) (bytes copy shown : List ℕ) (tuples : List (List ℕ)) → key_in test_parts tuple ≡ Ok key → AreFit key
+          → bytes ≡ comparable_of key → copy ≡ tuple → shown ≡ tuple → tuples ≡ shown ∷ [] → new.parts ≡ slow.parts
+          → kept_list new.kept.items ≡ insert_entry (slice_cmp nat_cmp) (kept_list slow.kept.items) bytes copy
+          → (Tuples tuples ≡ put.reply) × IsSlow new (state_after_rows before (option_to_list put.row))
+      slow_replaces new key bytes copy shown tuples keyed fit coded copied seen one parts kept =
+          let answer = answers.tuple_is_replaced before has space tuple same short key keyed in
+          let all = one ∙ ap (λ t. t ∷ []) seen in (
+            ap (λ t. Tuples t) all ∙ sym (ap (λ a. a.reply) answer),
+            subst (λ row. IsSlow new (state_after_rows before (option_to_list row))) (sym (ap (λ a. a.row) answer ∙ ap (λ s. Some (Replaced s tuple)) same))
+                record {
+                  parts = parts ∙ is.parts;
+                  keeps = keeps_put (kept_list slow.kept.items) (kept_list new.kept.items) before key bytes tuple is.keeps keyed fit coded
+                      (kept ∙ ap (insert_entry (slice_cmp nat_cmp) (kept_list slow.kept.items) bytes) copied);
+                },
+          )
+
+-- a request whose answer leaves no row
+pub slow_is_told : (slow : Slow) (before : State) → IsSlow slow before → (asked : Request) (answer : Answer) (reply : Reply) → answer_to before asked ≡ answer
+    → reply ≡ answer.reply → answer.row ≡ None
+    → (reply ≡ (answer_to before asked).reply) × IsSlow slow (state_after_rows before (option_to_list (answer_to before asked).row))
+slow_is_told slow before is asked answer reply gives tells none =
+    told_and_kept slow before reply (answer_to before asked) is (tells ∙ sym (ap (λ a. a.reply) gives)) (ap (λ a. a.row) gives ∙ none)
+
+-- a SELECT
+pub slow_selects : {E : Type 0} (slow : Slow) (before : State) → IsSlow slow before → (asked : Request) (space : SpaceId) (index : IndexId) (limit offset iterator : ℕ)
+    (key sought : List ℕ) (kind : IterKind) → asked ≡ request.Select space index limit offset iterator key → sought ≡ key → kind ≡ iterator_of iterator
+    → (result : Result Reply E)
+    → IfOk result (λ reply. reply ≡ (in_space space.0 (get before space.0) (selected space.0 index.0 limit offset kind sought)).reply)
+    → MatchResult result (λ reply. (reply ≡ (answer_to before asked).reply) × IsSlow slow (state_after_rows before (option_to_list (answer_to before asked).row)))
+    (λ _. IsSlow slow before)
+slow_selects slow before is asked space index limit offset iterator key sought kind same sought_is kind_is result tells =
+    let answer : answer_to before asked ≡ in_space space.0 (get before space.0) (selected space.0 index.0 limit offset kind sought) =
+    ap (answer_to before) same
+    ∙ ap (λ k. in_space space.0 (get before space.0) (selected space.0 index.0 limit offset k key)) (sym kind_is)
+    ∙ ap (λ k. in_space space.0 (get before space.0) (selected space.0 index.0 limit offset kind k)) (sym sought_is) in
+    at_end result answer tells
+  where
+    at_end : {E : Type 0} (result : Result Reply E)
+        → answer_to before asked ≡ in_space space.0 (get before space.0) (selected space.0 index.0 limit offset kind sought)
+        → IfOk result (λ reply. reply ≡ (in_space space.0 (get before space.0) (selected space.0 index.0 limit offset kind sought)).reply)
+        → MatchResult result (λ reply. (reply ≡ (answer_to before asked).reply) × IsSlow slow (state_after_rows before (option_to_list (answer_to before asked).row)))
+        (λ _. IsSlow slow before)
+    at_end (Ok reply) answer tells =
+        slow_is_told slow before is asked _ reply answer tells (select_no_row space.0 index.0 limit offset kind sought (get before space.0))
+    at_end (Err fault) answer tells = is
+
+-- a REPLACE
+pub slow_asked : {E : Type 0} (old new : Slow) (before : State) (asked : Request) (space : SpaceId) (tuple shown : List ℕ) → asked ≡ request.Replace space tuple
+    → shown ≡ tuple → (result : Result Reply E)
+    → MatchResult result
+    (λ reply. (reply ≡ (in_space space.0 (get before space.0) (λ _. replaced space.0 shown)).reply)
+    × IsSlow new (state_after_rows before (option_to_list (in_space space.0 (get before space.0) (λ _. replaced space.0 shown)).row)))
+    (λ _. IsSlow new before)
+    → MatchResult result (λ reply. (reply ≡ (answer_to before asked).reply) × IsSlow new (state_after_rows before (option_to_list (answer_to before asked).row)))
+    (λ _. IsSlow new before)
+slow_asked old new before asked space tuple shown same shown_is result tells =
+    subst (λ answer. MatchResult result (λ reply. (reply ≡ answer.reply) × IsSlow new (state_after_rows before (option_to_list answer.row))) (λ _. IsSlow new before))
+    (ap (λ t. in_space space.0 (get before space.0) (λ _. replaced space.0 t)) shown_is ∙ sym (ap (answer_to before) same)) tells

@@ -1,48 +1,58 @@
--- A state in memory and the state that it stands for.
-use Rattle.std.proofs.Common.{◌≡◌, ℕ, pos, cond, List, [], ◌∷◌, sym, ap, ◌∙◌}
-use Rattle.std.specs.Prelude.{◌==◌, Some, None, if◌then◌else◌}
+-- What is kept in memory and the state that it stands for.
+use Rattle.std.proofs.Common.{◌≡◌, ℕ, cond, List, [], map, sym, ap, ◌∙◌, subst}
+use Rattle.std.specs.Prelude.{Some, None, Ok}
+use Rattle.std.specs.List.{AllByRecursion}
+use Rattle.std.specs.BTreeMap.{insert_entry}
 use Rattle.std.specs.Ordering.{nat_cmp}
-use Rattle.std.specs.BTreeMap as tree
-use Rattle.std.specs.FinMap as map
-use Rattle.std.specs.Map.{lookup}
-use Rattle.mx_model.specs.Keys.{Integer, key_cmp, key_in}
-use Rattle.mx_model.specs.State.{State, test_space, first_state}
+use Rattle.std.specs.Cmp.Lexicographic.{slice_cmp}
+use Rattle.std.specs.FinMap as finite
+use Rattle.std.proofs.lemmas.List.{nil_from_length}
+use Rattle.std.specs.FinMap.Entries.{put}
+use Rattle.mx_key.specs.Keys.{Key, AreFit, key_cmp}
+use Rattle.mx_key.specs.Comparable.{comparable_of}
+use Rattle.mx_key.proofs.KeyLaws.{key_cmp_total}
+use Rattle.mx_key.proofs.EncodingLaws.{bytes_order}
+use Rattle.mx_model.specs.State.{State, test_space, test_parts, first_state, key_in, key_or_none}
+use Rattle.mx_model.specs.Picks.{Indexed, entries_of}
 use Rattle.mx_model.specs.Answers.{Replaced, state_after_row}
-use Rattle.mx_model.specs.declared.state.State as coded
-use Rattle.mx_model.specs.Stored.{stored, Holds}
-use Rattle.mx_model.proofs.StateLaws.{get-first_state, get-state_after_row, get-insert_number}
+use Rattle.mx_model.specs.Stored.{Kept, kept_of, KeepsTuples}
+use Rattle.mx_model.proofs.StateLaws.{HasOneSpace, get-first_state, get-state_after_row}
+use Rattle.mx_model.proofs.PickLaws.{kept_with, fit_with}
 
--- memory without tuples has the first state
-pub holds_first : (memory : coded.State) → tree.IsEmpty memory.tuples → Holds memory first_state
-holds_first memory none = record {
-  tuples = map.empty;
-  test = get-first_state test_space;
-  others = λ space other. get-first_state space ∙ ap (λ b. cond b (Some map.empty) None) other;
-  same = λ key. map.get-empty key_cmp (Integer (pos key) ∷ []) ∙ ap (λ (es : List (ℕ × List ℕ)). lookup (tree.is_at (nat_cmp key)) es) (sym none);
+no_entries : entries_of finite.empty ≡ []
+no_entries = nil_from_length _ (sym (finite.len-entries finite.empty) ∙ finite.len-empty key_cmp (List ℕ))
+
+-- nothing is kept of the first state
+pub keeps_first : (kept : List Kept) → kept ≡ [] → KeepsTuples kept first_state
+keeps_first kept none = record {
+  tuples = finite.empty;
+  there = get-first_state test_space;
+  others = λ space other. get-first_state space ∙ ap (λ b. cond b (Some finite.empty) None) other;
+  same = ap (map kept_of) no_entries ∙ sym none;
+  fit = subst (AllByRecursion (λ (entry : Indexed). AreFit entry.0)) (sym no_entries) tt;
 }
 
--- memory in which the same is found has the same state
-pub holds_same : (old new : coded.State) (before : State) → Holds old before → ((key : ℕ) → stored new key ≡ stored old key) → Holds new before
-holds_same old new before holds same = record {
-  tuples = holds.tuples;
-  test = holds.test;
-  others = holds.others;
-  same = λ key. holds.same key ∙ sym (same key);
-}
+-- a tuple more is kept under its key
+pub keeps_put : (kept after : List Kept) (before : State) (key : Key) (bytes tuple : List ℕ) → KeepsTuples kept before → key_in test_parts tuple ≡ Ok key
+    → AreFit key → bytes ≡ comparable_of key → after ≡ insert_entry (slice_cmp nat_cmp) kept bytes tuple
+    → KeepsTuples after (state_after_row before (Replaced test_space tuple))
+keeps_put kept after before key bytes tuple keeps keyed fit is put_in =
+    let all = entries_of keeps.tuples in
+    let new : entries_of (finite.insert keeps.tuples (key_or_none (key_in test_parts tuple)) tuple) ≡ put key_cmp key tuple all =
+    ap (λ k. entries_of (finite.insert keeps.tuples (key_or_none k) tuple)) keyed ∙ finite.entries-insert key_cmp_total keeps.tuples key tuple in
+    record {
+      tuples = finite.insert keeps.tuples (key_or_none (key_in test_parts tuple)) tuple;
+      there = get-state_after_row before test_space tuple keeps.tuples test_space keeps.there;
+      others = λ space other.
+          get-state_after_row before test_space tuple keeps.tuples space keeps.there
+          ∙ ap (λ b. cond b (Some (finite.insert keeps.tuples (key_or_none (key_in test_parts tuple)) tuple)) (finite.get before space)) other
+          ∙ keeps.others space other;
+      same = ap (map kept_of) new ∙ sym (kept_with bytes_order key tuple fit all keeps.fit)
+          ∙ ap (λ es. insert_entry (slice_cmp nat_cmp) es (comparable_of key) tuple) keeps.same
+          ∙ ap (λ k. insert_entry (slice_cmp nat_cmp) kept k tuple) (sym is) ∙ sym put_in;
+      fit = subst (AllByRecursion (λ (entry : Indexed). AreFit entry.0)) (sym new) (fit_with key tuple fit all keeps.fit);
+    }
 
--- memory in which one tuple more is found, under its key, has the state after it
-pub holds_replaced : (old new : coded.State) (before : State) (key : ℕ) (tuple : List ℕ) → Holds old before → key_in tuple ≡ Integer (pos key) ∷ []
-    → ((other : ℕ) → stored new other ≡ (if other == key then Some tuple else stored old other)) → Holds new (state_after_row before (Replaced test_space tuple))
-holds_replaced old new before key tuple holds keyed same = record {
-  tuples = map.insert holds.tuples (key_in tuple) tuple;
-  test = get-state_after_row before test_space tuple holds.tuples test_space holds.test;
-  others = λ space other.
-      get-state_after_row before test_space tuple holds.tuples space holds.test
-      ∙ ap (λ b. cond b (Some (map.insert holds.tuples (key_in tuple) tuple)) (map.get before space)) other
-      ∙ holds.others space other;
-  same = λ other.
-      ap (λ k. map.get (map.insert holds.tuples k tuple) (Integer (pos other) ∷ [])) keyed
-      ∙ get-insert_number holds.tuples key other tuple
-      ∙ ap (λ o. cond (other == key) (Some tuple) o) (holds.same other)
-      ∙ sym (same other);
-}
+-- the one space is there, and no other
+abbrev pub one_space : (kept : List Kept) (before : State) → KeepsTuples kept before → HasOneSpace before
+one_space kept before keeps = record { tuples = keeps.tuples; there = keeps.there; others = keeps.others }

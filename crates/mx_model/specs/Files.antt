@@ -1,5 +1,5 @@
 -- What the journals of a directory stand for, or what is damaged in them.
-use Rattle.std.specs.Prelude.{◌≡◌, ◌⊎◌, ⊤, ℕ, zero, suc, ◌+◌, ◌/◌, ◌%◌, Bool, true, false, not, ◌&&◌, ◌||◌, List, [], ◌∷◌, ◌++◌, length, take, drop, map, sum, replicate, slice_index, Option, Some, None, Result, Ok, Err, codes, nat_eq, nat_le, ◌==◌, IfSome, if◌then◌else◌}
+use Rattle.std.specs.Prelude.{◌≡◌, ◌⊎◌, ⊤, ℕ, zero, suc, ◌+◌, ◌/◌, ◌%◌, Bool, true, false, not, ◌&&◌, ◌||◌, List, [], ◌∷◌, ◌++◌, length, take, drop, map, sum, replicate, slice_index, Option, Some, None, Result, Ok, Err, is_ok, codes, nat_eq, nat_le, ◌==◌, IfSome, if◌then◌else◌}
 use Rattle.std.specs.List.{filter, list_all, last_or, AllByRecursion}
 use Rattle.std.specs.Cmp.Lexicographic.{pointwise}
 use Rattle.std.specs.FinMap as finite
@@ -12,10 +12,10 @@ use Rattle.mx_outside.specs.Disks.{File, Files}
 use Rattle.mx_model.specs.declared.ids.Ids.{Ids}
 use Rattle.mx_model.specs.declared.damage.Damage.{Damage}
 use Rattle.mx_model.specs.declared.damage.DamageKind.TheVariants.{Head as HeadDamage, Gap, Row as RowDamage}
-use Rattle.mx_model.specs.State.{State, first_state}
+use Rattle.mx_model.specs.State.{State, first_state, test_parts, key_in}
 use Rattle.mx_model.specs.declared.row.Row.{Row}
 use Rattle.mx_model.specs.declared.row.Row.TheVariants.{Replaced}
-use Rattle.mx_model.specs.Answers.{state_after_rows}
+use Rattle.mx_model.specs.Answers.{state_after_rows, longest_tuple}
 use Rattle.mx_model.specs.declared.tx.Tx.{Tx}
 use Rattle.mx_model.specs.Transactions.{last_lsn, clock_after_one}
 use Rattle.mx_model.specs.Rows.{IsTransaction, transactions_in}
@@ -98,9 +98,10 @@ ids_or ids (Some found) = found
 abbrev pub head_fits : List ℕ → Head → Reached → Bool
 head_fits name head reached = not head.snapshot && same_bytes name (journal_name (sum head.clock)) && are_its_ids reached.ids head
 
--- the state takes the row: its space is there
+-- the state takes the row: its space is there, and the tuple isn't too long and has a primary key
 abbrev pub takes_row : State → Row → Bool
-takes_row state (Replaced space tuple) = finite.contains_key state space
+takes_row state (Replaced space tuple) =
+    finite.contains_key state space && nat_le (length tuple) longest_tuple && is_ok (key_in test_parts tuple)
 
 -- the state takes the rows, each after those before it
 abbrev pub takes_rows : State → List Row → Bool

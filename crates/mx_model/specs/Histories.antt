@@ -16,7 +16,7 @@ use Rattle.mx_model.specs.declared.tx.Tx.{Tx}
 use Rattle.mx_model.specs.State.{State}
 use Rattle.mx_model.specs.declared.reply.Reply.{Reply}
 use Rattle.mx_model.specs.declared.reply.Reply.TheVariants.{Empty, Tuples, Id, Refused}
-use Rattle.mx_model.specs.Answers.{Answer, answer_to, refused}
+use Rattle.mx_model.specs.Answers.{Answer, answer_to, refused, refused_after}
 use Rattle.mx_model.specs.Transactions.{state_after, clock_after}
 
 -- what a database was when it was opened: its state, its vclock, and who it is
@@ -80,7 +80,7 @@ is_write (request.Ack clock) = false
 -- an answer that leaves a row needs an lsn for it
 abbrev pub numbered : (lsn : ℕ) → Answer → Option Row → Answer
 numbered lsn answer None = answer
-numbered lsn answer (Some row) = if nat_lt most_lsn lsn then refused LsnsUsedUp else answer
+numbered lsn answer (Some row) = if nat_lt most_lsn lsn then refused_after answer.reads LsnsUsedUp else answer
 
 -- the statement's answer on a node with these identifiers, whose next lsn is this one
 abbrev pub node_answer : Ids → State → (lsn : ℕ) → Request → Answer

@@ -1,11 +1,11 @@
-pub mod Keys
 pub mod State
+pub mod Picks
 pub mod Answers
 pub mod Transactions
 pub mod Rows
 pub mod Files
 pub mod Stored
+pub mod Selecting
 pub mod Histories
 pub mod ReplyStream
-pub mod Views
 pub mod Slow

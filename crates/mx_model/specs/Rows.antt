@@ -1,11 +1,10 @@
 -- The rows of a journal: for each a header map and a body map of MessagePack (Tarantool's xlog rows).
-use Rattle.std.specs.Prelude.{◌≡◌, ℕ, zero, suc, ◌≤◌, ◌<◌, ◌^◌, Bool, true, false, ◌&&◌, List, [], ◌∷◌, ◌++◌, length, take, drop, Option, Some, None, Result, Ok, Err, is_some, nat_lt, nat_le, ◌==◌, if◌then◌else◌}
+use Rattle.std.specs.Prelude.{◌≡◌, ℕ, zero, suc, ◌≤◌, ◌<◌, ◌^◌, Bool, true, false, ◌&&◌, List, [], ◌∷◌, ◌++◌, length, take, drop, Option, Some, None, Result, Ok, Err, nat_lt, nat_le, ◌==◌, if◌then◌else◌}
 use Rattle.mx_msgpack.specs.declared.bad.Bad.{Bad}
 use Rattle.mx_msgpack.specs.Grammar.{Array, Values, Spells}
 use Rattle.mx_msgpack.specs.Reading.{Shown, ShownNil, ShownBool, ShownInt, ShownStr, ShownBin, ShownArray, ShownMap, ShownOpaque, reading_of, measured}
 use Rattle.mx_msgpack.specs.Readers.{Reader, ◌>>=◌, all_from, unsigned_at, unsigned_32_at}
 use Rattle.mx_msgpack.specs.Spelling.{shortest_unsigned}
-use Rattle.mx_model.specs.Keys.{items_in}
 use Rattle.mx_model.specs.declared.row.Row.{Row}
 use Rattle.mx_model.specs.declared.row.Row.TheVariants.{Replaced}
 use Rattle.mx_model.specs.declared.tx.Tx.{Tx}
@@ -56,11 +55,9 @@ rows_text replica lsn (row ∷ rows) = row_text replica lsn row ++ rows_text rep
 abbrev pub transaction_text : Tx → List ℕ
 transaction_text transaction = rows_text transaction.replica transaction.first transaction.rows
 
--- The tuple is an array whose first field is a number of 0 or more, and it fits into a body.
-pub record IsTuple (tuple : List ℕ) : Type 0 where
-  pub values : Values
-  pub spelled : Spells 63 (Array values) tuple
-  pub numbered : is_some (unsigned_at (items_in tuple)) ≡ true
+-- the tuple is an array
+abbrev pub IsTuple : List ℕ → Type 0
+IsTuple tuple = (values : Values) × Spells 63 (Array values) tuple
 
 abbrev pub IsRow : Row → Type 0
 IsRow (Replaced space tuple) = (space < 2 ^ 32) × IsTuple tuple × (length (body_text (Replaced space tuple)) ≤ longest_body)
@@ -134,14 +131,21 @@ stands_alone (Some value) header = is_zero (number_under number_key header) && i
 abbrev pub only_alone : ℕ × List ℕ → Option (ℕ × List ℕ)
 only_alone header = if stands_alone (value_under number_key header.0 header.1) header then Some header else None
 
--- a value of so many bytes that is a tuple, without what follows it
-abbrev pub tuple_measured : List ℕ → Result ℕ Bad → Option (List ℕ)
-tuple_measured bytes (Err bad) = None
-tuple_measured bytes (Ok size) = if is_some (unsigned_at (items_in bytes)) then Some (take size bytes) else None
+-- a value of so many bytes that is an array, without what follows it
+abbrev pub tuple_shown : List ℕ → Result (Shown × ℕ) Bad → Option (List ℕ)
+tuple_shown bytes (Err bad) = None
+tuple_shown bytes (Ok (ShownNil, size)) = None
+tuple_shown bytes (Ok (ShownBool truth, size)) = None
+tuple_shown bytes (Ok (ShownInt number, size)) = None
+tuple_shown bytes (Ok (ShownStr text, size)) = None
+tuple_shown bytes (Ok (ShownBin content, size)) = None
+tuple_shown bytes (Ok (ShownArray count items, size)) = Some (take size bytes)
+tuple_shown bytes (Ok (ShownMap count pairs, size)) = None
+tuple_shown bytes (Ok (ShownOpaque spelling, size)) = None
 
 -- the tuple that stands first
 unfoldable pub tuple_at : List ℕ → Option (List ℕ)
-tuple_at bytes = tuple_measured bytes (measured bytes)
+tuple_at bytes = tuple_shown bytes (reading_of bytes)
 
 abbrev pub short_enough : Row → Option Row
 short_enough row = if nat_le (length (body_text row)) longest_body then Some row else None

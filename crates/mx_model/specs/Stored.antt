@@ -1,19 +1,28 @@
--- What a state in memory stands for.
-use Rattle.std.specs.Prelude.{◌≡◌, ℕ, pos, false, ◌==◌, List, [], ◌∷◌, Option, Some, None}
-use Rattle.std.specs.Ordering.{nat_cmp}
-use Rattle.std.specs.BTreeMap as tree
-use Rattle.std.specs.FinMap as map
+-- What a state in memory stands for: each tuple is kept under the comparable bytes of its primary key.
+use Rattle.std.specs.Prelude.{◌≡◌, ℕ, false, ◌==◌, List, map, Some, None}
+use Rattle.std.specs.List.{AllByRecursion}
+use Rattle.std.specs.FinMap as finite
+use Rattle.mx_key.specs.Keys.{AreFit}
+use Rattle.mx_key.specs.Comparable.{comparable_of}
 use Rattle.mx_model.specs.declared.state.State as coded
-use Rattle.mx_model.specs.Keys.{Integer}
-use Rattle.mx_model.specs.State.{State, Tuples, test_space}
+use Rattle.mx_model.specs.State.{State, Tuples, test_space, test_parts}
+use Rattle.mx_model.specs.Picks.{Indexed, entries_of}
 
--- the tuple of a key of one number
-abbrev pub stored : coded.State → ℕ → Option (List ℕ)
-stored memory key = tree.get nat_cmp memory.tuples key
+-- a tuple under its key's bytes
+abbrev pub Kept : Type 0
+Kept = List ℕ × List ℕ
 
--- the memory has the tuples of the one space, and there is no other
-pub record Holds (memory : coded.State) (state : State) : Type 0 where
+abbrev pub kept_of : Indexed → Kept
+kept_of entry = (comparable_of entry.0, entry.1)
+
+-- the memory keeps the tuples of the one space in the order of their keys, whose numbers have 64 bits; there is no other space
+pub record KeepsTuples (kept : List Kept) (state : State) : Type 0 where
   pub tuples : Tuples
-  pub test : map.get state test_space ≡ Some tuples
-  pub others : (space : ℕ) → (space == test_space) ≡ false → map.get state space ≡ None
-  pub same : (key : ℕ) → map.get tuples (Integer (pos key) ∷ []) ≡ stored memory key
+  pub there : finite.get state test_space ≡ Some tuples
+  pub others : (space : ℕ) → (space == test_space) ≡ false → finite.get state space ≡ None
+  pub same : map kept_of (entries_of tuples) ≡ kept
+  pub fit : AllByRecursion (λ (entry : Indexed). AreFit entry.0) (entries_of tuples)
+
+pub record Holds (memory : coded.State) (state : State) : Type 0 where
+  pub parts : memory.parts ≡ test_parts
+  pub keeps : KeepsTuples memory.tuples.entries state

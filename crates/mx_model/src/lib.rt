@@ -3,29 +3,35 @@
 
 mod damage;
 mod ids;
-mod keys;
+mod judging;
+mod keying;
 mod laws;
 mod reply;
 mod row;
 mod rows;
+mod selecting;
 mod slow;
 mod state;
-mod supported;
 mod tx;
 mod txs;
 
 pub use damage::{Damage, DamageKind};
 pub use ids::Ids;
-pub use keys::{items_in, key_of, unsigned_in};
+pub use judging::{
+    LONGEST_TUPLE, TEST_SPACE, fault_refusal, index_missing, iterator_of, misfit_refusal, not_built,
+};
+pub use keying::Keyed;
 pub use laws::{a_directory_stands_once, commits_are_sound, replies_are_determined};
 pub use reply::Reply;
 pub use row::Row;
 pub use rows::Rows;
-pub use slow::{Slow, TEST_SPACE};
+pub use selecting::{Pick, SelectStop, Selected};
+pub use slow::Slow;
 pub use state::{State, bootstrap};
-pub use supported::{LONGEST_TUPLE, begins_with_number, is_by_primary_key, not_built};
 pub use tx::Tx;
 pub use txs::Txs;
 
+#[cfg(test)]
+mod long_tests;
 #[cfg(test)]
 mod tests;

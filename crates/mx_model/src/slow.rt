@@ -1,74 +1,71 @@
-//! The plain slow program: it keeps the journal's rows, and looks through them.
+//! The plain slow program: it keeps its tuples in one list, and looks through all of it.
 
-ghost use Rattle.std.specs.Prelude.{◌≡◌, [], ◌++◌, length, IfOk, OnOk, OnErr, IsTrue, ◌↔◌};
-ghost use Rattle.std.specs.Option.{option_map, option_to_list};
+ghost use Rattle.std.specs.Prelude.{◌≡◌, ◌≢◌, ◌⊎◌, ◌<◌, ◌≤◌, ◌∷◌, [], Ok, true, false, map, take, length, IfOk, IfSome, OnOk, OnErr, MatchOption, MatchResult};
+ghost use Rattle.std.specs.List.{All, filter, slice_get, sum_by};
+ghost use Rattle.std.specs.Option.{option_to_list};
+ghost use Rattle.std.specs.BTreeMap.{insert_entry};
+ghost use Rattle.std.specs.FinMap.{get};
+ghost use Rattle.std.specs.Ordering.{nat_cmp, is_gt, is_lt};
+ghost use Rattle.std.specs.Cmp.Lexicographic.{slice_cmp};
+ghost use Rattle.mx_key.specs.declared.fault.KeyFault.TheVariants.{NoMemory as NoKeyMemory};
+ghost use Rattle.mx_key.specs.Comparable.{holds};
+ghost use Rattle.mx_key.specs.Ranges.{descends};
+ghost use Rattle.mx_model.specs.declared.selecting.SelectStop.TheVariants.{TooLong, NoMemory};
+ghost use Rattle.mx_model.specs.Answers.{answer_to, fault_refusal, in_space, selected, replaced, state_after_rows};
+ghost use Rattle.mx_model.specs.Picks.{directed, window, total_bytes, longest_result};
+ghost use Rattle.mx_model.specs.Slow.{IsSlow, kept_list, kept_view};
+ghost use Rattle.mx_model.specs.State as plain;
 ghost use Rattle.mx_model.specs.State.{first_state};
-ghost use Rattle.mx_model.specs.Answers.{answer_to, looked_up, put_by, state_after_rows};
-ghost use Rattle.mx_model.specs.Views.{row_view, rows_view};
-ghost use Rattle.mx_model.specs.Slow.{HasKey, tuple_after};
 
-use crate::keys::key_of;
+use crate::judging::{
+    LONGEST_TUPLE, TEST_SPACE, fault_refusal, index_missing, iterator_of, misfit_refusal, not_built,
+};
+use crate::keying::{Keyed, key_tuple};
 use crate::reply::Reply;
-use crate::supported::{LONGEST_TUPLE, begins_with_number, is_by_primary_key, not_built};
-use mx_base::{Refusal, SpaceId, TxnName};
+use crate::selecting::{LONGEST_RESULT, Pick, SelectStop};
+use mx_base::{IndexId, Refusal, SpaceId, TxnName};
+use mx_key::{KeyDef, KeyFault, KeyRange, Part, PartKind, misfit, range};
 use mx_msgpack::{Bytes, Tuples};
 use mx_request::Request;
 use std::alloc::{AllocError, Global};
-use std::marker::Model;
 
-/// The number of the one space there is.
-pub const TEST_SPACE: u32 = 512;
-
-/// A row as it stands in the journal.
-#[derive(Debug, Drop)]
-struct Stored {
-    space: u32,
-    tuple: Bytes,
-}
-
-impl Stored {
-    /// Whether the row is of the one space and its tuple has this key.
-    fn has_key(&self, key: u64) -> bool
-        ensures { IsTrue result ↔ HasKey key (row_view self.now) }
-    {
-        self.space == TEST_SPACE && key_of(self.tuple.as_slice()) == key
-    }
-}
-
-/// A database that is its journal, and answers by what the rows say together.
+/// A database that keeps its tuples in one list, by their keys.
 #[derive(Debug, Drop)]
 pub struct Slow {
-    rows: Vec<Stored>,
-}
-
-impl Model for Slow {
-    ghost use Rattle.std.specs.Prelude.{List};
-    ghost use Rattle.mx_model.specs.Answers.{Row};
-    ghost use Rattle.mx_model.specs.Views.{rows_view};
-
-    ghost Value = { List Row };
-
-    ghost view = { λ s. rows_view s.rows.items };
+    alloc: Global,
+    parts: KeyDef,
+    kept: Vec<Keyed>,
 }
 
 impl Slow {
     /// A new database.
-    pub fn new(alloc: Global) -> Slow
-        ensures { result ≡ [] }
-    {
-        Slow {
-            rows: Vec::new(alloc),
-        }
-    }
-
-    /// Answers a request, whoever asks.
     ///
     /// # Errors
-    /// Memory ran out. The rows are then as they were.
+    /// Memory ran out.
+    pub fn new(alloc: Global) -> Result<Slow, AllocError>
+        ensures { IfOk result (λ slow. IsSlow slow first_state) }
+    {
+        let mut parts = KeyDef::new(alloc);
+        parts.push(Part {
+            field: 0,
+            kind: PartKind::Unsigned,
+        })?;
+        Ok(Slow {
+            alloc,
+            parts,
+            kept: Vec::new(alloc),
+        })
+    }
+
+    /// Answers a request.
+    ///
+    /// # Errors
+    /// Memory ran out. The database is then as it was.
     pub fn ask(&mut self, _name: TxnName, request: &Request) -> Result<Reply, AllocError>
-        ensures reply { IfOk result (λ reply. reply ≡ (answer_to (state_after_rows first_state self.old) request.now).reply) }
-        ensures rows { OnOk result (self.new ≡ self.old ++ option_to_list (answer_to (state_after_rows first_state self.old) request.now).row) }
-        ensures err { OnErr result (self.new ≡ self.old) }
+        ensures { (state : plain.State) → IsSlow self.old state → MatchResult result
+            (λ reply. (reply ≡ (answer_to state request.now).reply)
+            × IsSlow self.new (state_after_rows state (option_to_list (answer_to state request.now).row)))
+            (λ _. IsSlow self.new state) }
     {
         match request {
             Request::Select {
@@ -79,14 +76,15 @@ impl Slow {
                 iterator,
                 key,
             } => {
-                let key = key.as_slice();
-                let by_key = is_by_primary_key(*index, *offset, *iterator, key);
-                if space.0 == TEST_SPACE && !by_key {
-                    return Ok(Reply::Refused(not_built(request)));
-                }
-                self.select(*space, *limit, key)
+                let pick = Pick {
+                    iterator: iterator_of(*iterator),
+                    key: key.as_slice(),
+                    offset: *offset,
+                    limit: *limit,
+                };
+                self.select(*space, *index, &pick)
             }
-            Request::Replace { space, tuple } => self.replace(request, *space, tuple.as_slice()),
+            Request::Replace { space, tuple } => self.replace(*space, tuple.as_slice()),
             Request::Nop | Request::Ping => Ok(Reply::Empty),
             Request::Id => Ok(Reply::Id),
             Request::Insert { .. }
@@ -102,33 +100,34 @@ impl Slow {
         }
     }
 
-    /// The tuple of a key, where the limit allows one.
-    fn select(&self, space: SpaceId, limit: u32, key: &[u8]) -> Result<Reply, AllocError>
-        ensures { IfOk result (λ reply. reply ≡ (looked_up (state_after_rows first_state self.now) space.0 limit key.now).reply) }
+    /// The tuples that an iterator picks.
+    fn select(&self, space: SpaceId, index: IndexId, pick: &Pick<'_>) -> Result<Reply, AllocError>
+        ensures { (state : plain.State) → IsSlow self.now state → IfOk result (λ reply. reply
+            ≡ (in_space space.0 (get state space.0) (selected space.0 index.0 pick.now.limit pick.now.offset pick.now.iterator pick.now.key.now)).reply) }
     {
         if space.0 != TEST_SPACE {
             return Ok(Reply::Refused(Refusal::SpaceMissing { space }));
         }
-        let alloc = *self.rows.allocator();
-        let mut tuples = Tuples::new(alloc);
-        if limit > 0 {
-            if let Some(tuple) = newest(&self.rows, key_of(key)) {
-                tuples.push(Bytes::from_slice(alloc, tuple)?)?;
-            }
+        if index.0 != 0 {
+            return Ok(Reply::Refused(index_missing(self.alloc, index)?));
         }
-        Ok(Reply::Tuples(tuples))
+        if let Some(misfit) = misfit(&self.parts, pick.key) {
+            return Ok(Reply::Refused(misfit_refusal(misfit)));
+        }
+        let range = range(self.alloc, &self.parts, pick.iterator, pick.key)?;
+        match gather(self.alloc, &self.kept, &range, pick) {
+            Ok(tuples) => Ok(Reply::Tuples(tuples)),
+            Err(SelectStop::TooLong) => Ok(Reply::Refused(Refusal::ResultTooLong)),
+            Err(SelectStop::NoMemory) => Err(AllocError),
+        }
     }
 
-    /// Adds a row that puts the tuple in the place of the one that has its key.
-    fn replace(
-        &mut self,
-        request: &Request,
-        space: SpaceId,
-        tuple: &[u8],
-    ) -> Result<Reply, AllocError>
-        ensures reply { IfOk result (λ reply. reply ≡ (put_by (state_after_rows first_state self.old) request.now space.0 tuple.now).reply) }
-        ensures rows { OnOk result (self.new ≡ self.old ++ option_to_list (put_by (state_after_rows first_state self.old) request.now space.0 tuple.now).row) }
-        ensures err { OnErr result (self.new ≡ self.old) }
+    /// Puts the tuple in the place of the one that has its key, and shows it.
+    fn replace(&mut self, space: SpaceId, tuple: &[u8]) -> Result<Reply, AllocError>
+        ensures { (state : plain.State) → IsSlow self.old state → MatchResult result
+            (λ reply. (reply ≡ (in_space space.0 (get state space.0) (λ _. replaced space.0 tuple.now)).reply)
+            × IsSlow self.new (state_after_rows state (option_to_list (in_space space.0 (get state space.0) (λ _. replaced space.0 tuple.now)).row)))
+            (λ _. IsSlow self.new state) }
     {
         if space.0 != TEST_SPACE {
             return Ok(Reply::Refused(Refusal::SpaceMissing { space }));
@@ -137,29 +136,118 @@ impl Slow {
             let bytes = tuple.len() as u64;
             return Ok(Reply::Refused(Refusal::TupleTooLong { bytes }));
         }
-        if !begins_with_number(tuple) {
-            return Ok(Reply::Refused(not_built(request)));
-        }
-        let alloc = *self.rows.allocator();
-        let mut tuples = Tuples::new(alloc);
-        tuples.push(Bytes::from_slice(alloc, tuple)?)?;
-        let tuple = Bytes::from_slice(alloc, tuple)?;
-        let space = space.0;
-        self.rows.push(Stored { space, tuple })?;
+        let keyed = match key_tuple(self.alloc, &self.parts, tuple) {
+            Ok(keyed) => keyed,
+            Err(fault) => return Ok(Reply::Refused(refusal_of(fault)?)),
+        };
+        let mut tuples = Tuples::new(self.alloc);
+        tuples.push(Bytes::from_slice(self.alloc, tuple)?)?;
+        put(&mut self.kept, keyed)?;
         Ok(Reply::Tuples(tuples))
     }
 }
 
-/// The newest tuple of a key.
-fn newest(rows: &[Stored], key: u64) -> Option<&[u8]>
-    ensures { option_map (λ tuple. tuple.now) result ≡ tuple_after (rows_view rows.now) key }
+/// The refusal of a tuple that has no primary key.
+///
+/// # Errors
+/// Memory ran out, which is no refusal here.
+fn refusal_of(fault: KeyFault) -> Result<Refusal, AllocError>
+    ensures { IfOk result (λ refusal. (refusal ≡ fault_refusal fault) × (fault ≢ NoKeyMemory)) }
 {
-    let mut rest = rows;
-    while let Some((last, earlier)) = rest.split_last() {
-        if last.has_key(key) {
-            return Some(last.tuple.as_slice());
-        }
-        rest = earlier;
+    match fault {
+        KeyFault::NoMemory => Err(AllocError),
+        KeyFault::Missing { .. } => Ok(fault_refusal(fault)),
+        KeyFault::Wrong { .. } => Ok(fault_refusal(fault)),
     }
-    None
+}
+
+/// Puts a tuple in the place of the one that has its key, or behind those whose keys are below.
+fn put(kept: &mut Vec<Keyed>, keyed: Keyed) -> Result<(), AllocError>
+    ensures { MatchResult result
+        (λ _. kept_list kept.new.items ≡ insert_entry (slice_cmp nat_cmp) (kept_list kept.old.items) keyed.key keyed.tuple)
+        (λ _. kept.new.items ≡ kept.old.items) }
+{
+    let place = place_of(kept, &keyed.key);
+    match kept.get_mut(place) {
+        Some(found) if found.key == keyed.key => {
+            found.tuple = keyed.tuple;
+            Ok(())
+        }
+        _ => Ok(kept.insert(place, keyed)?),
+    }
+}
+
+/// How many of the first ones have keys below this one.
+fn place_of(kept: &[Keyed], key: &Bytes) -> usize
+    ensures within { result ≤ length kept.now }
+    ensures below { All (λ one. is_lt (slice_cmp nat_cmp one.key key.now) ≡ true) (take result kept.now) }
+    ensures there { IfSome (slice_get kept.now result) (λ one. is_lt (slice_cmp nat_cmp one.key key.now) ≡ false) }
+{
+    let mut place = 0;
+    for one in kept {
+        if one.key >= *key {
+            return place;
+        }
+        place += 1;
+    }
+    place
+}
+
+/// The tuples whose keys a range holds, in the iterator's direction, without those that the offset
+/// passes over, as many as the limit allows.
+///
+/// # Errors
+/// They have too many bytes together; memory ran out.
+fn gather(
+    alloc: Global,
+    kept: &[Keyed],
+    range: &KeyRange,
+    pick: &Pick<'_>,
+) -> Result<Tuples, SelectStop>
+    ensures { MatchResult result
+        (λ tuples. (tuples ≡ map (λ entry. entry.1) (window pick.now.offset pick.now.limit
+        (directed (descends pick.now.iterator) (filter (λ entry. holds range.now entry.0) (kept_list kept.now)))))
+        × (total_bytes tuples ≤ longest_result))
+        (λ stop. ((stop ≡ TooLong) × (longest_result < total_bytes (map (λ entry. entry.1) (window pick.now.offset pick.now.limit
+        (directed (descends pick.now.iterator) (filter (λ entry. holds range.now entry.0) (kept_list kept.now))))))) ⊎ (stop ≡ NoMemory)) }
+{
+    let down = pick.iterator.descends();
+    let mut tuples = Tuples::new(alloc);
+    let mut rest = kept;
+    let mut offset = pick.offset;
+    let mut left = pick.limit;
+    let mut bytes = 0;
+    while left > 0 {
+        let Some((one, others)) = next_of(rest, down) else {
+            return Ok(tuples);
+        };
+        rest = others;
+        if !range.holds(one.key.as_slice()) {
+            continue;
+        }
+        if offset > 0 {
+            offset -= 1;
+            continue;
+        }
+        if one.tuple.len() > LONGEST_RESULT - bytes {
+            return Err(SelectStop::TooLong);
+        }
+        bytes += one.tuple.len();
+        tuples.push(Bytes::from_slice(alloc, one.tuple.as_slice())?)?;
+        left -= 1;
+    }
+    Ok(tuples)
+}
+
+/// The next one in a direction, and the others.
+fn next_of(kept: &[Keyed], down: bool) -> Option<(&Keyed, &[Keyed])>
+    ensures { MatchOption result
+        (kept.now ≡ [])
+        (λ next. directed down kept.now ≡ next.0.now ∷ directed down next.1.now) }
+{
+    if down {
+        kept.split_last()
+    } else {
+        kept.split_first()
+    }
 }

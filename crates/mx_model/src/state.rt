@@ -1,53 +1,116 @@
 //! The state of a database: the tuples of its one space.
 
-ghost use Rattle.std.specs.Prelude.{◌≡◌, ◌==◌, ℕ, Some, IfOk, OnOk, OnErr, if◌then◌else◌};
-ghost use Rattle.std.specs.Option.{option_copied};
-ghost use Rattle.mx_model.specs.State.{first_state};
+ghost use Rattle.std.specs.Prelude.{◌≡◌, ◌⊎◌, ◌<◌, ◌≤◌, Ok, Err, IfOk, OnOk, OnErr, MatchOption, MatchResult};
+ghost use Rattle.std.specs.Option.{option_map};
+ghost use Rattle.mx_key.specs.declared.fault.KeyFault.TheVariants.{NoMemory};
+ghost use Rattle.mx_key.specs.Comparable.{comparable_of, edges_of};
+ghost use Rattle.mx_key.specs.Keys.{Key, AreFit};
+ghost use Rattle.mx_key.specs.Parts.{given};
+ghost use Rattle.mx_model.specs.declared.selecting.SelectStop.TheVariants as stops;
+ghost use Rattle.mx_model.specs.Answers.{Replaced, state_after_row};
+ghost use Rattle.mx_model.specs.Picks.{entries_of, pick, total_bytes, longest_result};
+ghost use Rattle.mx_model.specs.State as plain;
+ghost use Rattle.mx_model.specs.State.{first_state, key_in, test_parts, test_space};
 ghost use Rattle.mx_model.specs.Stored.{Holds};
 
-use mx_msgpack::Bytes;
+use crate::keying::{Keyed, key_tuple};
+use crate::selecting::{Pick, SelectStop, Selected, collect, pass_over};
+use mx_key::{KeyDef, KeyFault, Misfit, Part, PartKind, misfit, range};
+use mx_msgpack::{Bytes, Tuples};
 use std::alloc::{AllocError, Global};
 use std::collections::BTreeMap;
 
-/// The tuples of the one space by primary key, which is one number.
+/// The tuples of the one space, by the comparable bytes of their primary keys.
 #[derive(Drop)]
 pub struct State {
-    tuples: BTreeMap<u64, Bytes>,
+    parts: KeyDef,
+    tuples: BTreeMap<Bytes, Bytes>,
 }
 
-/// What a new database holds: one space without tuples.
+/// What a new database holds: one space without tuples. Its primary key is the first field, a number
+/// of 0 or more.
 ///
 /// # Errors
 /// Memory ran out.
 pub fn bootstrap(alloc: Global) -> Result<State, AllocError>
     ensures { IfOk result (λ state. Holds state first_state) }
 {
+    let mut parts = KeyDef::new(alloc);
+    parts.push(Part {
+        field: 0,
+        kind: PartKind::Unsigned,
+    })?;
     let tuples = BTreeMap::new(alloc);
-    Ok(State { tuples })
+    Ok(State { parts, tuples })
 }
 
 impl State {
-    ghost use Rattle.mx_model.specs.Stored.{stored};
-
-    /// The tuple of a key.
-    pub fn find(&self, key: u64) -> Option<&[u8]>
-        ensures { option_copied result ≡ stored self.now key }
+    /// A copy of a tuple, with its primary key.
+    ///
+    /// # Errors
+    /// The field of the key that is missing or of another type; memory ran out.
+    pub fn key_tuple(&self, alloc: Global, tuple: &[u8]) -> Result<Keyed, KeyFault>
+        ensures { (state : plain.State) → Holds self.now state → MatchResult result
+            (λ keyed. (key : Key) × (key_in test_parts tuple.now ≡ Ok key) × AreFit key × (keyed.key ≡ comparable_of key) × (keyed.tuple ≡ tuple.now))
+            (λ fault. (key_in test_parts tuple.now ≡ Err fault) ⊎ (fault ≡ NoMemory)) }
     {
-        match self.tuples.get(&key) {
-            Some(tuple) => Some(tuple.as_slice()),
-            None => None,
-        }
+        key_tuple(alloc, &self.parts, tuple)
     }
 
-    /// Puts the tuple in the place of the one of this key.
+    /// Puts the tuple in the place of the one that has its key.
     ///
     /// # Errors
     /// Memory ran out. Nothing changed then.
-    pub fn replace(&mut self, key: u64, tuple: Bytes) -> Result<(), AllocError>
-        ensures ok { OnOk result ((other : ℕ) → stored self.new other ≡ (if other == key then Some tuple else stored self.old other)) }
-        ensures err { OnErr result ((other : ℕ) → stored self.new other ≡ stored self.old other) }
+    pub fn replace(&mut self, keyed: Keyed) -> Result<(), AllocError>
+        ensures ok { (state : plain.State) (key : Key) → Holds self.old state → key_in test_parts keyed.tuple ≡ Ok key → AreFit key → keyed.key ≡ comparable_of key
+            → OnOk result (Holds self.new (state_after_row state (Replaced test_space keyed.tuple))) }
+        ensures err { (state : plain.State) → Holds self.old state → OnErr result (Holds self.new state) }
     {
+        let Keyed { key, tuple } = keyed;
         self.tuples.insert(key, tuple)?;
         Ok(())
+    }
+
+    /// Why a key, which is an array, doesn't fit the one index; `None` where it does.
+    pub fn misfit(&self, key: &[u8]) -> Option<Misfit>
+        ensures { (state : plain.State) → Holds self.now state → MatchOption result
+            ((fitting : Key) × (given test_parts key.now ≡ Ok fitting) × AreFit fitting)
+            (λ misfit. given test_parts key.now ≡ Err misfit) }
+    {
+        misfit(&self.parts, key)
+    }
+
+    /// The tuples that an iterator picks by a key that fits the one index.
+    ///
+    /// # Errors
+    /// They have more than 16,777,216 bytes together; memory ran out.
+    pub fn select(&self, alloc: Global, wanted: &Pick<'_>) -> Result<Selected, SelectStop>
+        ensures { (state : plain.State) (holds : Holds self.now state) (key : Key) → given test_parts wanted.now.key.now ≡ Ok key → AreFit key → MatchResult result
+            (λ selected. (selected.tuples ≡ (pick (entries_of holds.keeps.tuples) wanted.now.iterator key wanted.now.offset wanted.now.limit).tuples)
+            × (total_bytes selected.tuples ≤ longest_result)
+            × (selected.read ≡ option_map edges_of (pick (entries_of holds.keeps.tuples) wanted.now.iterator key wanted.now.offset wanted.now.limit).read))
+            (λ stop. ((stop ≡ stops.TooLong) × (longest_result < total_bytes (pick (entries_of holds.keeps.tuples) wanted.now.iterator key wanted.now.offset wanted.now.limit).tuples))
+            ⊎ (stop ≡ stops.NoMemory)) }
+    {
+        if wanted.limit == 0 {
+            return Ok(Selected {
+                tuples: Tuples::new(alloc),
+                read: None,
+            });
+        }
+        let mut range = range(alloc, &self.parts, wanted.iterator, wanted.key)?;
+        let down = wanted.iterator.descends();
+        let mut entries = self.tuples.range((range.low_bound(), range.high_bound()));
+        pass_over(&mut entries, down, wanted.offset);
+        let found = collect(alloc, &mut entries, down, wanted.limit)?;
+        if found.tuples.len() == wanted.limit as usize {
+            if let Some(last) = found.last {
+                range.end_with(alloc, down, last.as_slice())?;
+            }
+        }
+        Ok(Selected {
+            tuples: found.tuples,
+            read: Some(range),
+        })
     }
 }

@@ -1,8 +1,9 @@
 -- What a transaction, a block and a header make of what memory stands for.
-use Rattle.std.proofs.Common.{◌≡◌, ℕ, suc, pos, ◌+◌, ◌-◌, ◌<◌, ◌≤◌, Bool, true, false, ◌&&◌, ◌==◌, List, [], ◌∷◌, length, take, drop, Option, Some, None, Result, Ok, Err, refl, sym, ap, subst, ◌∙◌, arith}
-use Rattle.std.specs.Prelude.{slice_index, slice_set, is_some, is_err, unwrap_or, MatchOption, MatchResult, if◌then◌else◌, not}
+use Rattle.std.proofs.Common.{◌≡◌, ◌⊎◌, inl, inr, ℕ, suc, ◌+◌, ◌-◌, ◌<◌, ◌≤◌, Bool, true, false, ◌&&◌, ◌==◌, List, [], ◌∷◌, length, take, drop, Option, Some, None, Result, Ok, Err, refl, sym, ap, subst, ◌∙◌, arith}
+use Rattle.std.specs.Prelude.{slice_index, slice_set, nat_le, is_ok, is_some, is_err, unwrap_or, MatchOption, MatchResult, if◌then◌else◌, not}
 use Rattle.std.specs.Cmp.Lexicographic.{bytes_decides}
-use Rattle.std.proofs.lemmas.Bool.{and_from, eqb-true, eq-eqb, le-leb, cond-true}
+use Rattle.std.specs.FinMap as finite
+use Rattle.std.proofs.lemmas.Bool.{and_from, eqb-true, eq-eqb, le-leb, cond-true, cond-false}
 use Rattle.std.proofs.lemmas.Grind.{same_number_lists}
 use Rattle.std.proofs.lemmas.List.{length-append, length-take-le, length-drop, get_or-set_other}
 use Rattle.std.proofs.lemmas.List.Elements.{All-set}
@@ -20,14 +21,15 @@ use Rattle.mx_model.specs.declared.damage.Damage.{Damage}
 use Rattle.mx_model.specs.declared.damage.DamageKind.TheVariants.{Head as HeadDamage, Gap}
 use Rattle.mx_model.specs.declared.tx.Tx.{Tx}
 use Rattle.mx_model.specs.declared.row.Row.TheVariants.{Replaced}
-use Rattle.mx_model.specs.Keys.{Integer, key_in}
-use Rattle.mx_model.specs.State.{test_space}
-use Rattle.mx_model.specs.Stored.{Holds, stored}
-use Rattle.mx_model.specs.Answers.{state_after_rows}
+use Rattle.mx_key.specs.declared.fault.KeyFault.{KeyFault}
+use Rattle.mx_key.specs.declared.fault.KeyFault.TheVariants.{NoMemory}
+use Rattle.mx_key.specs.Keys.{Key}
+use Rattle.mx_model.specs.State.{test_space, test_parts, key_in}
+use Rattle.mx_model.specs.Stored.{Holds}
+use Rattle.mx_model.specs.Answers.{state_after_row, state_after_rows, longest_tuple}
 use Rattle.mx_model.specs.Transactions.{clock_after_one}
 use Rattle.mx_model.specs.Files as files
-use Rattle.mx_model.specs.Files.{after_transaction, after_block, after_blocks, block_reached, damaged_row, same_bytes, follows, takes_rows, ids_or, ids_in, FileRead, head_fits, after_head}
-use Rattle.mx_model.proofs.StoredLaws.{holds_replaced}
+use Rattle.mx_model.specs.Files.{after_transaction, after_block, after_blocks, block_reached, damaged_row, same_bytes, follows, takes_row, takes_rows, ids_or, ids_in, FileRead, head_fits, after_head}
 use Rattle.mx_top.specs.declared.replaying.Reached.{Reached}
 use Rattle.mx_top.specs.declared.opening_fault.OpeningFault.{OpeningFault}
 use Rattle.mx_top.specs.declared.opening_fault.OpeningFault.TheVariants.{Damaged}
@@ -94,14 +96,18 @@ covered clock other false sound sound' above to from =
 
 -- ---- transactions
 
+and_false : (b : Bool) → (b && false) ≡ false
+and_false true = refl
+and_false false = refl
+
 -- a transaction of one row that puts a tuple into a space
 abbrev one_row : (replica lsn space : ℕ) → List ℕ → Tx
 one_row replica lsn space tuple = record { replica = replica; first = lsn; rows = Replaced space tuple ∷ [] }
 
-module _ (old new : Reached) (before : files.Reached) (stands : StandsFor old before) (replica lsn key : ℕ) (tuple : List ℕ)
+module _ (old new : Reached) (before : files.Reached) (stands : StandsFor old before) (replica lsn : ℕ) (tuple copy : List ℕ) (key : Key)
     (least : 1 ≤ replica) (few : replica < 32) (next : IsNext old.clock replica lsn) (clock : new.clock ≡ slice_set old.clock replica lsn)
-    (ids : new.ids ≡ old.ids) (keyed : key_in tuple ≡ Integer (pos key) ∷ [])
-    (same : (other : ℕ) → stored new.state other ≡ (if other == key then Some tuple else stored old.state other)) where
+    (ids : new.ids ≡ old.ids) (short : length tuple ≤ longest_tuple) (keyed : key_in test_parts tuple ≡ Ok key) (copied : copy ≡ tuple)
+    (holds : Holds new.state (state_after_row before.state (Replaced test_space copy))) where
   abbrev tx : Tx
   tx = one_row replica lsn test_space tuple
 
@@ -115,13 +121,16 @@ module _ (old new : Reached) (before : files.Reached) (stands : StandsFor old be
       and_from _ _ (eq-eqb _ _ first) (le-leb _ _ most)
 
   takes : takes_rows before.state tx.rows ≡ true
-  takes = ap (λ o. is_some o && true) stands.holds.test
+  takes =
+      ap (λ o. (is_some o && nat_le (length tuple) longest_tuple && is_ok (key_in test_parts tuple)) && true) stands.holds.keeps.there
+      ∙ ap (λ b. (b && is_ok (key_in test_parts tuple)) && true) (le-leb (length tuple) longest_tuple short)
+      ∙ ap (λ k. is_ok k && true) keyed
 
   stands_after : StandsFor new (record before { state = state_after_rows before.state tx.rows; clock = clock_after_one before.clock tx })
   stands_after =
       let last : lsn ≡ (lsn + 1) - 1 = omega arith in record {
         ids = ids ∙ stands.ids;
-        holds = holds_replaced old.state new.state before.state key tuple stands.holds keyed same;
+        holds = subst (λ t. Holds new.state (state_after_row before.state (Replaced test_space t))) copied holds;
         clock = clock ∙ ap (λ (c : List ℕ). slice_set c replica lsn) stands.clock ∙ ap (slice_set before.clock replica) last;
         sound = record {
           whole = length-set before.clock replica ((lsn + 1) - 1) ∙ stands.sound.whole;
@@ -139,6 +148,22 @@ module _ (old new : Reached) (before : files.Reached) (stands : StandsFor old be
   taken_row space is =
       subst Taken (sym is)
       (one_taken (StandsFor new) (after_transaction tx before) _ (cond-true _ _ _ (and_from _ _ does_follow takes)) stands_after)
+
+-- a row that the state doesn't take
+module _ (new : Reached) (before : files.Reached) (replica lsn space : ℕ) (tuple : List ℕ) where
+  abbrev Refused : Type 0
+  Refused = MatchOption (after_transaction (one_row replica lsn space tuple) before) (false ≡ false) (λ after. (false ≡ true) × StandsFor new after)
+
+  refused_by : takes_row before.state (Replaced space tuple) ≡ false → Refused
+  refused_by other =
+      none_taken (StandsFor new) (after_transaction (one_row replica lsn space tuple) before)
+      (cond-false _ _ _ (ap (λ b. follows before.clock (one_row replica lsn space tuple) && (b && true)) other ∙ and_false (follows before.clock (one_row replica lsn space tuple))))
+
+  -- its tuple has no primary key
+  pub unkeyed_row : (fault : KeyFault) → key_in test_parts tuple ≡ Err fault → Refused
+  unkeyed_row fault is =
+      refused_by (ap (λ k. is_some (finite.get before.state space) && nat_le (length tuple) longest_tuple && is_ok k) is
+      ∙ and_false (is_some (finite.get before.state space) && nat_le (length tuple) longest_tuple))
 
 -- ---- blocks
 
@@ -251,3 +276,9 @@ pub same_here : (memory : Reached) (before : files.Reached) (head : Head) (flag 
     → same_bytes before.clock head.clock ≡ told
 same_here memory before head flag told stands fits same is =
     ap (λ clock. same_bytes clock head.clock) (sym stands.clock) ∙ sym (same (subst IsVclock (sym stands.clock) stands.sound) fits.sound) ∙ is
+
+-- a fault that isn't want of memory is that of the key
+pub fault_told : {K : Type 0} (key : Result K KeyFault) (fault : KeyFault) → (fault ≡ NoMemory → ⊥) → (key ≡ Err fault) ⊎ (fault ≡ NoMemory)
+    → (told : KeyFault) × (key ≡ Err told)
+fault_told key fault other (inl is) = (fault, is)
+fault_told key fault other (inr none) = absurd (other none)

@@ -3,7 +3,13 @@
 ghost use Rattle.std.specs.Prelude.{◌≡◌, ◌<◌, ◌≤◌, Option, true, false, Ok, Err, Some, IfOk, OnOk, MatchOption, drop};
 ghost use Rattle.mx_vclock.specs.Vclocks.{IsVclock};
 ghost use Rattle.mx_xlog.specs.Reading.{blocks_of};
+ghost use Rattle.mx_key.specs.declared.fault.KeyFault.{KeyFault};
+ghost use Rattle.mx_key.specs.Comparable.{comparable_of};
+ghost use Rattle.mx_key.specs.Keys.{Key, AreFit};
 ghost use Rattle.mx_model.specs.declared.damage.Damage.{Damage};
+ghost use Rattle.mx_model.specs.State as plain;
+ghost use Rattle.mx_model.specs.State.{key_in, test_parts};
+ghost use Rattle.mx_model.specs.Stored.{Holds};
 ghost use Rattle.mx_model.specs.Files as files;
 ghost use Rattle.mx_model.specs.Files.{FileRead, ReadsAs, after_block, after_blocks, after_file, after_transaction, nothing_yet, head_fits, are_its_ids, same_id, same_bytes};
 ghost use Rattle.mx_journal.specs.Views.{tx_view};
@@ -12,7 +18,8 @@ ghost use Rattle.mx_top.specs.Replaying.{StandsFor};
 
 use crate::opening_fault::OpeningFault;
 use mx_journal::{TxRef, journal_name, read_tx};
-use mx_model::{Damage, DamageKind, Ids, State, TEST_SPACE, bootstrap, key_of};
+use mx_key::KeyFault;
+use mx_model::{Damage, DamageKind, Ids, Keyed, LONGEST_TUPLE, State, TEST_SPACE, bootstrap};
 use mx_msgpack::Bytes;
 use mx_vclock::Vclock;
 use mx_xlog::{Block, Head, read_block, read_header};
@@ -131,12 +138,31 @@ impl Reached {
         ensures { (before : files.Reached) → StandsFor self.old before → IfOk result (λ taken. MatchOption (after_transaction (tx_view tx.now) before)
             (taken ≡ false) (λ after. (taken ≡ true) × StandsFor self.new after)) }
     {
-        if tx.space != TEST_SPACE || self.clock.follow(tx.replica, tx.lsn).is_err() {
+        if tx.space != TEST_SPACE || tx.tuple.len() > LONGEST_TUPLE {
             return Ok(false);
         }
-        let tuple = Bytes::from_slice(alloc, tx.tuple)?;
-        self.state.replace(key_of(tx.tuple), tuple)?;
+        if self.clock.follow(tx.replica, tx.lsn).is_err() {
+            return Ok(false);
+        }
+        let Some(keyed) = self.keyed(alloc, tx.tuple)? else {
+            return Ok(false);
+        };
+        self.state.replace(keyed)?;
         Ok(true)
+    }
+
+    /// A copy of a tuple with its primary key; `None` where it has none.
+    fn keyed(&self, alloc: Global, tuple: &[u8]) -> Result<Option<Keyed>, AllocError>
+        ensures { (before : plain.State) → Holds self.now.state before → IfOk result (λ found. MatchOption found
+            ((fault : KeyFault) × (key_in test_parts tuple.now ≡ Err fault))
+            (λ keyed. (key : Key) × (key_in test_parts tuple.now ≡ Ok key) × AreFit key × (keyed.key ≡ comparable_of key) × (keyed.tuple ≡ tuple.now))) }
+    {
+        match self.state.key_tuple(alloc, tuple) {
+            Ok(keyed) => Ok(Some(keyed)),
+            Err(KeyFault::NoMemory) => Err(AllocError),
+            Err(KeyFault::Missing { .. }) => Ok(None),
+            Err(KeyFault::Wrong { .. }) => Ok(None),
+        }
     }
 }
 

@@ -1,5 +1,7 @@
-use Rattle.mx_model.proofs.StoredLaws.{holds_first}
+use Rattle.std.proofs.Common.{ap, ◌∙◌, ◌++◌, ◌∷◌, []}
+use Rattle.mx_key.specs.declared.part.PartKind.TheVariants.{Unsigned}
+use Rattle.mx_model.proofs.StoredLaws.{keeps_first}
 use Rattle.mx_model.proofs.state.bootstrap.Goals as goal
 
 pub returns : goal.returns
-returns c = holds_first _ c.new-tuples.ensures.empty
+returns c = record { parts = c.in_ok-push.ensures.ok ∙ ap (λ front. front ++ record { field = 0; kind = Unsigned } ∷ []) c.new-parts.ensures; keeps = keeps_first _ c.new-tuples.ensures.empty }

@@ -1,0 +1,62 @@
+-- What an iterator picks of an index's entries, and the range of keys that it reads.
+use Rattle.std.specs.Prelude.{ℕ, zero, suc, Bool, true, false, List, [], ◌∷◌, length, take, drop, map, reverse, Option, Some, None, ◌==◌, if◌then◌else◌}
+use Rattle.std.specs.List.{filter, sum}
+use Rattle.std.specs.FinMap.{entries}
+use Rattle.mx_key.specs.declared.iterator.IterKind.{IterKind}
+use Rattle.mx_key.specs.Keys.{Key}
+use Rattle.mx_key.specs.Ranges.{Range, lies_in, range_of, descends, ended}
+use Rattle.mx_model.specs.State.{Tuples}
+
+-- a tuple under its index key
+abbrev pub Indexed : Type 0
+Indexed = Key × List ℕ
+
+-- the entries of a space's primary index: its tuples by key, in the order of keys
+abbrev pub entries_of : Tuples → List Indexed
+entries_of tuples = entries tuples
+
+-- the other way round, where the direction is down
+abbrev pub directed : {X : Type 0} → (down : Bool) → List X → List X
+directed true xs = reverse xs
+directed false xs = xs
+
+-- without the first ones, and of the rest so many at most
+abbrev pub window : {X : Type 0} → (offset limit : ℕ) → List X → List X
+window offset limit xs = take limit (drop offset xs)
+
+-- the entries in an iterator's range, in its direction, without those that the offset passes over, as many as the limit allows
+abbrev pub picked : IterKind → Key → (offset limit : ℕ) → List Indexed → List Indexed
+picked iterator key offset limit all =
+    window offset limit (directed (descends iterator) (filter (λ entry. lies_in (range_of iterator key) entry.0) all))
+
+abbrev pub last_key : Key → List Indexed → Key
+last_key key [] = key
+last_key key (entry ∷ others) = last_key entry.0 others
+
+-- the range up to the last of these entries, where there is one
+abbrev pub up_to_last : (down : Bool) → List Indexed → Range → Range
+up_to_last down [] range = range
+up_to_last down (entry ∷ others) range = ended down (last_key entry.0 others) range
+
+-- the range that is read: up to the last entry where the limit was reached, else to the iterator's end; none by the limit 0
+abbrev pub range_read : IterKind → Key → (limit : ℕ) → List Indexed → Option Range
+range_read iterator key zero found = None
+range_read iterator key (suc more) found =
+    Some (if length found == suc more then up_to_last (descends iterator) found (range_of iterator key) else range_of iterator key)
+
+pub record Selection : Type 0 where
+  pub tuples : List (List ℕ)
+  pub read : Option Range
+
+abbrev pub pick : List Indexed → IterKind → Key → (offset limit : ℕ) → Selection
+pick all iterator key offset limit =
+    let found = picked iterator key offset limit all in
+    record { tuples = map (λ entry. entry.1) found; read = range_read iterator key limit found }
+
+-- how many bytes tuples have together
+abbrev pub total_bytes : List (List ℕ) → ℕ
+total_bytes tuples = sum (map length tuples)
+
+-- the most bytes of the tuples that one SELECT is answered
+abbrev pub longest_result : ℕ
+longest_result = 16777216
