@@ -6,7 +6,7 @@ use crate::harness::{
 };
 use mx_fake::MemoryDir;
 use mx_outside::{Dir, DirFault};
-use std::alloc::Global;
+use std::alloc::{AllocError, Global};
 use std::test::Fail;
 
 #[test]
@@ -119,6 +119,13 @@ fn opened(
     Ok(ran.status)
 }
 
+/// Blocks as the first one of replica 1: REPLACEs of [] and of [-1], which have no primary key.
+const NO_KEY_BLOCK: &[u8; 33] = b"\xd5\xba\x0b\xab\xce\0\0\0\x0e\0\xce\x65\x8c\x91\xce\xa3\0\0\0\
+    \x83\x00\x03\x02\x01\x03\x01\x82\x10\xcd\x02\x00\x21\x90";
+
+const WRONG_KEY_BLOCK: &[u8; 34] = b"\xd5\xba\x0b\xab\xce\0\0\0\x0f\0\xce\xd1\x4f\xde\x54\xa3\0\0\0\
+    \x83\x00\x03\x02\x01\x03\x01\x82\x10\xcd\x02\x00\x21\x91\xff";
+
 #[test]
 fn damage_is_told_with_its_place(rt: HostRuntime) -> Result<(), Fail> {
     let alloc = rt.alloc();
@@ -128,7 +135,23 @@ fn damage_is_told_with_its_place(rt: HostRuntime) -> Result<(), Fail> {
     let cut = joined(alloc, &[HEADER, BLOCK, &BLOCK[..35]])?;
     let mut other_node = NEXT_HEADER.to_vec(alloc)?;
     other_node[55] = b'e';
-    let cases: [(&str, &[u8], &str, &[u8], &str); 7] = [
+    let no_key = joined(alloc, &[HEADER, NO_KEY_BLOCK])?;
+    let wrong_key = joined(alloc, &[HEADER, WRONG_KEY_BLOCK])?;
+    let cases: [(&str, &[u8], &str, &[u8], &str); 9] = [
+        (
+            FIRST,
+            &no_key,
+            SECOND,
+            &[],
+            "Damaged 00000000000000000000.xlog 118 row",
+        ),
+        (
+            FIRST,
+            &wrong_key,
+            SECOND,
+            &[],
+            "Damaged 00000000000000000000.xlog 118 row",
+        ),
         (
             FIRST,
             &lsn_again,
@@ -177,6 +200,35 @@ fn damage_is_told_with_its_place(rt: HostRuntime) -> Result<(), Fail> {
         let told = opened(alloc, name, bytes, other, more)?;
         assert_eq!(rt; told.as_str(), status);
     }
+    Ok(())
+}
+
+/// The block of a REPLACE of [1, bytes], up to those bytes, of which there are 1,048,569. Such a tuple
+/// has 7 bytes more, which is as many as a tuple may have.
+const LONGEST: &[u8] = b"\xd5\xba\x0b\xab\xce\x00\x10\x00\x0d\0\xce\x95\x25\xf3\x10\xa3\0\0\0\
+    \x83\x00\x03\x02\x01\x03\x01\x82\x10\xcd\x02\x00\x21\x92\x01\xc6\x00\x0f\xff\xf9";
+
+/// The same of one byte more.
+const TOO_LONG: &[u8] = b"\xd5\xba\x0b\xab\xce\x00\x10\x00\x0e\0\xce\x94\x6b\xa0\xdc\xa3\0\0\0\
+    \x83\x00\x03\x02\x01\x03\x01\x82\x10\xcd\x02\x00\x21\x92\x01\xc6\x00\x0f\xff\xfa";
+
+/// A journal of the front of a block, and so many letters a behind it.
+fn journal_with(alloc: Global, front: &[u8], count: usize) -> Result<Vec<u8>, AllocError> {
+    let mut bytes = HEADER.to_vec(alloc)?;
+    bytes.extend_from_slice(front)?;
+    bytes.extend_from_slice(Vec::from_elem(alloc, b'a', count)?.as_slice())?;
+    Ok(bytes)
+}
+
+#[test]
+fn a_tuple_of_a_journal_may_have_a_mebibyte(rt: HostRuntime) -> Result<(), Fail> {
+    let alloc = rt.alloc();
+    let bytes = journal_with(alloc, LONGEST, 1_048_569)?;
+    let told = opened(alloc, FIRST, &bytes, SECOND, &[])?;
+    assert_eq!(rt; told.as_str(), "Ok");
+    let bytes = journal_with(alloc, TOO_LONG, 1_048_570)?;
+    let told = opened(alloc, FIRST, &bytes, SECOND, &[])?;
+    assert_eq!(rt; told.as_str(), "Damaged 00000000000000000000.xlog 118 row");
     Ok(())
 }
 

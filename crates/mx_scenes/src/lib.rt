@@ -11,3 +11,5 @@ mod directories;
 mod first_connection;
 #[cfg(test)]
 mod harness;
+#[cfg(test)]
+mod selects;
