@@ -54,25 +54,35 @@ def refused(number, sync, text):
 PONG = reply(0, 0, b"\x80")
 
 
-def ask(units):
-    """What the program answers to these units in a new directory, and its status."""
-    with tempfile.TemporaryDirectory() as folder:
-        ended = subprocess.run(
-            [PROGRAM, *TRACE],
-            input=b"".join(units),
-            capture_output=True,
-            cwd=folder,
-            env=environment(SEED),
-            timeout=SECONDS,
-        )
+def ask_in(folder, units):
+    """What the program answers to these units in a folder's directory, and its status."""
+    ended = subprocess.run(
+        [PROGRAM, *TRACE],
+        input=b"".join(units),
+        capture_output=True,
+        cwd=folder,
+        env=environment(SEED),
+        timeout=SECONDS,
+    )
     return ended.stdout, ended.returncode
+
+
+def ask(units):
+    """The same in a new directory."""
+    with tempfile.TemporaryDirectory() as folder:
+        return ask_in(folder, units)
+
+
+def compare(answered, told, status=0, what=""):
+    """Checks an output and a status."""
+    output, ended = answered
+    assert ended == status, f"{what}: status {ended}"
+    assert output == b"".join(told), f"{what}: {output[-200:].hex()}"
 
 
 def expect(units, told, status=0, what=""):
     """Checks the whole output of these units, and the status."""
-    output, ended = ask(units)
-    assert ended == status, f"{what}: status {ended}"
-    assert output == b"".join(told), f"{what}: {output[-200:].hex()}"
+    compare(ask(units), told, status, what)
 
 
 def any_cut_gives_the_same_bytes():
@@ -95,14 +105,29 @@ REFUSED = (
     ("820001010181" "10cd0200", 69, "Missing key 0x20"),
     ("820001010180", 69, "Missing key 0x10"),
     ("820001010183" "10cd0200" "1407" "2090", 1, "Illegal value of key 0x14"),
-    # An iterator, an offset and a key that aren't built yet.
-    ("820001010183" "10cd0200" "1405" "209101", 48, "Unknown request type 1"),
-    ("820001010183" "10cd0200" "1301" "209101", 48, "Unknown request type 1"),
-    ("820001010182" "10cd0200" "20920101", 48, "Unknown request type 1"),
-    ("820003010182" "10cd0200" "2191a161", 48, "Unknown request type 3"),
-    # BEGIN in stream 0, INSERT, and an acknowledgement.
-    ("82000e0101", 48, "Unknown request type 14"),
+    # What comes first is told: the space, the index, the number of parts, and the part.
+    ("820001010183" "10cd0201" "1101" "2092ff01", 36, "Space 513 does not exist"),
+    ("820001010183" "10cd0200" "1101" "2092ff01", 35, 'No index 1 in space "test"'),
+    ("820001010183" "10cd0200" "11ceffffffff" "2090", 35, 'No index 4294967295 in space "test"'),
+    ("820001010182" "10cd0200" "2092ff01", 19, "Key of 2 parts, index of 1"),
+    ("820001010182" "10cd0200" "20920101", 19, "Key of 2 parts, index of 1"),
+    ("820001010183" "10cd0200" "1405" "20dc0003010203", 19, "Key of 3 parts, index of 1"),
+    ("820001010182" "10cd0200" "2091ff", 18, "Key part 0: unsigned expected"),
+    ("820001010182" "10cd0200" "2091a131", 18, "Key part 0: unsigned expected"),
+    ("820001010184" "10cd0200" "1200" "1403" "2091c0", 18, "Key part 0: unsigned expected"),
+    ("820003010182" "10cd0201" "2190", 36, "Space 513 does not exist"),
+    ("820003010182" "10cd0200" "2190", 39, "Field 0 is missing"),
+    ("820003010182" "10cd0200" "2191ff", 23, "Field 0: unsigned expected"),
+    ("820003010182" "10cd0200" "2192a16101", 23, "Field 0: unsigned expected"),
+    # What isn't built yet: INSERT, UPDATE, DELETE, UPSERT, BEGIN in stream 0, COMMIT, ROLLBACK, and
+    # an acknowledgement.
     ("820002010182" "10cd0200" "219101", 48, "Unknown request type 2"),
+    ("820004010183" "10cd0200" "209101" "219193a13d0102", 48, "Unknown request type 4"),
+    ("820005010182" "10cd0200" "209101", 48, "Unknown request type 5"),
+    ("820009010183" "10cd0200" "219101" "2890", 48, "Unknown request type 9"),
+    ("82000e0101", 48, "Unknown request type 14"),
+    ("82000f0101", 48, "Unknown request type 15"),
+    ("8200100101", 48, "Unknown request type 16"),
     ("820000010181" "2680", 48, "Unknown request type 0"),
     # Update operations of no shape.
     ("820004010183" "10cd0200" "209101" "219193a13f0101", 28, "Unknown update operator"),
@@ -135,6 +160,67 @@ def answers_are_exact():
     expect([input_unit(asked)], [output_unit(GREETING + told)])
 
 
+# Tuples of a number and a letter. Some keys are spelled longer than they have to be.
+A, B, C = "92cd0001a161", "9203a162", "92d100c8a163"
+D, E = "92cd012ca164", "92cfffffffffffffffffa165"
+# The order in which they are put; the first tuple of key 1 gives way to the second.
+PUT = (D, "9201a178", B, E, C, A)
+
+# The body of a SELECT, and the tuples that it finds.
+SELECTED = (
+    # EQ, which is the iterator where none is named.
+    ("85" "10cd0200" "1263" "1300" "1400" "2090", (A, B, C, D, E)),
+    ("82" "10cd0200" "2090", (A, B, C, D, E)),
+    ("82" "10cd0200" "209103", (B,)),
+    ("83" "10cd0200" "1400" "2091cf0000000000000003", (B,)),
+    ("83" "10cd0200" "1400" "209102", ()),
+    ("83" "10cd0200" "1304" "2090", (E,)),
+    ("83" "10cd0200" "1301" "209103", ()),
+    # REQ.
+    ("84" "10cd0200" "1202" "1401" "2090", (E, D)),
+    ("84" "10cd0200" "1303" "1401" "2090", (B, A)),
+    ("83" "10cd0200" "1401" "2091ccc8", (C,)),
+    # ALL.
+    ("83" "10cd0200" "1402" "209104", (C, D, E)),
+    ("85" "10cd0200" "1201" "1301" "1402" "209103", (C,)),
+    # LT.
+    ("83" "10cd0200" "1403" "209103", (A,)),
+    ("84" "10cd0200" "1201" "1403" "2090", (E,)),
+    ("84" "10cd0200" "1301" "1403" "2091cd012c", (B, A)),
+    ("83" "10cd0200" "1403" "209100", ()),
+    # LE.
+    ("84" "10cd0200" "1202" "1404" "2091cd012c", (D, C)),
+    ("83" "10cd0200" "1404" "209104", (B, A)),
+    ("83" "10cd0200" "1404" "209100", ()),
+    # GE.
+    ("83" "10cd0200" "1405" "2091ccc8", (C, D, E)),
+    ("83" "10cd0200" "1405" "2091cd012d", (E,)),
+    ("85" "10cd0200" "1201" "1301" "1405" "2091ccc8", (D,)),
+    # GT.
+    ("83" "10cd0200" "1406" "2091ccc8", (D, E)),
+    ("85" "10cd0200" "1203" "1301" "1406" "2090", (B, C, D)),
+    ("83" "10cd0200" "1406" "2091cfffffffffffffffff", ()),
+    # No tuple is wanted, and more are passed over than there are.
+    ("84" "10cd0200" "1200" "1406" "209101", ()),
+    ("85" "10cd0200" "12ceffffffff" "13ceffffffff" "1405" "2090", ()),
+)
+
+
+def selects_go_by_each_iterator():
+    asked, told = b"", b""
+    for body, tuples in SELECTED:
+        asked += packet(bytes.fromhex("8200010102"), bytes.fromhex(body))
+        told += found(2, *map(bytes.fromhex, tuples))
+    puts = [packet(bytes.fromhex("8200030101"), bytes.fromhex("8210cd020021" + tuple_)) for tuple_ in PUT]
+    put = b"".join(found(1, bytes.fromhex(tuple_)) for tuple_ in PUT)
+    with tempfile.TemporaryDirectory() as folder:
+        answered = ask_in(folder, [input_unit(b"".join(puts) + asked)])
+        compare(answered, [output_unit(GREETING + put + told)], what="at first")
+        # The next run finds the same.
+        answered = ask_in(folder, [input_unit(asked)])
+        compare(answered, [output_unit(GREETING + told)], what="again")
+
+
 def a_tuple_may_have_a_mebibyte():
     header, body = bytes.fromhex("8200030101"), bytes.fromhex("8210cd020021")
     longest = sized(b"\x92\x01\xc6", b"a" * 1_048_569)
@@ -142,6 +228,24 @@ def a_tuple_may_have_a_mebibyte():
     longer = sized(b"\x92\x01\xc6", b"a" * 1_048_570)
     told = refused(203, 1, "Tuple of 1048577 bytes, 1048576 allowed")
     expect([input_unit(packet(header, body + longer))], [output_unit(GREETING + told)])
+    # Its length is told before its key is looked for.
+    longer = sized(b"\x91\xc6", b"a" * 1_048_571)
+    expect([input_unit(packet(header, body + longer))], [output_unit(GREETING + told)])
+
+
+def a_result_may_have_sixteen_mebibytes():
+    header, body = bytes.fromhex("8200030101"), bytes.fromhex("8210cd020021")
+    tuples = [sized(b"\x92" + bytes([key]) + b"\xc6", b"a" * 1_048_569) for key in range(16)]
+    small = bytes.fromhex("9110")
+    select = packet(bytes.fromhex("8200010102"), bytes.fromhex("8210cd02002090"))
+    first = packet(bytes.fromhex("8200010103"), bytes.fromhex("8310cd020012102090"))
+    given = [input_unit(packet(header, body + tuple_)) for tuple_ in tuples]
+    told = [output_unit(found(1, tuple_)) for tuple_ in tuples]
+    told[0] = output_unit(GREETING + found(1, tuples[0]))
+    given += [input_unit(select), input_unit(packet(header, body + small)), input_unit(select), input_unit(first)]
+    told += [output_unit(found(2, *tuples)), output_unit(found(1, small))]
+    told += [output_unit(refused(207, 2, "Result is longer than 16777216 bytes")), output_unit(found(3, *tuples))]
+    expect(given, told)
 
 
 def nesting_ends_at_64_levels():
@@ -208,7 +312,9 @@ CHECKS = (
     any_cut_gives_the_same_bytes,
     refusals_have_their_numbers,
     answers_are_exact,
+    selects_go_by_each_iterator,
     a_tuple_may_have_a_mebibyte,
+    a_result_may_have_sixteen_mebibytes,
     nesting_ends_at_64_levels,
     connections_share_the_database,
     a_packet_that_is_none_ends_its_connection,
