@@ -42,6 +42,8 @@ KEYS = {
     "features": 0x55,
 }
 DATA, ERROR = 0x30, 0x31
+# A SELECT's iterators, each in the place of its number.
+ITERATORS = ("EQ", "REQ", "ALL", "LT", "LE", "GE", "GT")
 # The kinds of input units.
 BYTES, CLOSE = 0, 1
 
@@ -148,6 +150,8 @@ class Reader:
 def request(name, sync, **fields):
     """The packet of a request: its size, its header, and its body where it has fields."""
     content = pack({TYPE: TYPES[name], SYNC: sync})
+    if "iterator" in fields:
+        fields["iterator"] = ITERATORS.index(fields["iterator"])
     if fields:
         content += pack({KEYS[field]: value for field, value in fields.items()})
     return b"\xce" + len(content).to_bytes(4, "big") + content
@@ -170,7 +174,7 @@ class Said:
 
 def asks(connection, name, sync, **fields):
     """A client sends a request."""
-    shown = " ".join(f"{field}={value!r}" for field, value in fields.items())
+    shown = " ".join(f"{field}={value}" for field, value in fields.items())
     words = f"{name} {shown}".strip() + f"  (sync {sync})"
     return Said(connection, words, BYTES, request(name, sync, **fields))
 
@@ -195,11 +199,16 @@ def conversation():
         sends(1, "the rest of it  (sync 3)", ping[4:]),
         asks(1, "REPLACE", 4, space=512, tuple=[1, "apple"]),
         asks(2, "REPLACE", 1, space=512, tuple=[2, {"color": "red", "weights": [120, -3]}]),
-        asks(2, "SELECT", 2, space=512, limit=10, iterator=0, key=[1]),
-        asks(1, "SELECT", 5, space=512, limit=10, iterator=0, key=[2]),
-        asks(1, "SELECT", 6, space=512, limit=10, iterator=0, key=[3]),
+        asks(2, "SELECT", 2, space=512, key=[1]),
+        asks(1, "SELECT", 5, space=512, key=[2]),
+        asks(1, "SELECT", 6, space=512, key=[3]),
         asks(1, "SELECT", 7, space=513, key=[1]),
         asks(1, "SELECT", 8, space=512),
+        asks(2, "REPLACE", 3, space=512, tuple=[4, "date"]),
+        asks(2, "REPLACE", 4, space=512, tuple=[3, "cherry"]),
+        *(asks(1, "SELECT", 10 + at, space=512, iterator=name, key=[3]) for at, name in enumerate(ITERATORS)),
+        asks(1, "SELECT", 17, space=512, iterator="GE", key=[], offset=1, limit=2),
+        asks(1, "SELECT", 18, space=512, iterator="GE", key=[1, 2]),
         closes(1),
         sends(2, "a packet with c1, which is no MessagePack", bytes.fromhex("0682004001 07c1")),
         asks(2, "PING", 9),
