@@ -74,9 +74,9 @@ def units(pieces):
     return b"".join(made)
 
 
-def setting():
-    """The input that sets each key."""
-    return units(replace(key, key, 0) for key in range(KEYS))
+def setting(keys=KEYS):
+    """The input that sets so many keys."""
+    return units(replace(key, key, 0) for key in range(keys))
 
 
 def pairs(shape, count):
