@@ -27,7 +27,7 @@ KEYS = 1000
 # Without a common factor with KEYS, so that steps of it come to every key.
 STEP = 389
 SIZES = (1_000, 10_000, 100_000)
-MOST_BYTES = 16_777_216
+MAX_BYTES = 16_777_216
 # As many connections as take turns.
 CONNECTIONS = 1000
 SHAPES = {
@@ -65,7 +65,7 @@ def units(pieces):
     """As few units as hold the pieces, each of which is whole packets."""
     made, held = [], bytearray()
     for piece in pieces:
-        if len(held) + len(piece) > MOST_BYTES:
+        if len(held) + len(piece) > MAX_BYTES:
             made.append(input_unit(held))
             held = bytearray()
         held += piece

@@ -3,7 +3,7 @@ use Rattle.std.proofs.Common.{◌≡◌, ◌⊎◌, inl, inr, ℕ, suc, ◌+◌,
 use Rattle.std.specs.FinMap.{get}
 use Rattle.std.specs.Prelude.{Ok, Err, ◌==◌, ◌&&◌, ◌||◌, Some, None, nat_lt, slice_index, slice_set, if◌then◌else◌}
 use Rattle.std.proofs.lemmas.Bool.{eqb-true, lt-ltb, le-ltb}
-use Rattle.mx_vclock.specs.Vclocks.{most_lsn, IsNext}
+use Rattle.mx_vclock.specs.Vclocks.{max_lsn, IsNext}
 use Rattle.mx_base.specs.declared.ids.SpaceId.{SpaceId}
 use Rattle.mx_base.specs.declared.ids.IndexId.{IndexId}
 use Rattle.mx_base.specs.declared.ids.TxnName.{TxnName}
@@ -26,12 +26,12 @@ use Rattle.mx_key.specs.Keys.{Key, AreFit}
 use Rattle.mx_key.specs.Parts.{given}
 use Rattle.mx_model.specs.declared.selecting.SelectStop.{SelectStop}
 use Rattle.mx_model.specs.declared.selecting.SelectStop.TheVariants.{TooLong, NoMemory as NoRoom}
-use Rattle.mx_model.specs.Picks.{pick, entries_of, total_bytes, longest_result}
+use Rattle.mx_model.specs.Picks.{pick, entries_of, total_bytes, max_result_size}
 use Rattle.mx_model.specs.State.{State, test_space, test_parts, key_in}
 use Rattle.mx_model.specs.Stored.{Holds}
-use Rattle.mx_model.specs.Answers.{Answer, Read, space_read, answer_to, refused, refused_after, not_built, schema_reads, in_space, selected, iterator_of, replaced, longest_tuple, fault_refusal, misfit_refusal, state_after_row}
+use Rattle.mx_model.specs.Answers.{Answer, Read, space_read, answer_to, refused, refused_after, not_built, schema_reads, in_space, selected, iterator_of, replaced, max_tuple_size, fault_refusal, misfit_refusal, state_after_row}
 use Rattle.mx_model.specs.Transactions.{state_after, clock_after}
-use Rattle.mx_model.specs.Histories.{Base, History, Asked, Left, node_answer, answer_in, numbered, committed, is_write, commits_of, writable_node, is_want_of_memory, ledger_of, state_of, clock_of}
+use Rattle.mx_model.specs.Histories.{Base, History, Asked, Left, node_answer, answer_in, numbered, committed, is_write, commits_of, writable_node, is_out_of_memory, ledger_of, state_of, clock_of}
 use Rattle.mx_model.proofs.StateLaws.{HasOneSpace}
 use Rattle.mx_model.proofs.AnswerLaws.{space_is_missing, key_is_misfit, tuples_are_picked, result_is_too_long, tuple_is_too_long, tuple_has_no_key, tuple_is_replaced}
 use Rattle.mx_model.proofs.HistoryLaws.{select_no_row, committed-no_row, state_of-asked, clock_of-asked, untaken-asked, untaken}
@@ -82,8 +82,8 @@ pub answers_no_row : (old new : Engine) (before : State) (request : Request) (re
     → (answer_by old before request).row ≡ None → Stores old new before [] → new.clock ≡ old.clock → Answers old new before request reply
 answers_no_row old new before request reply told none stores clock =
     let nothing : [] ≡ commits_by old before request reply =
-    sym (ap (committed old.ids.me (lsn_after old) (is_want_of_memory reply)) none
-    ∙ committed-no_row old.ids.me (lsn_after old) (is_want_of_memory reply)) in
+    sym (ap (committed old.ids.me (lsn_after old) (is_out_of_memory reply)) none
+    ∙ committed-no_row old.ids.me (lsn_after old) (is_out_of_memory reply)) in
     record {
       told = told;
       stores = subst (Stores old new before) nothing stores;
@@ -161,12 +161,12 @@ module _ (engine : Engine) (before : State) (space : SpaceId) (tuple : List ℕ)
       (space_is_missing before (one_space engine.state before holds) space.0 (λ _. replaced space.0 tuple) other)
 
   module _ (same : space.0 ≡ test_space) where
-    pub answers_too_long : longest_tuple < length tuple → Answers engine engine before asked (Refused (TupleTooLong (length tuple)))
+    pub answers_too_long : max_tuple_size < length tuple → Answers engine engine before asked (Refused (TupleTooLong (length tuple)))
     answers_too_long above =
         refused_by (schema_reads space.0) (TupleTooLong (length tuple))
         (tuple_is_too_long before (one_space engine.state before holds) space.0 tuple same above)
 
-    module _ (short : length tuple ≤ longest_tuple) where
+    module _ (short : length tuple ≤ max_tuple_size) where
       -- it has no primary key, or memory was missing
       pub answers_no_key : (fault : KeyFault) (refusal : Refusal) → refusal ≡ fault_refusal fault → (key_in test_parts tuple ≡ Err fault) ⊎ (fault ≡ NoMemory)
           → Answers engine engine before asked (Refused refusal)
@@ -188,17 +188,17 @@ module _ (engine : Engine) (before : State) (space : SpaceId) (tuple : List ℕ)
             if used_up then refused_after (schema_reads space.0) LsnsUsedUp
             else record { reply = Tuples (tuple ∷ []); row = Some (Replaced space.0 tuple); reads = schema_reads space.0 }
 
-        pub replaced_by : (used_up : Bool) → nat_lt most_lsn (lsn_after engine) ≡ used_up → answer_by engine before asked ≡ answer used_up
+        pub replaced_by : (used_up : Bool) → nat_lt max_lsn (lsn_after engine) ≡ used_up → answer_by engine before asked ≡ answer used_up
         replaced_by used_up test =
             answer_taken engine before asked (answer false) taken
             (tuple_is_replaced before (one_space engine.state before holds) space.0 tuple same short key keyed)
             ∙ ap answer test
 
-        pub answers_used_up : most_lsn < suc (slice_index engine.clock writable_node) → Answers engine engine before asked (Refused LsnsUsedUp)
+        pub answers_used_up : max_lsn < suc (slice_index engine.clock writable_node) → Answers engine engine before asked (Refused LsnsUsedUp)
         answers_used_up above =
             let lsn = ap (λ id. suc (slice_index engine.clock id)) writes_here in
             answers_refused engine before asked (schema_reads space.0) LsnsUsedUp
-            (replaced_by true (ap (nat_lt most_lsn) lsn ∙ lt-ltb most_lsn _ above)) holds
+            (replaced_by true (ap (nat_lt max_lsn) lsn ∙ lt-ltb max_lsn _ above)) holds
 
 -- memory was missing
 pub answers_no_memory : (old new : Engine) (before : State) (request : Request) → Stores old new before [] → new.clock ≡ old.clock
@@ -207,7 +207,7 @@ answers_no_memory old new before request stores clock = record { told = inr refl
 
 -- a REPLACE that is taken
 pub answers_replaced : (old put : Engine) (before : State) (clock : List ℕ) (lsn : ℕ) (space : SpaceId) (tuple copy : List ℕ) (tuples : List (List ℕ)) (key : Key)
-    → takes old.ids (request.Replace space tuple) ≡ true → Holds old.state before → space.0 ≡ test_space → length tuple ≤ longest_tuple
+    → takes old.ids (request.Replace space tuple) ≡ true → Holds old.state before → space.0 ≡ test_space → length tuple ≤ max_tuple_size
     → key_in test_parts tuple ≡ Ok key → copy ≡ tuple → IsNext old.clock writable_node lsn → tuples ≡ copy ∷ []
     → Stores old put before (transaction_of lsn copy ∷ []) → clock ≡ slice_set old.clock writable_node lsn
     → Answers old (record put { clock = clock }) before (request.Replace space tuple) (Tuples tuples)
@@ -218,7 +218,7 @@ answers_replaced old put before clock lsn space tuple copy tuples key taken hold
     let answer : Answer = record { reply = Tuples (tuple ∷ []); row = Some (Replaced space.0 tuple); reads = schema_reads space.0 } in
     let is : answer_by old before asked ≡ answer =
     replaced_by old before space tuple taken holds there short key keyed false
-    (ap (nat_lt most_lsn) number ∙ le-ltb most_lsn lsn next.allowed) in
+    (ap (nat_lt max_lsn) number ∙ le-ltb max_lsn lsn next.allowed) in
     let commits : transaction_of lsn copy ∷ [] ≡ commits_by old before asked (Tuples tuples) =
     sym (ap (λ a. committed old.ids.me (lsn_after old) false a.row) is
     ∙ ap (λ id. committed id (lsn_after old) false (Some (Replaced space.0 tuple))) me
@@ -239,7 +239,7 @@ pub stands_answered : (old new : Engine) (base : Base) (history : History) (name
     → EngineStandsFor new base (Asked name (ask.Request request) reply ∷ history)
 stands_answered old new base history name request reply stands can answers ids count durable =
     let before = state_of base history in
-    let memory = is_want_of_memory reply in
+    let memory = is_out_of_memory reply in
     let ledger = ledger_of base history in
     let answer : answer_by old before request ≡ answer_in base ledger request =
     ap (λ ids. node_answer ids before (suc (slice_index old.clock ids.me)) request) stands.ids
@@ -325,13 +325,13 @@ module _ (memory : coded.State) (before : State) (holds : Holds memory before) (
     abbrev picked : List (List ℕ)
     picked = (pick (entries_of holds.keeps.tuples) iterator fitting offset limit).tuples
 
-    pub tells_tuples : (tuples : List (List ℕ)) → tuples ≡ picked → total_bytes tuples ≤ longest_result → IsTold (Tuples tuples) select
+    pub tells_tuples : (tuples : List (List ℕ)) → tuples ≡ picked → total_bytes tuples ≤ max_result_size → IsTold (Tuples tuples) select
     tells_tuples tuples is short =
         inl (ap (λ t. Tuples t) is
         ∙ sym (ap (λ a. a.reply) (tuples_are_picked before (one_space memory before holds) space.0 index.0 limit offset iterator key same first fitting gives
-        (subst (λ t. total_bytes t ≤ longest_result) is short))))
+        (subst (λ t. total_bytes t ≤ max_result_size) is short))))
 
-    pub tells_too_long : (stop : SelectStop) → stop ≡ TooLong → ((stop ≡ TooLong) × (longest_result < total_bytes picked)) ⊎ (stop ≡ NoRoom)
+    pub tells_too_long : (stop : SelectStop) → stop ≡ TooLong → ((stop ≡ TooLong) × (max_result_size < total_bytes picked)) ⊎ (stop ≡ NoRoom)
         → IsTold (Refused ResultTooLong) select
     tells_too_long stop is (inl (same_stop, above)) =
         inl (sym (ap (λ a. a.reply) (result_is_too_long before (one_space memory before holds) space.0 index.0 limit offset iterator key same first fitting gives above)))

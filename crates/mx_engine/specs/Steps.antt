@@ -11,7 +11,7 @@ use Rattle.mx_model.specs.State.{State, test_space}
 use Rattle.mx_model.specs.Stored.{Holds}
 use Rattle.mx_model.specs.Answers.{Answer}
 use Rattle.mx_model.specs.Transactions.{state_after, clock_after}
-use Rattle.mx_model.specs.Histories.{node_answer, committed, writable_node, is_want_of_memory, is_write}
+use Rattle.mx_model.specs.Histories.{node_answer, committed, writable_node, is_out_of_memory, is_write}
 use Rattle.mx_engine.specs.declared.engine.Engine.{Engine}
 
 -- the reply is this answer's, or memory was missing
@@ -48,7 +48,7 @@ answer_by engine state request = node_answer engine.ids state (lsn_after engine)
 -- what the engine commits on this state, where it told this
 abbrev pub commits_by : Engine → State → Request → Reply → List Tx
 commits_by engine state request reply =
-    committed engine.ids.me (lsn_after engine) (is_want_of_memory reply) (answer_by engine state request).row
+    committed engine.ids.me (lsn_after engine) (is_out_of_memory reply) (answer_by engine state request).row
 
 -- the request was told its answer, and what that commits is stored; or memory was missing, and nothing is
 pub record Answers (old new : Engine) (state : State) (request : Request) (reply : Reply) : Type 0 where

@@ -1,7 +1,7 @@
 //! The engine.
 
 ghost use Rattle.std.specs.Prelude.{◌≡◌, ◌⊎◌, true, ◌<◌, ◌-◌, ◌^◌, ◌∷◌, [], Ok, suc, length, slice_index, slice_set, IfOk, MatchOption, MatchResult};
-ghost use Rattle.mx_vclock.specs.Vclocks.{most_lsn, IsNext};
+ghost use Rattle.mx_vclock.specs.Vclocks.{max_lsn, IsNext};
 ghost use Rattle.std.specs.List.{Contains};
 ghost use Rattle.std.specs.FinMap.{get};
 ghost use Rattle.mx_key.specs.Comparable.{comparable_of};
@@ -26,7 +26,7 @@ use crate::answer::Answer;
 use crate::pending::Pending;
 use mx_base::{ConnId, IndexId, Refusal, ReplicaId, SpaceId, TxnName};
 use mx_model::{
-    Ids, Keyed, LONGEST_TUPLE, Pick, Row, Rows, SelectStop, State, TEST_SPACE, Tx, Txs,
+    Ids, Keyed, MAX_TUPLE_SIZE, Pick, Row, Rows, SelectStop, State, TEST_SPACE, Tx, Txs,
     fault_refusal, index_missing, iterator_of, misfit_refusal, not_built,
 };
 use mx_msgpack::{Bytes, Tuples};
@@ -244,7 +244,7 @@ impl Engine {
         if space.0 != TEST_SPACE {
             return Err(Refusal::SpaceMissing { space });
         }
-        if tuple.len() > LONGEST_TUPLE {
+        if tuple.len() > MAX_TUPLE_SIZE {
             let bytes = tuple.len() as u64;
             return Err(Refusal::TupleTooLong { bytes });
         }
@@ -325,7 +325,7 @@ fn is_write(request: &Request) -> bool
 /// Goes on to the writable node's next lsn, where there is one.
 fn go_on(clock: &mut Vclock) -> Option<u64>
     ensures { MatchOption result
-        (most_lsn < suc (slice_index clock.old 1))
+        (max_lsn < suc (slice_index clock.old 1))
         (λ lsn. IsNext clock.old 1 lsn × (clock.new ≡ slice_set clock.old 1 lsn)) }
 {
     let lsn = clock.get(WRITABLE_NODE).saturating_add(1);

@@ -1,6 +1,6 @@
 use super::*;
 use mx_base::{ConnId, IndexId, Refusal, SpaceId, StreamId, TxnName, code_of, text_of};
-use mx_model::{Ids, LONGEST_TUPLE, Row, TEST_SPACE, Tx, bootstrap};
+use mx_model::{Ids, MAX_TUPLE_SIZE, Row, TEST_SPACE, Tx, bootstrap};
 use mx_msgpack::{Bytes, Tuples};
 use mx_request::Request;
 use mx_vclock::Vclock;
@@ -365,7 +365,7 @@ fn refuses(rt: HostRuntime) -> Result<(), Fail> {
 fn refuses_long_tuples(rt: HostRuntime) -> Result<(), Fail> {
     let alloc = rt.alloc();
     let long = too_long(alloc)?;
-    assert_eq!(rt; long.len(), LONGEST_TUPLE + 1);
+    assert_eq!(rt; long.len(), MAX_TUPLE_SIZE + 1);
     let table = [
         (1, 513, NO_SPACE),
         (1, 512, TOO_LONG),

@@ -5,7 +5,7 @@ use Rattle.std.proofs.lemmas.Bool.{cond_both, ltb-true, eqb-true, lt-ltb, le-ltb
 use Rattle.std.proofs.lemmas.List.{take_at, drop_at, length-append, length-replicate, nil_from_length}
 use Rattle.byteorder.specs.Endian.{big_number}
 use Rattle.mx_msgpack.specs.Grammar.{SpellsUnsigned}
-use Rattle.mx_frame.specs.Packets.{Part, Wrong, longest_packet, width_behind, allowed, size_at}
+use Rattle.mx_frame.specs.Packets.{Part, Wrong, max_packet_size, width_behind, allowed, size_at}
 use Rattle.mx_frame.specs.Spelled.{StartsNoUnsigned}
 
 -- a number begins with this byte, and so many bytes of it follow
@@ -87,7 +87,7 @@ pub enough_read : (leading width : ℕ) (rest : List ℕ) → Leads leading widt
 unfolding size_at
 enough_read leading zero rest l enough =
     let low = low_leading leading l in
-    let few : ltb longest_packet leading ≡ false = le-ltb _ _ (omega arith) in
+    let few : ltb max_packet_size leading ≡ false = le-ltb _ _ (omega arith) in
     rw (width_is leading 0 l, few) refl
 enough_read leading (suc width) rest l enough = rw (width_is leading (suc width) l, le-ltb (length rest) (suc width) enough) refl
 

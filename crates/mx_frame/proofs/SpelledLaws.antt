@@ -4,7 +4,7 @@ use Rattle.std.specs.Prelude.{replicate}
 use Rattle.std.proofs.lemmas.Bool.{cond_both, cases_lt, ltb-true, ltb-false, lt-ltb, le-ltb}
 use Rattle.std.proofs.lemmas.List.{take_at, drop_at, take-append-drop, length-append, length-take-le, length-replicate}
 use Rattle.mx_msgpack.specs.Grammar.{SpellsUnsigned}
-use Rattle.mx_frame.specs.Packets.{Size, Whole, Part, Wrong, longest_packet, width_behind, allowed, size_at, First, Packet, NeedMore, Broken, first_behind, first_of}
+use Rattle.mx_frame.specs.Packets.{Size, Whole, Part, Wrong, max_packet_size, width_behind, allowed, size_at, First, Packet, NeedMore, Broken, first_behind, first_of}
 use Rattle.mx_frame.specs.Spelled.{BeginsWithPacket, BeginsWithNoPacket, EndsInSize, EndsTooSoon}
 use Rattle.mx_frame.proofs.SizeLaws.{Leads, leads, number_of, digits_spell, enough_read, few_read, none_read, number_read, front_read, no_width, no_number}
 
@@ -25,15 +25,15 @@ number_described : (number : ℕ) (bytes front rest : List ℕ) → SpellsUnsign
     → Describes bytes (first_behind (allowed number rest))
 number_described number bytes front rest spelled parts =
     let P = λ (size : Size). Describes bytes (first_behind size) in
-    cond_both (nat_lt longest_packet number) Wrong (Whole number rest) P
+    cond_both (nat_lt max_packet_size number) Wrong (Whole number rest) P
     (λ t. inr (record { number = number; size = front; rest = rest; spelled = spelled; long = ltb-true _ _ t; parts = parts }))
     (λ f.
-    let short = ltb-false longest_packet number f in
+    let short = ltb-false max_packet_size number f in
     cond_both (nat_lt (length rest) number) NeedMore (Packet (take number rest) (drop number rest)) (Describes bytes)
     (λ t. inr (record { number = number; size = front; rest = rest; spelled = spelled; short = short; fewer = ltb-true _ _ t; parts = parts }))
     (λ f. whole short (ltb-false _ _ f)))
   where
-    whole : number ≤ longest_packet → number ≤ length rest → BeginsWithPacket bytes (take number rest) (drop number rest)
+    whole : number ≤ max_packet_size → number ≤ length rest → BeginsWithPacket bytes (take number rest) (drop number rest)
     whole short enough =
         let long : length (take number rest) ≡ number = length-take-le number rest enough in
         record {
@@ -95,7 +95,7 @@ number_found number bytes front rest spelled parts =
 packet_found : (bytes packet rest : List ℕ) → BeginsWithPacket bytes packet rest → first_of bytes ≡ Packet packet rest
 packet_found bytes packet rest b =
     let l = length-append packet rest in
-    let short : nat_lt longest_packet (length packet) ≡ false = le-ltb _ _ b.short in
+    let short : nat_lt max_packet_size (length packet) ≡ false = le-ltb _ _ b.short in
     let enough : nat_lt (length (packet ++ rest)) (length packet) ≡ false = le-ltb _ _ (omega arith) in
     number_found (length packet) bytes b.size (packet ++ rest) b.spelled b.parts
     ∙ rw (short, enough, take_at packet rest (length packet) refl, drop_at packet rest (length packet) refl) refl
@@ -104,13 +104,13 @@ none_found : (bytes : List ℕ) → BeginsWithNoPacket bytes → first_of bytes 
 none_found bytes (inl b) =
     first_from bytes Wrong (ap size_at b.parts ∙ none_read b.leading b.others (no_width b.leading b.none))
 none_found bytes (inr b) =
-    let long : nat_lt longest_packet b.number ≡ true = lt-ltb _ _ b.long in
+    let long : nat_lt max_packet_size b.number ≡ true = lt-ltb _ _ b.long in
     number_found b.number bytes b.size b.rest b.spelled b.parts ∙ rw long refl
 
 end_found : (bytes : List ℕ) → EndsTooSoon bytes → first_of bytes ≡ NeedMore
 end_found bytes (inl b) = first_from bytes Part (front_read b.number bytes b.missing b.some b.spelled)
 end_found bytes (inr b) =
-    let short : nat_lt longest_packet b.number ≡ false = le-ltb _ _ b.short in
+    let short : nat_lt max_packet_size b.number ≡ false = le-ltb _ _ b.short in
     let fewer : nat_lt (length b.rest) b.number ≡ true = lt-ltb _ _ b.fewer in
     number_found b.number bytes b.size b.rest b.spelled b.parts ∙ rw (short, fewer) refl
 

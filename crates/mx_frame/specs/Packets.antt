@@ -4,8 +4,8 @@ use Rattle.byteorder.specs.Endian.{big_number}
 use Rattle.mx_msgpack.specs.Readers.{Reader, all_from}
 
 -- the most bytes of a packet, without its size
-abbrev pub longest_packet : ℕ
-longest_packet = 2097152
+abbrev pub max_packet_size : ℕ
+max_packet_size = 2097152
 
 -- how many bytes of a number follow the leading byte of an unsigned: none where the byte is the number itself
 abbrev pub width_behind : ℕ → Option ℕ
@@ -26,7 +26,7 @@ pub data Size : Type 0 where
 
 -- a number above the limit is no size
 abbrev pub allowed : ℕ → List ℕ → Size
-allowed size rest = if nat_lt longest_packet size then Wrong else Whole size rest
+allowed size rest = if nat_lt max_packet_size size then Wrong else Whole size rest
 
 abbrev pub size_behind : (leading : ℕ) → Option ℕ → List ℕ → Size
 size_behind leading None rest = Wrong

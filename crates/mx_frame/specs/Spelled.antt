@@ -1,13 +1,13 @@
 -- What bytes begin with, in the words of the grammar of MessagePack.
 use Rattle.std.specs.Prelude.{◌≡◌, ◌⊎◌, ℕ, ◌<◌, ◌≤◌, List, ◌∷◌, ◌++◌, length}
 use Rattle.mx_msgpack.specs.Grammar.{SpellsUnsigned}
-use Rattle.mx_frame.specs.Packets.{longest_packet}
+use Rattle.mx_frame.specs.Packets.{max_packet_size}
 
 -- a packet stands first: its size in any spelling, and its bytes
 pub record BeginsWithPacket (bytes packet rest : List ℕ) : Type 0 where
   pub size : List ℕ
   pub spelled : SpellsUnsigned (length packet) size
-  pub short : length packet ≤ longest_packet
+  pub short : length packet ≤ max_packet_size
   pub parts : bytes ≡ size ++ (packet ++ rest)
 
 -- no unsigned number begins with this byte
@@ -27,7 +27,7 @@ pub record BeginsWithLongSize (bytes : List ℕ) : Type 0 where
   pub size : List ℕ
   pub rest : List ℕ
   pub spelled : SpellsUnsigned number size
-  pub long : longest_packet < number
+  pub long : max_packet_size < number
   pub parts : bytes ≡ size ++ rest
 
 -- no packet can begin with the bytes
@@ -47,7 +47,7 @@ pub record EndsInPacket (bytes : List ℕ) : Type 0 where
   pub size : List ℕ
   pub rest : List ℕ
   pub spelled : SpellsUnsigned number size
-  pub short : number ≤ longest_packet
+  pub short : number ≤ max_packet_size
   pub fewer : length rest < number
   pub parts : bytes ≡ size ++ rest
 

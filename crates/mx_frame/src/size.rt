@@ -7,7 +7,7 @@ ghost use Rattle.mx_frame.specs.Views.{IsSize};
 use byteorder::{BigEndian, ByteOrder};
 
 /// The most bytes of a packet, without its size.
-const LONGEST_PACKET: u64 = 2_097_152;
+const MAX_PACKET_SIZE: u64 = 2_097_152;
 
 /// What bytes begin with, where a packet's size is expected.
 #[derive(Clone, Copy, Debug)]
@@ -50,7 +50,7 @@ fn size_behind(width: usize, rest: &[u8]) -> Size
         return Size::Part;
     }
     let size = BigEndian::read_uint(rest, width);
-    if size > LONGEST_PACKET {
+    if size > MAX_PACKET_SIZE {
         return Size::Wrong;
     }
     Size::Whole {

@@ -7,10 +7,10 @@ use Rattle.mx_xlog.specs.Blocks.{IsData}
 use Rattle.mx_model.specs.declared.row.Row.{Row}
 use Rattle.mx_model.specs.declared.row.Row.TheVariants.{Replaced}
 use Rattle.mx_model.specs.declared.tx.Tx.{Tx}
-use Rattle.mx_model.specs.Rows.{IsTransaction, IsRow, row_text, body_text, transaction_text, longest_body, type_key, replace_type, replica_key, lsn_key}
+use Rattle.mx_model.specs.Rows.{IsTransaction, IsRow, row_text, body_text, transaction_text, max_body_size, type_key, replace_type, replica_key, lsn_key}
 
 -- the body of a row that can be written is bounded
-body_bounded : (row : Row) → IsRow row → length (body_text row) ≤ longest_body
+body_bounded : (row : Row) → IsRow row → length (body_text row) ≤ max_body_size
 body_bounded (Replaced space tuple) is = is.2
 
 in_parts : (a b c : List ℕ) → length (((a ++ b) ++ c) ++ []) ≡ (length a + length b) + length c

@@ -23,7 +23,7 @@ const LSN_KEY: u64 = 0x03;
 const NUMBER_KEY: u64 = 0x08;
 
 /// The key of what says whether a row is the last of its transaction.
-const LAST_KEY: u64 = 0x09;
+const IS_LAST_KEY: u64 = 0x09;
 
 /// The key of the space that a row changes.
 const SPACE_KEY: u64 = 0x10;
@@ -35,7 +35,7 @@ const TUPLE_KEY: u64 = 0x21;
 const REPLACE: u64 = 3;
 
 /// The most bytes that a row's body has, spelled shortest.
-const LONGEST_BODY: usize = 2_097_120;
+const MAX_BODY_SIZE: usize = 2_097_120;
 
 /// How many bytes a body has beside the space's number and the tuple, spelled shortest.
 const BODY_KEYS: usize = 3;
@@ -102,7 +102,7 @@ fn replaced_in(body: Pairs<'_>) -> Option<(u32, &[u8])>
 pub(crate) fn short_enough(space: u32, tuple: &[u8]) -> Option<(u32, &[u8])>
     ensures { option_map (λ x. Replaced x.0 x.1.now) result ≡ short_enough (Replaced space tuple.now) }
 {
-    if tuple.len() > LONGEST_BODY - BODY_KEYS - spelled_len(space) {
+    if tuple.len() > MAX_BODY_SIZE - BODY_KEYS - spelled_len(space) {
         return None;
     }
     Some((space, tuple))
@@ -151,5 +151,5 @@ fn stands_alone(header: Pairs<'_>) -> bool
     if value_under(NUMBER_KEY, header).is_none() {
         return true;
     }
-    number_under(NUMBER_KEY, header) == Some(0) && number_under(LAST_KEY, header) == Some(1)
+    number_under(NUMBER_KEY, header) == Some(0) && number_under(IS_LAST_KEY, header) == Some(1)
 }

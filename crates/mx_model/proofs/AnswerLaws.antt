@@ -13,8 +13,8 @@ use Rattle.mx_key.specs.Ranges.{range_of}
 use Rattle.mx_model.specs.declared.reply.Reply.TheVariants.{Tuples}
 use Rattle.mx_model.specs.State as state
 use Rattle.mx_model.specs.State.{State, test_space, test_name, test_parts, key_in}
-use Rattle.mx_model.specs.Picks.{Selection, pick, entries_of, total_bytes, longest_result}
-use Rattle.mx_model.specs.Answers.{Answer, Replaced, refused_after, space_read, schema_reads, range_reads, in_space, answered, misfit_refusal, selected_by, selected, fault_refusal, replaced_by, replaced, longest_tuple}
+use Rattle.mx_model.specs.Picks.{Selection, pick, entries_of, total_bytes, max_result_size}
+use Rattle.mx_model.specs.Answers.{Answer, Replaced, refused_after, space_read, schema_reads, range_reads, in_space, answered, misfit_refusal, selected_by, selected, fault_refusal, replaced_by, replaced, max_tuple_size}
 use Rattle.mx_model.proofs.StateLaws.{HasOneSpace}
 
 -- a space that isn't the one there is, is missing
@@ -58,14 +58,14 @@ module _ (now : State) (has : HasOneSpace now) (space index limit offset : ℕ) 
           else record { reply = Tuples found.tuples; row = None; reads = schema_reads space ++ range_reads space 0 found.read }
 
       -- the tuples have too many bytes
-      pub result_is_too_long : longest_result < total_bytes found.tuples
+      pub result_is_too_long : max_result_size < total_bytes found.tuples
           → select ≡ refused_after (schema_reads space ++ range_reads space 0 (Some (range_of iterator fitting))) ResultTooLong
-      result_is_too_long above = by_range ∙ ap answer_by (lt-ltb longest_result (total_bytes found.tuples) above)
+      result_is_too_long above = by_range ∙ ap answer_by (lt-ltb max_result_size (total_bytes found.tuples) above)
 
       -- they are answered
-      pub tuples_are_picked : total_bytes found.tuples ≤ longest_result
+      pub tuples_are_picked : total_bytes found.tuples ≤ max_result_size
           → select ≡ record { reply = Tuples found.tuples; row = None; reads = schema_reads space ++ range_reads space 0 found.read }
-      tuples_are_picked short = by_range ∙ ap answer_by (le-ltb longest_result (total_bytes found.tuples) short)
+      tuples_are_picked short = by_range ∙ ap answer_by (le-ltb max_result_size (total_bytes found.tuples) short)
 
 module _ (now : State) (has : HasOneSpace now) (space : ℕ) (tuple : List ℕ) (same : space ≡ test_space) where
   abbrev put : Answer
@@ -76,12 +76,12 @@ module _ (now : State) (has : HasOneSpace now) (space : ℕ) (tuple : List ℕ) 
       if long then refused_after (schema_reads space) (TupleTooLong (length tuple)) else replaced_by space tuple (key_in test_parts tuple)
 
   -- a tuple is too long
-  pub tuple_is_too_long : longest_tuple < length tuple → put ≡ refused_after (schema_reads space) (TupleTooLong (length tuple))
-  tuple_is_too_long above = space_is_there now has space (λ _. replaced space tuple) same ∙ ap put_by (lt-ltb longest_tuple (length tuple) above)
+  pub tuple_is_too_long : max_tuple_size < length tuple → put ≡ refused_after (schema_reads space) (TupleTooLong (length tuple))
+  tuple_is_too_long above = space_is_there now has space (λ _. replaced space tuple) same ∙ ap put_by (lt-ltb max_tuple_size (length tuple) above)
 
-  module _ (short : length tuple ≤ longest_tuple) where
+  module _ (short : length tuple ≤ max_tuple_size) where
     by_primary_key : put ≡ replaced_by space tuple (key_in test_parts tuple)
-    by_primary_key = space_is_there now has space (λ _. replaced space tuple) same ∙ ap put_by (le-ltb longest_tuple (length tuple) short)
+    by_primary_key = space_is_there now has space (λ _. replaced space tuple) same ∙ ap put_by (le-ltb max_tuple_size (length tuple) short)
 
     -- it has no primary key
     pub tuple_has_no_key : (fault : KeyFault) → key_in test_parts tuple ≡ Err fault → put ≡ refused_after (schema_reads space) (fault_refusal fault)

@@ -4,7 +4,7 @@ use Rattle.std.specs.Prelude.{◌==◌, ◌&&◌, Option, Some, None, Result, Ok
 use Rattle.std.specs.FinMap as map
 use Rattle.std.proofs.lemmas.Bool.{eq-eqb}
 use Rattle.std.proofs.lemmas.Bool.Decides.{nat_tests}
-use Rattle.mx_vclock.specs.Vclocks.{most_lsn}
+use Rattle.mx_vclock.specs.Vclocks.{max_lsn}
 use Rattle.mx_base.specs.declared.refusal.Refusal.TheVariants.{ReadOnly, LsnsUsedUp, TupleTooLong}
 use Rattle.mx_msgpack.proofs.SpellingLaws.{shortest_length}
 use Rattle.mx_msgpack.specs.Spelling.{shortest_unsigned}
@@ -20,11 +20,11 @@ use Rattle.mx_model.specs.State as state
 use Rattle.mx_model.specs.State.{State, test_parts, key_in}
 use Rattle.mx_key.specs.declared.fault.KeyFault.{KeyFault}
 use Rattle.mx_key.specs.Keys.{Key}
-use Rattle.mx_model.specs.Answers.{Answer, answer_to, refused, refused_after, schema_reads, iterator_of, replaced, replaced_by, longest_tuple, in_space, state_after_rows}
+use Rattle.mx_model.specs.Answers.{Answer, answer_to, refused, refused_after, schema_reads, iterator_of, replaced, replaced_by, max_tuple_size, in_space, state_after_rows}
 use Rattle.mx_model.specs.Transactions.{state_after, clock_after, clock_after_one}
 use Rattle.mx_model.specs.Rows.{IsRow, space_key, tuple_key}
 use Rattle.mx_model.specs.Files.{AllFollow, takes_row}
-use Rattle.mx_model.specs.Histories.{Base, History, Asked, Left, Took, Confirmed, Ledger, IsLegal, IsReply, is_want_of_memory, writable_node, numbered, committed, commits_of, ledger_of, journal_of, state_in, clock_in, next_lsn}
+use Rattle.mx_model.specs.Histories.{Base, History, Asked, Left, Took, Confirmed, Ledger, IsLegal, IsReply, is_out_of_memory, writable_node, numbered, committed, commits_of, ledger_of, journal_of, state_in, clock_in, next_lsn}
 use Rattle.mx_model.proofs.HistoryLaws.{committed-no_row, select_no_row, node_no_row}
 
 -- transactions that follow, and then others that follow those
@@ -52,10 +52,10 @@ writable : (me : ℕ) → not (me == writable_node) ≡ false → me ≡ writabl
 writable me test = grind (arith, nat_tests)
 
 -- a tuple that isn't too long makes a row that can be written
-row_can_be_written : (space : ℕ) (tuple : List ℕ) → space < 2 ^ 32 → IsInnerArray tuple → nat_lt longest_tuple (length tuple) ≡ false
+row_can_be_written : (space : ℕ) (tuple : List ℕ) → space < 2 ^ 32 → IsInnerArray tuple → nat_lt max_tuple_size (length tuple) ≡ false
     → IsRow (Replaced space tuple)
 row_can_be_written space tuple fits inner short =
-    let most = below longest_tuple (length tuple) short in
+    let most = below max_tuple_size (length tuple) short in
     let number = shortest_length space in
     let long = length-append (0x82 ∷ space_key ∷ shortest_unsigned space) (tuple_key ∷ tuple) in
     (fits, inner, omega arith)
@@ -71,35 +71,35 @@ module _ (now : State) (clock : List ℕ) (replica space : ℕ) (tuple : List �
 
   -- a commit of the row
   one_follows : (w : Bool) → IsRow (Replaced space tuple) → replica ≡ writable_node → takes_row now (Replaced space tuple) ≡ true
-      → nat_lt most_lsn (lsn_of clock replica) ≡ false
+      → nat_lt max_lsn (lsn_of clock replica) ≡ false
       → AllFollow now clock (committed replica (lsn_of clock replica) w (Some (Replaced space tuple)))
   one_follows true can node takes within = tt
   one_follows false can node takes within = (
-    record { replica = (omega arith, omega arith); first = (omega arith, below most_lsn (lsn_of clock replica) within); row = (Replaced space tuple, refl, can) },
-    (ap (λ b. b && nat_le ((lsn_of clock replica + 1) - 1) most_lsn) (eq-eqb (lsn_of clock replica) (lsn_of clock replica) refl) ∙ not_above most_lsn (lsn_of clock replica) within),
+    record { replica = (omega arith, omega arith); first = (omega arith, below max_lsn (lsn_of clock replica) within); row = (Replaced space tuple, refl, can) },
+    (ap (λ b. b && nat_le ((lsn_of clock replica + 1) - 1) max_lsn) (eq-eqb (lsn_of clock replica) (lsn_of clock replica) refl) ∙ not_above max_lsn (lsn_of clock replica) within),
     (ap (λ b. b && true) takes),
     tt,
   )
 
   numbered_follows : (above : Bool) (key : Key) → IsRow (Replaced space tuple) → replica ≡ writable_node → takes_row now (Replaced space tuple) ≡ true
-      → nat_lt most_lsn (lsn_of clock replica) ≡ above
+      → nat_lt max_lsn (lsn_of clock replica) ≡ above
       → AllFollow now clock (commits (if above then refused_after (schema_reads space) LsnsUsedUp else replaced_by space tuple (Ok key)))
   numbered_follows true key can node takes test = no_commit now clock replica (lsn_of clock replica) without_memory
   numbered_follows false key can node takes test = one_follows without_memory can node takes test
 
   -- what a tuple with this primary key, or none, commits
-  keyed_follows : (key : Result Key KeyFault) → key_in test_parts tuple ≡ key → nat_lt longest_tuple (length tuple) ≡ false
+  keyed_follows : (key : Result Key KeyFault) → key_in test_parts tuple ≡ key → nat_lt max_tuple_size (length tuple) ≡ false
       → replica ≡ writable_node → is_some (map.get now space) ≡ true
       → AllFollow now clock (commits (numbered (lsn_of clock replica) (replaced_by space tuple key) (replaced_by space tuple key).row))
   keyed_follows (Err fault) is short node there = no_commit now clock replica (lsn_of clock replica) without_memory
   keyed_follows (Ok key) is short node there =
       let takes : takes_row now (Replaced space tuple) ≡ true =
-      ap (λ b. b && nat_le (length tuple) longest_tuple && is_ok (key_in test_parts tuple)) there
-      ∙ ap (λ b. b && is_ok (key_in test_parts tuple)) (short_enough longest_tuple (length tuple) short) ∙ ap is_ok is in
-      numbered_follows (nat_lt most_lsn (lsn_of clock replica)) key (row_can_be_written space tuple fits inner short) node takes refl
+      ap (λ b. b && nat_le (length tuple) max_tuple_size && is_ok (key_in test_parts tuple)) there
+      ∙ ap (λ b. b && is_ok (key_in test_parts tuple)) (short_enough max_tuple_size (length tuple) short) ∙ ap is_ok is in
+      numbered_follows (nat_lt max_lsn (lsn_of clock replica)) key (row_can_be_written space tuple fits inner short) node takes refl
 
   -- what a REPLACE in a space that is there commits
-  replacing_follows : (long : Bool) → nat_lt longest_tuple (length tuple) ≡ long → replica ≡ writable_node → is_some (map.get now space) ≡ true
+  replacing_follows : (long : Bool) → nat_lt max_tuple_size (length tuple) ≡ long → replica ≡ writable_node → is_some (map.get now space) ≡ true
       → AllFollow now clock (commits (numbered (lsn_of clock replica)
       (if long then refused_after (schema_reads space) (TupleTooLong (length tuple)) else replaced_by space tuple (key_in test_parts tuple))
       (if long then refused_after (schema_reads space) (TupleTooLong (length tuple)) else replaced_by space tuple (key_in test_parts tuple)).row))
@@ -113,16 +113,16 @@ module _ (now : State) (clock : List ℕ) (replica space : ℕ) (tuple : List �
   replaced_follows true found node there = no_commit now clock replica (lsn_of clock replica) without_memory
   replaced_follows false None node there = no_commit now clock replica (lsn_of clock replica) without_memory
   replaced_follows false (Some tuples) node there =
-      replacing_follows (nat_lt longest_tuple (length tuple)) refl (writable replica node) (ap is_some there)
+      replacing_follows (nat_lt max_tuple_size (length tuple)) refl (writable replica node) (ap is_some there)
 
 -- a request that leaves no row commits nothing
 none_follows : (base : Base) (ledger : Ledger) (asked : Request) (reply : Reply) → (answer_to (state_in base ledger) asked).row ≡ None
     → AllFollow (state_in base ledger) (clock_in base ledger) (commits_of base ledger (ask.Request asked) reply)
 none_follows base ledger asked reply none =
     let lsn = next_lsn base ledger in
-    subst (λ row. AllFollow (state_in base ledger) (clock_in base ledger) (committed base.ids.me lsn (is_want_of_memory reply) row))
+    subst (λ row. AllFollow (state_in base ledger) (clock_in base ledger) (committed base.ids.me lsn (is_out_of_memory reply) row))
     (sym (node_no_row base.ids (state_in base ledger) lsn asked none))
-    (no_commit (state_in base ledger) (clock_in base ledger) base.ids.me lsn (is_want_of_memory reply))
+    (no_commit (state_in base ledger) (clock_in base ledger) base.ids.me lsn (is_out_of_memory reply))
 
 -- what a request commits
 request_follows : (base : Base) (ledger : Ledger) (asked : Request) (reply : Reply) → IsAskable asked
@@ -131,7 +131,7 @@ request_follows base ledger (request.Select space index limit offset iterator ke
     none_follows base ledger (request.Select space index limit offset iterator key) reply
     (select_no_row space.0 index.0 limit offset (iterator_of iterator) key (map.get (state_in base ledger) space.0))
 request_follows base ledger (request.Replace space tuple) reply can =
-    replaced_follows (state_in base ledger) (clock_in base ledger) base.ids.me space.0 tuple (is_want_of_memory reply) can.0 can.1
+    replaced_follows (state_in base ledger) (clock_in base ledger) base.ids.me space.0 tuple (is_out_of_memory reply) can.0 can.1
     (not (base.ids.me == writable_node)) (map.get (state_in base ledger) space.0) refl refl
 request_follows base ledger (request.Insert space tuple) reply can = none_follows base ledger (request.Insert space tuple) reply refl
 request_follows base ledger (request.Update space index first key operations) reply can =

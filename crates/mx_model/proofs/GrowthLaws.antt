@@ -7,7 +7,7 @@ use Rattle.std.proofs.lemmas.Bool.{eqb-true, leb-true}
 use Rattle.std.proofs.Math.ListN.{length-set}
 use Rattle.std.proofs.lemmas.List.Sums.{sum_by-set}
 use Rattle.std.proofs.lemmas.List.Elements.{All-set}
-use Rattle.mx_vclock.specs.Vclocks.{IsVclock, most_lsn}
+use Rattle.mx_vclock.specs.Vclocks.{IsVclock, max_lsn}
 use Rattle.mx_msgpack.specs.Readers.{first_and_others, some_from, all_from}
 use Rattle.mx_msgpack.proofs.Options.{bind_some, same_some}
 use Rattle.mx_model.specs.declared.tx.Tx.{Tx}
@@ -95,7 +95,7 @@ pub after_transaction-grows : (transaction : Tx) (before after : Reached) → Is
 after_transaction-grows transaction before after read sound is =
     let f = follows_is _ _ _ _ _ is in
     let first : transaction.first ≡ suc (slice_index before.clock transaction.replica) = eqb-true _ _ f.0 in
-    let most : last_lsn transaction ≤ most_lsn = leb-true _ _ f.1 in
+    let most : last_lsn transaction ≤ max_lsn = leb-true _ _ f.1 in
     let whole = sound.whole in
     let low = read.replica in
     let last : last_lsn transaction ≡ transaction.first = ap (λ (rows : List Row). (transaction.first + length rows) - 1) read.rows ∙ omega arith in
@@ -106,7 +106,7 @@ after_transaction-grows transaction before after read sound is =
     subst (Grows before) f.2 (record {
       sound = record {
         whole = length-set before.clock transaction.replica (last_lsn transaction) ∙ whole;
-        bounded = All-set (λ lsn. lsn ≤ most_lsn) before.clock transaction.replica (last_lsn transaction) most sound.bounded;
+        bounded = All-set (λ lsn. lsn ≤ max_lsn) before.clock transaction.replica (last_lsn transaction) most sound.bounded;
       };
       ids = refl;
       at_least = omega arith;

@@ -13,7 +13,7 @@ use Rattle.mx_model.specs.declared.tx.Tx.{Tx}
 use Rattle.mx_model.specs.declared.ids.Ids.{Ids}
 use Rattle.mx_model.specs.State as state
 use Rattle.mx_model.specs.State.{State, test_name, test_parts}
-use Rattle.mx_model.specs.Picks.{Selection, pick, entries_of, total_bytes, longest_result}
+use Rattle.mx_model.specs.Picks.{Selection, pick, entries_of, total_bytes, max_result_size}
 use Rattle.mx_key.specs.declared.fault.Misfit.{Misfit}
 use Rattle.mx_key.specs.declared.iterator.IterKind.{IterKind}
 use Rattle.mx_key.specs.Keys.{Key}
@@ -21,7 +21,7 @@ use Rattle.mx_key.specs.Parts.{given}
 use Rattle.mx_key.specs.Ranges.{Range, range_of}
 use Rattle.mx_model.specs.Answers.{answer_to, refused, refused_after, in_space, schema_reads, range_reads, answered, selected_by, selected, state_after_rows}
 use Rattle.mx_model.specs.Transactions.{state_after, clock_after, clock_after_one}
-use Rattle.mx_model.specs.Histories.{Base, Asked, Left, Took, Confirmed, History, Ledger, is_want_of_memory, node_answer, numbered, committed, commits_of, ledger_of, journal_of, state_of, clock_of, reply_to, IsReply, IsLegal, asks_in, HasMemory, asking, leaving, step_for, history_from, is_write, writable_node}
+use Rattle.mx_model.specs.Histories.{Base, Asked, Left, Took, Confirmed, History, Ledger, is_out_of_memory, node_answer, numbered, committed, commits_of, ledger_of, journal_of, state_of, clock_of, reply_to, IsReply, IsLegal, asks_in, HasMemory, asking, leaving, step_for, history_from, is_write, writable_node}
 
 pub state_after-append : (base : State) (xs ys : List Tx)
     → state_after base (xs ++ ys) ≡ state_after (state_after base xs) ys
@@ -41,12 +41,12 @@ history_from-append base earlier [] asked = refl
 history_from-append base earlier (first ∷ others) asked =
     history_from-append base (step_for base (ledger_of base earlier) first ∷ earlier) others asked
 
-told_refusal : (reply : Reply) → reply ≡ Refused OutOfMemory → is_want_of_memory reply ≡ true
-told_refusal reply told = ap is_want_of_memory told
+told_refusal : (reply : Reply) → reply ≡ Refused OutOfMemory → is_out_of_memory reply ≡ true
+told_refusal reply told = ap is_out_of_memory told
 
 -- a reply that isn't for want of memory is the one that the ledger demands
 pub reply_is_demanded : (base : Base) (ledger : Ledger) (ask : Ask) (reply : Reply)
-    → IsReply base ledger ask reply → is_want_of_memory reply ≡ false → reply ≡ reply_to base ledger ask
+    → IsReply base ledger ask reply → is_out_of_memory reply ≡ false → reply ≡ reply_to base ledger ask
 reply_is_demanded base ledger (ask.Refused refusal) reply told memory = told
 reply_is_demanded base ledger ask.Leave reply told memory = absurd told
 reply_is_demanded base ledger (ask.Request request) reply (can, inl told) memory = told
@@ -82,7 +82,7 @@ journal_of_asking base (Confirmed upto ∷ earlier) = journal_of_asking base ear
 
 -- a step that was told what the ledger demands is the one for its ask
 asked_step : (base : Base) (ledger : Ledger) (name : TxnName) (asked : Ask) (reply : Reply)
-    → IsReply base ledger asked reply → is_want_of_memory reply ≡ false → Asked name asked reply ≡ step_for base ledger (name, asked)
+    → IsReply base ledger asked reply → is_out_of_memory reply ≡ false → Asked name asked reply ≡ step_for base ledger (name, asked)
 asked_step base ledger name (ask.Refused refusal) reply told memory = ap (Asked name (ask.Refused refusal)) told
 asked_step base ledger name ask.Leave reply told memory = absurd told
 asked_step base ledger name (ask.Request request) reply told memory =
@@ -138,9 +138,9 @@ pub committed-no_row : (replica lsn : ℕ) (without_memory : Bool) → committed
 committed-no_row replica lsn true = refl
 committed-no_row replica lsn false = refl
 
-answered_no_row : (space index : ℕ) (whole : Range) (found : Selection) (long : Bool) → nat_lt longest_result (total_bytes found.tuples) ≡ long
+answered_no_row : (space index : ℕ) (whole : Range) (found : Selection) (long : Bool) → nat_lt max_result_size (total_bytes found.tuples) ≡ long
     → (answered space index whole found).row ≡ None
-answered_no_row space index whole found long test = by_test (nat_lt longest_result (total_bytes found.tuples))
+answered_no_row space index whole found long test = by_test (nat_lt max_result_size (total_bytes found.tuples))
   where
     by_test : (long : Bool)
         → (if long then refused_after (schema_reads space ++ range_reads space index (Some whole)) ResultTooLong

@@ -12,7 +12,7 @@ use Rattle.std.proofs.Math.ListN.{length-set}
 use Rattle.std.proofs.lemmas.List.Sums.{sum_by-set}
 use Rattle.std.proofs.lemmas.List.Elements.{All-set}
 use Rattle.uuid.specs.Text.{hyphenated_text, lower}
-use Rattle.mx_vclock.specs.Vclocks.{IsVclock, most_lsn}
+use Rattle.mx_vclock.specs.Vclocks.{IsVclock, max_lsn}
 use Rattle.mx_xlog.specs.declared.head.Head.{Head}
 use Rattle.mx_xlog.specs.Reading.{blocks_of}
 use Rattle.mx_xlog.proofs.OneLaws.{one_header}
@@ -329,7 +329,7 @@ one_came : (clock : List ℕ) (transaction : Tx) → IsVclock clock → IsTransa
 one_came clock transaction sound is follow =
     let tests = and_parts _ _ follow in
     let first : transaction.first ≡ suc (slice_index clock transaction.replica) = eqb-true _ _ tests.0 in
-    let most : last_lsn transaction ≤ most_lsn = leb-true _ _ tests.1 in
+    let most : last_lsn transaction ≤ max_lsn = leb-true _ _ tests.1 in
     let whole = sound.whole in
     let low = is.replica.1 in
     let last : last_lsn transaction ≡ transaction.first = ap (λ (rows : List Row). (transaction.first + length rows) - 1) is.row.1 ∙ omega arith in
@@ -337,7 +337,7 @@ one_came clock transaction sound is follow =
     sum_by-set (λ x. x) clock transaction.replica (last_lsn transaction) 0 (omega arith) in (
       record {
         whole = length-set clock transaction.replica (last_lsn transaction) ∙ whole;
-        bounded = All-set (λ lsn. lsn ≤ most_lsn) clock transaction.replica (last_lsn transaction) most sound.bounded;
+        bounded = All-set (λ lsn. lsn ≤ max_lsn) clock transaction.replica (last_lsn transaction) most sound.bounded;
       },
       omega arith,
     )

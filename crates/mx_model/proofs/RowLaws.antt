@@ -20,7 +20,7 @@ use Rattle.mx_xlog.specs.Blocks.{IsData}
 use Rattle.mx_model.specs.declared.row.Row.{Row}
 use Rattle.mx_model.specs.declared.row.Row.TheVariants.{Replaced}
 use Rattle.mx_model.specs.declared.tx.Tx.{Tx}
-use Rattle.mx_model.specs.Rows.{type_key, replica_key, lsn_key, number_key, space_key, tuple_key, replace_type, longest_body, body_text, row_text, rows_text, transaction_text, IsTuple, IsRow, IsTransaction, map_at, later, value_under, number_under, stands_alone, only_alone, tuple_shown, tuple_at, short_enough, replaced_in, row_in, replica_in, transaction_at, only_whole, transactions_in}
+use Rattle.mx_model.specs.Rows.{type_key, replica_key, lsn_key, number_key, space_key, tuple_key, replace_type, max_body_size, body_text, row_text, rows_text, transaction_text, IsTuple, IsRow, IsTransaction, map_at, later, value_under, number_under, stands_alone, only_alone, tuple_shown, tuple_at, short_enough, replaced_in, row_in, replica_in, transaction_at, only_whole, transactions_in}
 use Rattle.mx_model.proofs.PairLaws.{map_again, map_at-Advances, first_pair, last_pair, number_there}
 
 -- ---- a transaction by its parts
@@ -228,7 +228,7 @@ replaced_again space tuple (below, is, short) =
     let under = body_under space tuple (omega arith) is in
     by_parts (2, body_pairs space tuple) space tuple (shortest_unsigned space ++ tuple_pair tuple) tuple (tuple_pair tuple)
     (under space_key) (space_again space (tuple_pair tuple) below) (under tuple_key) (tuple_again tuple is)
-    ∙ cond-true _ _ _ (le-leb (length (body_text (Replaced space tuple))) longest_body short)
+    ∙ cond-true _ _ _ (le-leb (length (body_text (Replaced space tuple))) max_body_size short)
 
 -- ---- a row
 
@@ -282,7 +282,7 @@ row_length replica lsn row =
     let pairs = length-append (shortest_unsigned replica) (lsn_pair lsn) in
     omega arith
 
-short_body : (row : Row) → IsRow row → length (body_text row) ≤ longest_body
+short_body : (row : Row) → IsRow row → length (body_text row) ≤ max_body_size
 short_body (Replaced space tuple) (fits, is, short) = short
 
 -- a transaction fits into a block

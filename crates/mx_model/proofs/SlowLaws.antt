@@ -30,8 +30,8 @@ use Rattle.mx_model.specs.declared.selecting.SelectStop.TheVariants.{TooLong, No
 use Rattle.mx_model.specs.declared.slow.Slow.{Slow}
 use Rattle.mx_model.specs.Stored.{Kept}
 use Rattle.mx_model.specs.State.{State, test_space, test_parts, key_in}
-use Rattle.mx_model.specs.Picks.{pick, entries_of, directed, window, total_bytes, longest_result}
-use Rattle.mx_model.specs.Answers.{Answer, Read, Replaced, answer_to, iterator_of, refused_after, space_read, schema_reads, in_space, selected, replaced, fault_refusal, longest_tuple, state_after_rows}
+use Rattle.mx_model.specs.Picks.{pick, entries_of, directed, window, total_bytes, max_result_size}
+use Rattle.mx_model.specs.Answers.{Answer, Read, Replaced, answer_to, iterator_of, refused_after, space_read, schema_reads, in_space, selected, replaced, fault_refusal, max_tuple_size, state_after_rows}
 use Rattle.mx_model.specs.Slow.{IsSlow, kept_list}
 use Rattle.mx_model.proofs.AnswerLaws as answers
 use Rattle.mx_model.proofs.HistoryLaws.{select_no_row}
@@ -64,19 +64,19 @@ module _ (slow : Slow) (before : State) (is : IsSlow slow before) (space index l
   abbrev select : Answer
   select = in_space space (get before space) (selected space index limit offset iterator key)
 
-  pub slow_finds : (tuples : List (List ℕ)) → tuples ≡ lent_by range → total_bytes tuples ≤ longest_result → Tuples tuples ≡ select.reply
+  pub slow_finds : (tuples : List (List ℕ)) → tuples ≡ lent_by range → total_bytes tuples ≤ max_result_size → Tuples tuples ≡ select.reply
   slow_finds tuples found short =
       let picked = found ∙ lent_is ∙ found_is in
       ap (λ t. Tuples t) picked
       ∙ sym (ap (λ answer. answer.reply)
       (answers.tuples_are_picked before (one_space (kept_list slow.kept.items) before is.keeps) space index limit offset iterator key same first fitting fits
-      (subst (λ t. total_bytes t ≤ longest_result) picked short)))
+      (subst (λ t. total_bytes t ≤ max_result_size) picked short)))
 
-  pub slow_finds_too_much : longest_result < total_bytes (lent_by range) → Refused ResultTooLong ≡ select.reply
+  pub slow_finds_too_much : max_result_size < total_bytes (lent_by range) → Refused ResultTooLong ≡ select.reply
   slow_finds_too_much above =
       sym (ap (λ answer. answer.reply)
       (answers.result_is_too_long before (one_space (kept_list slow.kept.items) before is.keeps) space index limit offset iterator key same first fitting fits
-      (subst (λ t. longest_result < total_bytes t) (lent_is ∙ found_is) above)))
+      (subst (λ t. max_result_size < total_bytes t) (lent_is ∙ found_is) above)))
 
 -- an answer that leaves no row leaves the program as it was
 pub keeps_without_row : (slow : Slow) (before : State) (answer : Answer) → IsSlow slow before → answer.row ≡ None
@@ -112,10 +112,10 @@ module _ (slow : Slow) (before : State) (is : IsSlow slow before) (space : ℕ) 
       told (SpaceMissing (record { 0 = space })) (space_read space ∷ []) (answers.space_is_missing before has space (λ _. replaced space tuple) other)
 
   module _ (same : space ≡ test_space) where
-    pub slow_refuses_length : longest_tuple < length tuple → Told (TupleTooLong (length tuple))
+    pub slow_refuses_length : max_tuple_size < length tuple → Told (TupleTooLong (length tuple))
     slow_refuses_length above = told (TupleTooLong (length tuple)) (schema_reads space) (answers.tuple_is_too_long before has space tuple same above)
 
-    module _ (short : length tuple ≤ longest_tuple) where
+    module _ (short : length tuple ≤ max_tuple_size) where
       pub slow_refuses_fault : (fault : KeyFault) (refusal : Refusal) → refusal ≡ fault_refusal fault
           → (key_in test_parts tuple ≡ Err fault) ⊎ (fault ≡ NoKeyMemory) → (fault ≡ NoKeyMemory → ⊥) → Told refusal
       slow_refuses_fault fault refusal is (inl keyed) other =

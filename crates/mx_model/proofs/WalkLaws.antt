@@ -5,7 +5,7 @@ use Rattle.std.specs.Prelude.{All, Option, Some, None, Result, Ok, Err, if◌the
 use Rattle.std.specs.List.{filter, AllByRecursion}
 use Rattle.std.specs.Cmp.Lexicographic.{bytes_decides}
 use Rattle.std.proofs.lemmas.List.Elements.{All-cons, All-nil}
-use Rattle.mx_vclock.specs.Vclocks.{IsVclock, most_lsn}
+use Rattle.mx_vclock.specs.Vclocks.{IsVclock, max_lsn}
 use Rattle.mx_model.specs.declared.ids.Ids.{Ids}
 use Rattle.mx_model.specs.declared.damage.Damage.{Damage}
 use Rattle.mx_model.specs.Files.{FileRead, Named, Reached, journal_name, same_bytes, ids_in, ids_or, nothing_yet, after_head, after_files, and_then}
@@ -186,6 +186,6 @@ without_newest ((name, Some file) ∷ files) before end sound is = by_file (with
 pub nothing_is_sound : IsVclock nothing_yet.clock
 nothing_is_sound = record { whole = refl; bounded = zeros 32 }
   where
-    zeros : (count : ℕ) → All (λ lsn. lsn ≤ most_lsn) (replicate count 0)
-    zeros zero = All-nil (λ lsn. lsn ≤ most_lsn)
-    zeros (suc count) = All-cons (λ lsn. lsn ≤ most_lsn) 0 (replicate count 0) (omega arith) (zeros count)
+    zeros : (count : ℕ) → All (λ lsn. lsn ≤ max_lsn) (replicate count 0)
+    zeros zero = All-nil (λ lsn. lsn ≤ max_lsn)
+    zeros (suc count) = All-cons (λ lsn. lsn ≤ max_lsn) 0 (replicate count 0) (omega arith) (zeros count)

@@ -14,7 +14,7 @@ use Rattle.std.proofs.lemmas.List.Sums.{sum_by-append}
 use Rattle.std.proofs.lemmas.List.Elements.{filter-append, All-same, All-push, recursion_from_All}
 use Rattle.std.proofs.Math.Seq.{drop-nil}
 use Rattle.mx_model.specs.Stored.{Kept}
-use Rattle.mx_model.specs.Picks.{directed, window, total_bytes, longest_result}
+use Rattle.mx_model.specs.Picks.{directed, window, total_bytes, max_result_size}
 use Rattle.mx_model.specs.declared.keying.Keyed.{Keyed}
 use Rattle.mx_model.specs.Slow.{kept_view, kept_list}
 use Rattle.mx_model.specs.Selecting.{last_from}
@@ -66,7 +66,7 @@ took_bytes tuples tuple bytes before = omega (arith, total_bytes-append tuples (
 -- the next entry is too many bytes
 pub too_long : (all : List (List ℕ)) (tuples : List (List ℕ)) (left bytes : ℕ) (next : Kept) (entries others : List Kept)
     → 0 < left → entries ≡ next ∷ others → all ≡ tuples ++ tuples_of (take left entries)
-    → bytes ≡ total_bytes tuples → bytes ≤ longest_result → longest_result - bytes < length next.1 → longest_result < total_bytes all
+    → bytes ≡ total_bytes tuples → bytes ≤ max_result_size → max_result_size - bytes < length next.1 → max_result_size < total_bytes all
 too_long all tuples left bytes next entries others more is before sum within beyond =
     let whole = took_tuple all tuples left next entries others more is before in
     let rest = tuples_of (take (left - 1) others) in
@@ -152,7 +152,7 @@ module _ (p : Kept → Bool) (down : Bool) (next : Kept) (entries others : List 
 
     -- one that is too many bytes
     pub went_too_far : (bytes : ℕ) → p next ≡ true → offset ≡ 0 → 0 < left
-        → bytes ≡ total_bytes tuples → bytes ≤ longest_result → longest_result - bytes < length next.1 → longest_result < total_bytes all
+        → bytes ≡ total_bytes tuples → bytes ≤ max_result_size → max_result_size - bytes < length next.1 → max_result_size < total_bytes all
     went_too_far bytes held none more sum within beyond =
         too_long all tuples left bytes next (directed down (filter p entries)) (directed down (filter p others)) more (filtered_in held) (at_hand none) sum within beyond
 

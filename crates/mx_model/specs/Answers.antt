@@ -21,7 +21,7 @@ use Rattle.mx_key.specs.Parts.{given}
 use Rattle.mx_key.specs.Ranges.{Range, range_of, all_begun_by}
 use Rattle.mx_model.specs.State as state
 use Rattle.mx_model.specs.State.{State, test_name, test_parts, key_in, primary_key}
-use Rattle.mx_model.specs.Picks.{Selection, pick, entries_of, total_bytes, longest_result}
+use Rattle.mx_model.specs.Picks.{Selection, pick, entries_of, total_bytes, max_result_size}
 pub use Rattle.mx_model.specs.declared.row.Row.{Row}
 pub use Rattle.mx_model.specs.declared.row.Row.TheVariants.{Replaced}
 use Rattle.mx_model.specs.declared.reply.Reply.{Reply}
@@ -106,7 +106,7 @@ range_reads space index (Some range) = record { space = space; index = index; ra
 -- the tuples that were picked, or a refusal where they have too many bytes; then all of this range was read
 abbrev pub answered : (space index : ℕ) → Range → Selection → Answer
 answered space index whole found =
-    if nat_lt longest_result (total_bytes found.tuples)
+    if nat_lt max_result_size (total_bytes found.tuples)
     then refused_after (schema_reads space ++ range_reads space index (Some whole)) ResultTooLong
     else record { reply = Tuples found.tuples; row = None; reads = schema_reads space ++ range_reads space index found.read }
 
@@ -128,8 +128,8 @@ selected space index limit offset iterator key tuples =
     else refused_after (schema_reads space) (IndexMissing (record { 0 = index }) test_name)
 
 -- the most bytes of a tuple
-abbrev pub longest_tuple : ℕ
-longest_tuple = 1048576
+abbrev pub max_tuple_size : ℕ
+max_tuple_size = 1048576
 
 -- why a tuple has no primary key
 abbrev pub fault_refusal : KeyFault → Refusal
@@ -145,7 +145,7 @@ replaced_by space tuple (Ok key) = record { reply = Tuples (tuple ∷ []); row =
 -- a tuple that may be too long, or lack its primary key
 abbrev pub replaced : (space : ℕ) → (tuple : List ℕ) → Answer
 replaced space tuple =
-    if nat_lt longest_tuple (length tuple) then refused_after (schema_reads space) (TupleTooLong (length tuple))
+    if nat_lt max_tuple_size (length tuple) then refused_after (schema_reads space) (TupleTooLong (length tuple))
     else replaced_by space tuple (key_in test_parts tuple)
 
 abbrev pub answer_to : State → Request → Answer

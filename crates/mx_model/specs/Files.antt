@@ -4,7 +4,7 @@ use Rattle.std.specs.List.{filter, list_all, last_or, AllByRecursion}
 use Rattle.std.specs.Cmp.Lexicographic.{pointwise}
 use Rattle.std.specs.FinMap as finite
 use Rattle.uuid.specs.Text.{hyphenated_text, lower}
-use Rattle.mx_vclock.specs.Vclocks.{replicas, most_lsn}
+use Rattle.mx_vclock.specs.Vclocks.{replicas, max_lsn}
 use Rattle.mx_xlog.specs.declared.head.Head.{Head}
 use Rattle.mx_xlog.specs.Headers.{IsHeader, IsFaultLine}
 use Rattle.mx_xlog.specs.Reading.{blocks_of}
@@ -15,7 +15,7 @@ use Rattle.mx_model.specs.declared.damage.DamageKind.TheVariants.{Head as HeadDa
 use Rattle.mx_model.specs.State.{State, first_state, test_parts, key_in}
 use Rattle.mx_model.specs.declared.row.Row.{Row}
 use Rattle.mx_model.specs.declared.row.Row.TheVariants.{Replaced}
-use Rattle.mx_model.specs.Answers.{state_after_rows, longest_tuple}
+use Rattle.mx_model.specs.Answers.{state_after_rows, max_tuple_size}
 use Rattle.mx_model.specs.declared.tx.Tx.{Tx}
 use Rattle.mx_model.specs.Transactions.{last_lsn, clock_after_one}
 use Rattle.mx_model.specs.Rows.{IsTransaction, transactions_in}
@@ -101,7 +101,7 @@ head_fits name head reached = not head.snapshot && same_bytes name (journal_name
 -- the state takes the row: its space is there, and the tuple isn't too long and has a primary key
 abbrev pub takes_row : State → Row → Bool
 takes_row state (Replaced space tuple) =
-    finite.contains_key state space && nat_le (length tuple) longest_tuple && is_ok (key_in test_parts tuple)
+    finite.contains_key state space && nat_le (length tuple) max_tuple_size && is_ok (key_in test_parts tuple)
 
 -- the state takes the rows, each after those before it
 abbrev pub takes_rows : State → List Row → Bool
@@ -111,7 +111,7 @@ takes_rows state (row ∷ rows) = takes_row state row && takes_rows (state_after
 -- the transaction has the next lsns of its replica
 abbrev pub follows : List ℕ → Tx → Bool
 follows clock transaction =
-    (transaction.first == suc (slice_index clock transaction.replica)) && nat_le (last_lsn transaction) most_lsn
+    (transaction.first == suc (slice_index clock transaction.replica)) && nat_le (last_lsn transaction) max_lsn
 
 abbrev pub after_transaction : Tx → Reached → Option Reached
 after_transaction transaction reached =

@@ -1,7 +1,7 @@
 -- Histories: the steps that a database made since it was opened, and which histories are legal.
 use Rattle.std.specs.Prelude.{◌≡◌, ◌⊎◌, ⊤, ℕ, suc, Bool, true, false, not, ◌&&◌, List, [], ◌∷◌, ◌++◌, length, drop, max, slice_index, Option, Some, None, nat_lt, ◌==◌, if◌then◌else◌}
 use Rattle.std.specs.List.{Contains}
-use Rattle.mx_vclock.specs.Vclocks.{most_lsn}
+use Rattle.mx_vclock.specs.Vclocks.{max_lsn}
 use Rattle.mx_base.specs.declared.ids.TxnName.{TxnName}
 use Rattle.mx_base.specs.declared.refusal.Refusal.TheVariants.{OutOfMemory, ReadOnly, LsnsUsedUp}
 use Rattle.mx_base.specs.Refusals.{code_of}
@@ -49,11 +49,11 @@ pub record Ledger : Type 0 where
   pub durable : ℕ
 
 -- the reply says that memory was missing; such a step counts as not asked
-abbrev pub is_want_of_memory : Reply → Bool
-is_want_of_memory Empty = false
-is_want_of_memory (Tuples tuples) = false
-is_want_of_memory Id = false
-is_want_of_memory (Refused refusal) = code_of refusal == code_of OutOfMemory
+abbrev pub is_out_of_memory : Reply → Bool
+is_out_of_memory Empty = false
+is_out_of_memory (Tuples tuples) = false
+is_out_of_memory Id = false
+is_out_of_memory (Refused refusal) = code_of refusal == code_of OutOfMemory
 
 -- the replica id of the node that may be written
 abbrev pub writable_node : ℕ
@@ -80,7 +80,7 @@ is_write (request.Ack clock) = false
 -- an answer that leaves a row needs an lsn for it
 abbrev pub numbered : (lsn : ℕ) → Answer → Option Row → Answer
 numbered lsn answer None = answer
-numbered lsn answer (Some row) = if nat_lt most_lsn lsn then refused_after answer.reads LsnsUsedUp else answer
+numbered lsn answer (Some row) = if nat_lt max_lsn lsn then refused_after answer.reads LsnsUsedUp else answer
 
 -- the statement's answer on a node with these identifiers, whose next lsn is this one
 abbrev pub node_answer : Ids → State → (lsn : ℕ) → Request → Answer
@@ -113,7 +113,7 @@ abbrev pub commits_of : Base → Ledger → Ask → Reply → List Tx
 commits_of base ledger (ask.Refused refusal) reply = []
 commits_of base ledger ask.Leave reply = []
 commits_of base ledger (ask.Request request) reply =
-    committed base.ids.me (next_lsn base ledger) (is_want_of_memory reply) (answer_in base ledger request).row
+    committed base.ids.me (next_lsn base ledger) (is_out_of_memory reply) (answer_in base ledger request).row
 
 abbrev pub ledger_after : Base → Ledger → Entry → Ledger
 ledger_after base ledger (Asked name ask reply) = record ledger { journal = ledger.journal ++ commits_of base ledger ask reply }
@@ -181,7 +181,7 @@ asks_in (entry ∷ earlier) = asks_in earlier ++ asked_in entry
 
 -- the step wasn't told that memory was missing
 abbrev pub HadMemory : Entry → Type 0
-HadMemory (Asked name ask reply) = is_want_of_memory reply ≡ false
+HadMemory (Asked name ask reply) = is_out_of_memory reply ≡ false
 HadMemory (Left connection) = ⊤
 HadMemory (Took transactions upto) = ⊤
 HadMemory (Confirmed upto) = ⊤

@@ -58,5 +58,5 @@ abbrev pub total_bytes : List (List ℕ) → ℕ
 total_bytes tuples = sum (map length tuples)
 
 -- the most bytes of the tuples that one SELECT is answered
-abbrev pub longest_result : ℕ
-longest_result = 16777216
+abbrev pub max_result_size : ℕ
+max_result_size = 16777216

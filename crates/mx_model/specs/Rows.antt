@@ -35,8 +35,8 @@ abbrev pub replace_type : ℕ
 replace_type = 3
 
 -- the most bytes that a row's body has, spelled shortest
-abbrev pub longest_body : ℕ
-longest_body = 2097120
+abbrev pub max_body_size : ℕ
+max_body_size = 2097120
 
 -- the body of a row as it is written: a map of the space and the tuple
 abbrev pub body_text : Row → List ℕ
@@ -60,7 +60,7 @@ abbrev pub IsTuple : List ℕ → Type 0
 IsTuple tuple = (values : Values) × Spells 63 (Array values) tuple
 
 abbrev pub IsRow : Row → Type 0
-IsRow (Replaced space tuple) = (space < 2 ^ 32) × IsTuple tuple × (length (body_text (Replaced space tuple)) ≤ longest_body)
+IsRow (Replaced space tuple) = (space < 2 ^ 32) × IsTuple tuple × (length (body_text (Replaced space tuple)) ≤ max_body_size)
 
 -- A transaction that can be written: one row, and numbers that a vclock allows.
 pub record IsTransaction (transaction : Tx) : Type 0 where
@@ -148,7 +148,7 @@ unfoldable pub tuple_at : List ℕ → Option (List ℕ)
 tuple_at bytes = tuple_shown bytes (reading_of bytes)
 
 abbrev pub short_enough : Row → Option Row
-short_enough row = if nat_le (length (body_text row)) longest_body then Some row else None
+short_enough row = if nat_le (length (body_text row)) max_body_size then Some row else None
 
 -- what a body of a REPLACE tells
 unfoldable pub replaced_in : ℕ × List ℕ → Option Row

@@ -19,7 +19,7 @@ pub const TEST_SPACE: u32 = 512;
 const TEST_NAME: &str = "test";
 
 /// The most bytes of a tuple.
-pub const LONGEST_TUPLE: usize = 1_048_576;
+pub const MAX_TUPLE_SIZE: usize = 1_048_576;
 
 /// The refusal of a request that isn't built yet: as if its type were unknown.
 pub fn not_built(request: &Request) -> Refusal

@@ -18,7 +18,7 @@ mod txs;
 pub use damage::{Damage, DamageKind};
 pub use ids::Ids;
 pub use judging::{
-    LONGEST_TUPLE, TEST_SPACE, fault_refusal, index_missing, iterator_of, misfit_refusal, not_built,
+    MAX_TUPLE_SIZE, TEST_SPACE, fault_refusal, index_missing, iterator_of, misfit_refusal, not_built,
 };
 pub use keying::Keyed;
 pub use laws::{a_directory_stands_once, commits_are_sound, replies_are_determined};

@@ -13,19 +13,19 @@ fn tuple_with(alloc: Global, front: &[u8], behind: usize) -> Result<Bytes, Alloc
 }
 
 /// A tuple of exactly 1,048,576 bytes: a key below 128, and 1,048,569 bytes, which is 0xffff9.
-fn longest_tuple(alloc: Global, key: u8) -> Result<Bytes, AllocError> {
+fn max_tuple_size(alloc: Global, key: u8) -> Result<Bytes, AllocError> {
     tuple_with(alloc, &[0x92, key, 0xc6, 0x00, 0x0f, 0xff, 0xf9], 1_048_569)
 }
 
 #[test]
 fn slow_bounds_tuples(rt: HostRuntime) -> Result<(), Fail> {
     let alloc = rt.alloc();
-    assert_eq!(rt; LONGEST_TUPLE, 1_048_576);
+    assert_eq!(rt; MAX_TUPLE_SIZE, 1_048_576);
     let mut slow = Slow::new(alloc)?;
     // Too long by one byte. The second one has no key either.
     let too_long = tuple_with(alloc, b"\x92\x01\xc6\0\x0f\xff\xfa", 1_048_570)?;
     let without_key = tuple_with(alloc, b"\x91\xc6\0\x0f\xff\xfb", 1_048_571)?;
-    let longest = longest_tuple(alloc, 1)?;
+    let longest = max_tuple_size(alloc, 1)?;
     let refused = Told::Refused(203, b"Tuple of 1048577 bytes, 1048576 allowed");
     let missing = Told::Refused(36, b"Space 511 does not exist");
     let steps = [(Asked::Replace(512, too_long.as_slice()), refused)];
@@ -72,7 +72,7 @@ fn slow_bounds_results(rt: HostRuntime) -> Result<(), Fail> {
     let alloc = rt.alloc();
     let mut slow = Slow::new(alloc)?;
     for key in 0..16 {
-        let tuple = longest_tuple(alloc, key)?;
+        let tuple = max_tuple_size(alloc, key)?;
         let asked = Asked::Replace(512, tuple.as_slice());
         let reply = slow.ask(NAME, &request_of(alloc, asked)?)?;
         assert_eq!(rt; count_in(&rt, alloc, &reply)?, Some(1), "at {key}");
@@ -98,7 +98,7 @@ fn state_bounds_results(rt: HostRuntime) -> Result<(), Fail> {
             &rt,
             alloc,
             &mut state,
-            longest_tuple(alloc, key)?.as_slice(),
+            max_tuple_size(alloc, key)?.as_slice(),
         )?;
     }
     put(&rt, alloc, &mut state, b"\x91\x10")?;

@@ -3,7 +3,7 @@
 ghost use Rattle.std.specs.Prelude.{◌≡◌, ◌⊎◌, ◌<◌, ◌≤◌, ◌++◌, ◌∷◌, [], ℕ, List, map, take, drop, length, MatchOption, MatchResult};
 ghost use Rattle.std.specs.Option.{option_map};
 ghost use Rattle.mx_model.specs.declared.selecting.SelectStop.TheVariants.{TooLong, NoMemory};
-ghost use Rattle.mx_model.specs.Picks.{directed, total_bytes, longest_result};
+ghost use Rattle.mx_model.specs.Picks.{directed, total_bytes, max_result_size};
 ghost use Rattle.mx_model.specs.Selecting.{last_of};
 
 use mx_key::{IterKind, KeyRange};
@@ -12,7 +12,7 @@ use std::alloc::{AllocError, Global};
 use std::collections::btree_map::Range;
 
 /// The most bytes of the tuples that one SELECT is answered.
-pub(crate) const LONGEST_RESULT: usize = 16_777_216;
+pub(crate) const MAX_RESULT_SIZE: usize = 16_777_216;
 
 /// What a SELECT asks of an index.
 #[derive(Clone, Copy, Debug, Drop)]
@@ -97,9 +97,9 @@ pub(crate) fn collect<'a>(
 ) -> Result<Collected<'a>, SelectStop>
     ensures { MatchResult result
         (λ found. (found.tuples ≡ map (λ entry. entry.1) (take limit (directed down entries.old)))
-        × (total_bytes found.tuples ≤ longest_result)
+        × (total_bytes found.tuples ≤ max_result_size)
         × (option_map (λ key. key.now) found.last ≡ last_of (take limit (directed down entries.old))))
-        (λ stop. ((stop ≡ TooLong) × (longest_result < total_bytes (map (λ entry. entry.1) (take limit (directed down entries.old))))) ⊎ (stop ≡ NoMemory)) }
+        (λ stop. ((stop ≡ TooLong) × (max_result_size < total_bytes (map (λ entry. entry.1) (take limit (directed down entries.old))))) ⊎ (stop ≡ NoMemory)) }
 {
     let mut tuples = Tuples::new(alloc);
     let mut last = None;
@@ -109,7 +109,7 @@ pub(crate) fn collect<'a>(
         let Some((key, tuple)) = next_in(entries, down) else {
             return Ok(Collected { tuples, last });
         };
-        if tuple.len() > LONGEST_RESULT - bytes {
+        if tuple.len() > MAX_RESULT_SIZE - bytes {
             return Err(SelectStop::TooLong);
         }
         bytes += tuple.len();

@@ -12,17 +12,17 @@ ghost use Rattle.mx_key.specs.Comparable.{holds};
 ghost use Rattle.mx_key.specs.Ranges.{descends};
 ghost use Rattle.mx_model.specs.declared.selecting.SelectStop.TheVariants.{TooLong, NoMemory};
 ghost use Rattle.mx_model.specs.Answers.{answer_to, fault_refusal, in_space, selected, replaced, state_after_rows};
-ghost use Rattle.mx_model.specs.Picks.{directed, window, total_bytes, longest_result};
+ghost use Rattle.mx_model.specs.Picks.{directed, window, total_bytes, max_result_size};
 ghost use Rattle.mx_model.specs.Slow.{IsSlow, kept_list, kept_view};
 ghost use Rattle.mx_model.specs.State as plain;
 ghost use Rattle.mx_model.specs.State.{first_state};
 
 use crate::judging::{
-    LONGEST_TUPLE, TEST_SPACE, fault_refusal, index_missing, iterator_of, misfit_refusal, not_built,
+    MAX_TUPLE_SIZE, TEST_SPACE, fault_refusal, index_missing, iterator_of, misfit_refusal, not_built,
 };
 use crate::keying::{Keyed, key_tuple};
 use crate::reply::Reply;
-use crate::selecting::{LONGEST_RESULT, Pick, SelectStop};
+use crate::selecting::{MAX_RESULT_SIZE, Pick, SelectStop};
 use mx_base::{IndexId, Refusal, SpaceId, TxnName};
 use mx_key::{KeyDef, KeyFault, KeyRange, Part, PartKind, misfit, range};
 use mx_msgpack::{Bytes, Tuples};
@@ -132,7 +132,7 @@ impl Slow {
         if space.0 != TEST_SPACE {
             return Ok(Reply::Refused(Refusal::SpaceMissing { space }));
         }
-        if tuple.len() > LONGEST_TUPLE {
+        if tuple.len() > MAX_TUPLE_SIZE {
             let bytes = tuple.len() as u64;
             return Ok(Reply::Refused(Refusal::TupleTooLong { bytes }));
         }
@@ -207,8 +207,8 @@ fn gather(
     ensures { MatchResult result
         (λ tuples. (tuples ≡ map (λ entry. entry.1) (window pick.now.offset pick.now.limit
         (directed (descends pick.now.iterator) (filter (λ entry. holds range.now entry.0) (kept_list kept.now)))))
-        × (total_bytes tuples ≤ longest_result))
-        (λ stop. ((stop ≡ TooLong) × (longest_result < total_bytes (map (λ entry. entry.1) (window pick.now.offset pick.now.limit
+        × (total_bytes tuples ≤ max_result_size))
+        (λ stop. ((stop ≡ TooLong) × (max_result_size < total_bytes (map (λ entry. entry.1) (window pick.now.offset pick.now.limit
         (directed (descends pick.now.iterator) (filter (λ entry. holds range.now entry.0) (kept_list kept.now))))))) ⊎ (stop ≡ NoMemory)) }
 {
     let down = pick.iterator.descends();
@@ -229,7 +229,7 @@ fn gather(
             offset -= 1;
             continue;
         }
-        if one.tuple.len() > LONGEST_RESULT - bytes {
+        if one.tuple.len() > MAX_RESULT_SIZE - bytes {
             return Err(SelectStop::TooLong);
         }
         bytes += one.tuple.len();

@@ -8,7 +8,7 @@ ghost use Rattle.mx_key.specs.Keys.{Key, AreFit};
 ghost use Rattle.mx_key.specs.Parts.{given};
 ghost use Rattle.mx_model.specs.declared.selecting.SelectStop.TheVariants as stops;
 ghost use Rattle.mx_model.specs.Answers.{Replaced, state_after_row};
-ghost use Rattle.mx_model.specs.Picks.{entries_of, pick, total_bytes, longest_result};
+ghost use Rattle.mx_model.specs.Picks.{entries_of, pick, total_bytes, max_result_size};
 ghost use Rattle.mx_model.specs.State as plain;
 ghost use Rattle.mx_model.specs.State.{first_state, key_in, test_parts, test_space};
 ghost use Rattle.mx_model.specs.Stored.{Holds};
@@ -87,9 +87,9 @@ impl State {
     pub fn select(&self, alloc: Global, wanted: &Pick<'_>) -> Result<Selected, SelectStop>
         ensures { (state : plain.State) (holds : Holds self.now state) (key : Key) → given test_parts wanted.now.key.now ≡ Ok key → AreFit key → MatchResult result
             (λ selected. (selected.tuples ≡ (pick (entries_of holds.keeps.tuples) wanted.now.iterator key wanted.now.offset wanted.now.limit).tuples)
-            × (total_bytes selected.tuples ≤ longest_result)
+            × (total_bytes selected.tuples ≤ max_result_size)
             × (selected.read ≡ option_map edges_of (pick (entries_of holds.keeps.tuples) wanted.now.iterator key wanted.now.offset wanted.now.limit).read))
-            (λ stop. ((stop ≡ stops.TooLong) × (longest_result < total_bytes (pick (entries_of holds.keeps.tuples) wanted.now.iterator key wanted.now.offset wanted.now.limit).tuples))
+            (λ stop. ((stop ≡ stops.TooLong) × (max_result_size < total_bytes (pick (entries_of holds.keeps.tuples) wanted.now.iterator key wanted.now.offset wanted.now.limit).tuples))
             ⊎ (stop ≡ stops.NoMemory)) }
     {
         if wanted.limit == 0 {

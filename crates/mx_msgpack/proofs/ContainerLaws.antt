@@ -4,7 +4,7 @@ use Rattle.std.proofs.lemmas.List.{append-nil}
 use Rattle.mx_msgpack.specs.declared.bad.Bad.TheVariants.{Long}
 use Rattle.mx_msgpack.specs.declared.head.Head.{Head}
 use Rattle.mx_msgpack.specs.declared.head.Head.TheVariants.{Nil, Bool as Boolean, Int, Str, Bin, Array, Map, Fixed, Extension}
-use Rattle.mx_msgpack.specs.Grammar.{Values, Spells, most_length}
+use Rattle.mx_msgpack.specs.Grammar.{Values, Spells, max_length}
 use Rattle.mx_msgpack.specs.Grammar as grammar
 use Rattle.mx_msgpack.specs.Reading.{head_at, after_all, after_value, reading_of, Shown, ShownArray, shown}
 use Rattle.mx_msgpack.proofs.Results.{bind_ok, guard_then, ok_is}
@@ -18,7 +18,7 @@ pub map_content : (total room count : ℕ) (pairs rest : List ℕ) → count < 0
 map_content total room count pairs rest few e =
     let bytes = (0x80 + count) ∷ pairs in
     let head = head_again (total - length bytes) (Map count) ((0x80 + count) ∷ []) pairs (inl (few, refl)) in
-    (guard_then (ltb most_length count) (Long (total - length bytes)) _ rest (sym (value_begins total (suc room) bytes (Map count) pairs head) ∙ e)).1
+    (guard_then (ltb max_length count) (Long (total - length bytes)) _ rest (sym (value_begins total (suc room) bytes (Map count) pairs head) ∙ e)).1
 
 array_head : (head : Head) (content whole : List ℕ) (count : ℕ) (items : List ℕ) → shown head content whole ≡ ShownArray count items → head ≡ Array count
 array_head Nil content whole count items e = absurd cc

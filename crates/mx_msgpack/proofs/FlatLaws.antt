@@ -4,7 +4,7 @@ use Rattle.std.proofs.lemmas.Nat.{mul-le}
 use Rattle.mx_msgpack.specs.declared.bad.Bad.{Bad}
 use Rattle.mx_msgpack.specs.declared.bad.Bad.TheVariants.{Long}
 use Rattle.mx_msgpack.specs.declared.skipping.Inside.{Inside}
-use Rattle.mx_msgpack.specs.Grammar.{most_length}
+use Rattle.mx_msgpack.specs.Grammar.{max_length}
 use Rattle.mx_msgpack.specs.Reading.{after_value}
 use Rattle.mx_msgpack.specs.Steps.{step_over}
 use Rattle.mx_msgpack.proofs.Stack.{after_stack, values_in, plain_fails, plain_steps, plain_long, plain_pushes, stack_of_one, first_inside}
@@ -37,8 +37,8 @@ zero_more : (n : ℕ) → n ≡ 0 + n
 zero_more n = omega arith
 
 -- as many values as a container may have
-pub values_few : (inside : Inside) → inside.each ≤ 2 → inside.announced ≤ most_length → values_in inside ≤ 4194304
-values_few inside each few = mul-le inside.each inside.announced 2 most_length each few
+pub values_few : (inside : Inside) → inside.each ≤ 2 → inside.announced ≤ max_length → values_in inside ≤ 4194304
+values_few inside each few = mul-le inside.each inside.announced 2 max_length each few
 
 module _ (total : ℕ) (rest : List ℕ) (answer : Result (List ℕ) Bad) where
   top_of : (left opened room : ℕ) (stack : List ℕ) → room + length stack ≡ 64 → length stack ≤ opened → all_of stack ≡ suc left
@@ -91,10 +91,10 @@ module _ (total : ℕ) (rest : List ℕ) (answer : Result (List ℕ) Bad) where
       same_so : after_stack total (suc (t.room - 1)) (suc t.count ∷ t.others) rest ≡ answer
       same_so = ap (λ (k : ℕ). after_stack total k (suc t.count ∷ t.others) rest) (sym room_is) ∙ t.same
 
-      pub flat_long : most_length < inside.announced → answer ≡ Err (Long (total - length rest))
+      pub flat_long : max_length < inside.announced → answer ≡ Err (Long (total - length rest))
       flat_long many = sym same_so ∙ plain_long total (t.room - 1) t.count t.others inside rest after many s
 
-      pub flat_pushes : inside.announced ≤ most_length → Flat total (left + values_in inside) (opened + 1) after answer
+      pub flat_pushes : inside.announced ≤ max_length → Flat total (left + values_in inside) (opened + 1) after answer
       flat_pushes most = record {
         stack = values_in inside ∷ t.count ∷ t.others;
         room = t.room - 1;
@@ -104,7 +104,7 @@ module _ (total : ℕ) (rest : List ℕ) (answer : Result (List ℕ) Bad) where
         same = sym (plain_pushes total (t.room - 1) t.count t.others inside rest after most s) ∙ same_so;
       }
 
-pub flat_begins : (bytes : List ℕ) (inside : Inside) (rest : List ℕ) → step_over 0 bytes ≡ Ok (Some inside, rest) → inside.announced ≤ most_length
+pub flat_begins : (bytes : List ℕ) (inside : Inside) (rest : List ℕ) → step_over 0 bytes ≡ Ok (Some inside, rest) → inside.announced ≤ max_length
     → Flat (length bytes) (values_in inside) 1 rest (after_value (length bytes) 64 bytes)
 flat_begins bytes inside rest s most = record {
   stack = values_in inside ∷ [];

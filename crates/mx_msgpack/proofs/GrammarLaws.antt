@@ -8,7 +8,7 @@ use Rattle.mx_msgpack.specs.declared.bad.Bad.{Bad}
 use Rattle.mx_msgpack.specs.declared.bad.Bad.TheVariants.{Short, Long}
 use Rattle.mx_msgpack.specs.declared.head.Head.{Head}
 use Rattle.mx_msgpack.specs.declared.head.Head.TheVariants.{Nil, Bool as Boolean, Int, Str, Bin, Array, Map, Fixed, Extension}
-use Rattle.mx_msgpack.specs.Grammar.{Value, Values, NoValue, MoreValues, Pairs, NoPair, MorePairs, value_count, pair_count, most_length, IsOpaque, Spells, SpellsAll, SpellsPairs}
+use Rattle.mx_msgpack.specs.Grammar.{Value, Values, NoValue, MoreValues, Pairs, NoPair, MorePairs, value_count, pair_count, max_length, IsOpaque, Spells, SpellsAll, SpellsPairs}
 use Rattle.mx_msgpack.specs.Grammar as grammar
 use Rattle.mx_msgpack.specs.Reading.{head_at, after_all, after_bytes, after_inside, after_content, after_value, Shown, ShownNil, ShownBool, ShownInt, ShownStr, ShownBin, ShownArray, ShownMap, ShownOpaque, shown}
 use Rattle.mx_msgpack.proofs.Results.{bind_ok, guard_ok, guard_then, ok_is}
@@ -22,16 +22,16 @@ pub twice : (count : ℕ) → 2 * suc count ≡ suc (suc (2 * count))
 twice count = omega arith
 
 -- bytes behind a head that announces them
-bytes_again : (at announced size : ℕ) (content rest : List ℕ) → announced ≤ most_length → length content ≡ size → after_bytes at announced size (content ++ rest) ≡ Ok rest
+bytes_again : (at announced size : ℕ) (content rest : List ℕ) → announced ≤ max_length → length content ≡ size → after_bytes at announced size (content ++ rest) ≡ Ok rest
 bytes_again at announced size content rest few len =
-    let short : ltb most_length announced ≡ false = le-ltb _ _ few in
+    let short : ltb max_length announced ≡ false = le-ltb _ _ few in
     let long : ltb (length (content ++ rest)) size ≡ false = le-ltb _ _ (omega (arith, length-append content rest)) in
     rw (short, long, drop_at content rest size len) refl
 
 -- values behind a head that announces them
-inside_again : (one : List ℕ → Result (List ℕ) Bad) (at announced values : ℕ) (bytes rest : List ℕ) → announced ≤ most_length → after_all one values bytes ≡ Ok rest
+inside_again : (one : List ℕ → Result (List ℕ) Bad) (at announced values : ℕ) (bytes rest : List ℕ) → announced ≤ max_length → after_all one values bytes ≡ Ok rest
     → after_inside (Some one) at announced values bytes ≡ Ok rest
-inside_again one at announced values bytes rest few e = rw (le-ltb most_length announced few) e
+inside_again one at announced values bytes rest few e = rw (le-ltb max_length announced few) e
 
 -- a value from a head on that is spelled
 begun : (total room : ℕ) (head : Head) (front content rest : List ℕ) → SpellsHead head front
@@ -185,13 +185,13 @@ Below total (suc room) = Claim room (after_value total room)
 
 -- bytes that a head announces, and the bytes after them
 record Announced (announced size : ℕ) (after rest : List ℕ) : Type 0 where
-  few : announced ≤ most_length
+  few : announced ≤ max_length
   many : length (take size after) ≡ size
   parts : after ≡ take size after ++ rest
 
 bytes_announced : (at announced size : ℕ) (after rest : List ℕ) → after_bytes at announced size after ≡ Ok rest → Announced announced size after rest
 bytes_announced at announced size after rest e =
-    let f = guard_then (ltb most_length announced) (Long at) _ rest e in
+    let f = guard_then (ltb max_length announced) (Long at) _ rest e in
     let g = guard_ok (ltb (length after) size) Short (drop size after) rest f.1 in
     let long : size ≤ length after = ltb-false _ _ g.0 in
     record {
@@ -202,9 +202,9 @@ bytes_announced at announced size after rest e =
 
 -- values that a head announces
 inside_announced : (one : List ℕ → Result (List ℕ) Bad) (at announced values : ℕ) (after rest : List ℕ) → after_inside (Some one) at announced values after ≡ Ok rest
-    → (announced ≤ most_length) × (after_all one values after ≡ Ok rest)
+    → (announced ≤ max_length) × (after_all one values after ≡ Ok rest)
 inside_announced one at announced values after rest e =
-    let f = guard_then (ltb most_length announced) (Long at) (after_all one values after) rest e in
+    let f = guard_then (ltb max_length announced) (Long at) (after_all one values after) rest e in
     (ltb-false _ _ f.0, f.1)
 
 content_spelled : (total room at : ℕ) (head : Head) (front after rest : List ℕ) → Below total room → SpellsHead head front

@@ -6,7 +6,7 @@ use Rattle.std.proofs.lemmas.List.{append-nil, take_at, drop_at, take-append-dro
 use Rattle.mx_msgpack.specs.declared.bad.Bad.{Bad}
 use Rattle.mx_msgpack.specs.declared.head.Head.TheVariants.{Array}
 use Rattle.mx_msgpack.specs.Grammar as grammar
-use Rattle.mx_msgpack.specs.Grammar.{Value, Values, NoValue, MoreValues, value_count, most_length, most_nested, ArrayHead, Spells, SpellsAll}
+use Rattle.mx_msgpack.specs.Grammar.{Value, Values, NoValue, MoreValues, value_count, max_length, max_nesting, ArrayHead, Spells, SpellsAll}
 use Rattle.mx_msgpack.specs.Reading.{Shown, ShownNil, ShownBool, ShownInt, ShownStr, ShownBin, ShownArray, ShownMap, ShownOpaque, shown, head_at, after_value, reading_of, measured}
 use Rattle.mx_msgpack.specs.Items as items
 use Rattle.mx_msgpack.specs.Items.{parted, first_value, values_from, array_shown, array_of, items_of, SpellEach}
@@ -59,7 +59,7 @@ values_count (suc count) bytes = ap suc (values_count count (items.after_value b
 -- ---- an array
 
 -- an array that is spelled is read, and nothing follows it
-pub array_read : (values : Values) (head content : List ℕ) → ArrayHead (value_count values) head → value_count values ≤ most_length → SpellsAll 63 values content
+pub array_read : (values : Values) (head content : List ℕ) → ArrayHead (value_count values) head → value_count values ≤ max_length → SpellsAll 63 values content
     → array_of (head ++ content) ≡ Some (value_count values, content)
 unfolding array_of
 array_read values head content h few s =
@@ -87,7 +87,7 @@ pub record Row (bytes : List ℕ) (count : ℕ) (content : List ℕ) : Type 0 wh
   pub values : Values
   pub parts : bytes ≡ head ++ content
   pub many : value_count values ≡ count
-  pub few : count ≤ most_length
+  pub few : count ≤ max_length
   pub spelled : SpellsAll 63 values content
 
 shown_array : (total : ℕ) (read : Result (Shown × ℕ) Bad) (count : ℕ) (content : List ℕ) → array_shown total read ≡ Some (count, content) → read ≡ Ok (ShownArray count content, total)
@@ -153,7 +153,7 @@ pub row_fills : (bytes : List ℕ) (count : ℕ) (content : List ℕ) → Row by
 row_fills bytes count content row = rw (← row.many) (values_fill row.values content row.spelled)
 
 -- an array that is spelled is a head and the spellings of its values, which are its items
-pub array_items : (bytes : List ℕ) (values : Values) → Spells most_nested (grammar.Array values) bytes
+pub array_items : (bytes : List ℕ) (values : Values) → Spells max_nesting (grammar.Array values) bytes
     → (head : List ℕ) × (items : List (List ℕ)) × (items_of bytes ≡ Some items) × (bytes ≡ head ++ concat items) × SpellEach 63 values items
 array_items bytes values (head, content, h, few, e, s) =
     let all = values_from (value_count values) content in (
@@ -165,10 +165,10 @@ array_items bytes values (head, content, h, few, e, s) =
     )
 
 -- an array that is read has no more items than a container may
-pub items_few : (bytes : List ℕ) (fields : List (List ℕ)) → items_of bytes ≡ Some fields → length fields ≤ most_length
+pub items_few : (bytes : List ℕ) (fields : List (List ℕ)) → items_of bytes ≡ Some fields → length fields ≤ max_length
 items_few bytes fields e = by_array (array_of bytes) refl e
   where
-    by_array : (array : Option (ℕ × List ℕ)) → array_of bytes ≡ array → option_map (λ (x : ℕ × List ℕ). values_from x.0 x.1) array ≡ Some fields → length fields ≤ most_length
+    by_array : (array : Option (ℕ × List ℕ)) → array_of bytes ≡ array → option_map (λ (x : ℕ × List ℕ). values_from x.0 x.1) array ≡ Some fields → length fields ≤ max_length
     by_array None is e = absurd cc
     by_array (Some (count, content)) is e =
         let row = array_row bytes count content is in
@@ -176,16 +176,16 @@ items_few bytes fields e = by_array (array_of bytes) refl e
         omega (arith, values_count count content, row.few)
 
 -- bytes that have items are spelled as an array
-pub items_spelled : (bytes : List ℕ) (fields : List (List ℕ)) → items_of bytes ≡ Some fields → (values : Values) × Spells most_nested (grammar.Array values) bytes
+pub items_spelled : (bytes : List ℕ) (fields : List (List ℕ)) → items_of bytes ≡ Some fields → (values : Values) × Spells max_nesting (grammar.Array values) bytes
 items_spelled bytes fields e = by_array (array_of bytes) refl e
   where
     by_array : (array : Option (ℕ × List ℕ)) → array_of bytes ≡ array → option_map (λ (x : ℕ × List ℕ). values_from x.0 x.1) array ≡ Some fields
-        → (values : Values) × Spells most_nested (grammar.Array values) bytes
+        → (values : Values) × Spells max_nesting (grammar.Array values) bytes
     by_array None is e = absurd cc
     by_array (Some (count, content)) is e = array_of_spelled bytes count content is
 
 -- the items of an array are the spellings of its values
-pub items_each : (bytes : List ℕ) (fields : List (List ℕ)) (values : Values) → items_of bytes ≡ Some fields → Spells most_nested (grammar.Array values) bytes → SpellEach 63 values fields
+pub items_each : (bytes : List ℕ) (fields : List (List ℕ)) (values : Values) → items_of bytes ≡ Some fields → Spells max_nesting (grammar.Array values) bytes → SpellEach 63 values fields
 items_each bytes fields values e s =
     let all = array_items bytes values s in
     subst (SpellEach 63 values) (same_some all.1 fields (sym all.2 ∙ e)) all.4

@@ -3,7 +3,7 @@ use Rattle.std.proofs.Common.{◌≡◌, ℕ, ◌-◌, ◌≤◌, List, ◌++◌
 use Rattle.std.specs.Prelude.{IfOk}
 use Rattle.std.proofs.lemmas.List.{take_at, take-append-drop, length-append, length-drop}
 use Rattle.mx_msgpack.specs.declared.bad.Bad.{Bad}
-use Rattle.mx_msgpack.specs.Grammar.{Value, Spells, most_nested}
+use Rattle.mx_msgpack.specs.Grammar.{Value, Spells, max_nesting}
 use Rattle.mx_msgpack.specs.Reading.{after_value, measured}
 use Rattle.mx_msgpack.proofs.ValueLaws.{measured_ok, read_ok}
 use Rattle.mx_msgpack.proofs.GrammarLaws.{value_spelled, value_again}
@@ -14,18 +14,18 @@ front_is bytes front rest size e n =
     let len : length front ≡ size = omega (arith, length-append front rest, ap length e) in
     rw e (take_at front rest size len)
 
-pub size_spelled : (bytes : List ℕ) (size : ℕ) → measured bytes ≡ Ok size → (size ≤ length bytes) × (value : Value) × Spells most_nested value (take size bytes)
+pub size_spelled : (bytes : List ℕ) (size : ℕ) → measured bytes ≡ Ok size → (size ≤ length bytes) × (value : Value) × Spells max_nesting value (take size bytes)
 size_spelled bytes size e =
     let r = read_ok bytes size e in
     let v = value_spelled (length bytes) 64 bytes r.0 r.1 in
     (omega (arith, r.2), v.0, rw (front_is bytes v.1 r.0 size v.2 r.2) v.3)
 
 pub measured_spelled : (bytes : List ℕ) (answer : Result ℕ Bad) → answer ≡ measured bytes
-    → IfOk answer (λ size. (size ≤ length bytes) × (value : Value) × Spells most_nested value (take size bytes))
+    → IfOk answer (λ size. (size ≤ length bytes) × (value : Value) × Spells max_nesting value (take size bytes))
 measured_spelled bytes (Ok size) e = size_spelled bytes size (sym e)
 measured_spelled bytes (Err bad) e = tt
 
-pub measured_only : (bytes : List ℕ) (value : Value) (size : ℕ) → size ≤ length bytes → Spells most_nested value (take size bytes) → measured bytes ≡ Ok size
+pub measured_only : (bytes : List ℕ) (value : Value) (size : ℕ) → size ≤ length bytes → Spells max_nesting value (take size bytes) → measured bytes ≡ Ok size
 measured_only bytes value size le s =
     let again = value_again (length bytes) 64 value (take size bytes) (drop size bytes) s in
     let read : after_value (length bytes) 64 bytes ≡ Ok (drop size bytes) = ap (λ (x : List ℕ). after_value (length bytes) 64 x) (sym (take-append-drop size bytes)) ∙ again in

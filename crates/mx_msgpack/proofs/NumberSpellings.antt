@@ -5,7 +5,7 @@ use Rattle.std.proofs.lemmas.Bool.{cond_both, ltb-true, ltb-false, le-ltb}
 use Rattle.std.proofs.lemmas.Int.{ints}
 use Rattle.byteorder.specs.Endian.{big_bytes}
 use Rattle.byteorder.specs.Numbers.{big_from-lt, length-bytes_high_first}
-use Rattle.mx_msgpack.specs.Grammar.{SpellsNumber, SpellsSigned, SpellsUnsigned, SpellsInt, StrHead, BinHead, ArrayHead, MapHead, most_length}
+use Rattle.mx_msgpack.specs.Grammar.{SpellsNumber, SpellsSigned, SpellsUnsigned, SpellsInt, StrHead, BinHead, ArrayHead, MapHead, max_length}
 use Rattle.mx_msgpack.specs.Writing.{Fits64}
 use Rattle.mx_msgpack.proofs.NumberLaws as number_laws
 use Rattle.mx_msgpack.proofs.NumberLaws.{digits-bytes, FitsBytes}
@@ -176,7 +176,7 @@ int_least number bytes each (inr (inr (inr (inr (inr s))))) =
 
 -- ---- heads
 
-pub str_head_spelled : (size : ℕ) → size ≤ most_length → StrHead size (str_head size)
+pub str_head_spelled : (size : ℕ) → size ≤ max_length → StrHead size (str_head size)
 unfolding str_head
 str_head_spelled size few =
     let P = λ (bytes : List ℕ). StrHead size bytes in
@@ -185,7 +185,7 @@ str_head_spelled size few =
     cond_both (nat_lt size (2 ^ 16)) _ _ P (λ t. inr (inr (inl (wide_spelled 0xda 2 size (omega (arith, ltb-true _ _ t)))))) (λ _.
     inr (inr (inr (wide_spelled 0xdb 4 size (omega arith)))))))
 
-pub bin_head_spelled : (size : ℕ) → size ≤ most_length → BinHead size (bin_head size)
+pub bin_head_spelled : (size : ℕ) → size ≤ max_length → BinHead size (bin_head size)
 unfolding bin_head
 bin_head_spelled size few =
     let P = λ (bytes : List ℕ). BinHead size bytes in
@@ -193,7 +193,7 @@ bin_head_spelled size few =
     cond_both (nat_lt size (2 ^ 16)) _ _ P (λ t. inr (inl (wide_spelled 0xc5 2 size (omega (arith, ltb-true _ _ t))))) (λ _.
     inr (inr (wide_spelled 0xc6 4 size (omega arith)))))
 
-pub array_head_spelled : (count : ℕ) → count ≤ most_length → ArrayHead count (array_head count)
+pub array_head_spelled : (count : ℕ) → count ≤ max_length → ArrayHead count (array_head count)
 unfolding array_head
 array_head_spelled count few =
     let P = λ (bytes : List ℕ). ArrayHead count bytes in
@@ -201,7 +201,7 @@ array_head_spelled count few =
     cond_both (nat_lt count (2 ^ 16)) _ _ P (λ t. inr (inl (wide_spelled 0xdc 2 count (omega (arith, ltb-true _ _ t))))) (λ _.
     inr (inr (wide_spelled 0xdd 4 count (omega arith)))))
 
-pub map_head_spelled : (count : ℕ) → count ≤ most_length → MapHead count (map_head count)
+pub map_head_spelled : (count : ℕ) → count ≤ max_length → MapHead count (map_head count)
 unfolding map_head
 map_head_spelled count few =
     let P = λ (bytes : List ℕ). MapHead count bytes in

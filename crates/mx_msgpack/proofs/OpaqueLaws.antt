@@ -1,6 +1,6 @@
 -- Floats and extensions: a head, and so many bytes behind it.
 use Rattle.std.proofs.Common.{◌≡◌, ℕ, suc, ◌≤◌, List, [], ◌∷◌, ◌++◌, length, refl, ap, ◌∙◌, inl, inr, ◌⊎◌, arith}
-use Rattle.mx_msgpack.specs.Grammar.{SpellsNumber, IsFixed, IsExtension, IsOpaque, most_length}
+use Rattle.mx_msgpack.specs.Grammar.{SpellsNumber, IsFixed, IsExtension, IsOpaque, max_length}
 use Rattle.mx_msgpack.proofs.Heads.{SpellsFixed, FixedHead, ExtensionHead}
 
 -- what is spelled by a head and its bytes is one
@@ -20,7 +20,7 @@ fixed_whole size front content s len =
       | inr (inr (inr (inr (inr (inr s))))) ↦ inr (inr (inr (inr (inr (inr (inl (fixed_one 0xd8 17 size front content s len)))))))
     ]
 
-pub extension_whole : (size : ℕ) (front content : List ℕ) → ExtensionHead size front → size ≤ most_length → length content ≡ suc size → IsOpaque (front ++ content)
+pub extension_whole : (size : ℕ) (front content : List ℕ) → ExtensionHead size front → size ≤ max_length → length content ≡ suc size → IsOpaque (front ++ content)
 extension_whole size front content s few len =
     elim s [
       | inl s ↦ inr (inr (inr (inr (inr (inr (inr (inl (size, front, content, s, few, len, refl))))))))
@@ -37,7 +37,7 @@ pub record FixedParts (bytes : List ℕ) : Type 0 where
   pub parts : bytes ≡ front ++ content
   pub head : FixedHead size front
   pub many : length content ≡ size
-  pub few : size ≤ most_length
+  pub few : size ≤ max_length
 
 pub record ExtensionParts (bytes : List ℕ) : Type 0 where
   pub size : ℕ
@@ -46,7 +46,7 @@ pub record ExtensionParts (bytes : List ℕ) : Type 0 where
   pub parts : bytes ≡ front ++ content
   pub head : ExtensionHead size front
   pub many : length content ≡ suc size
-  pub few : size ≤ most_length
+  pub few : size ≤ max_length
 
 fixed_parts : (leading wanted : ℕ) (bytes : List ℕ) → FixedHead wanted (leading ∷ []) → wanted ≤ 17 → IsFixed leading wanted bytes → FixedParts bytes ⊎ ExtensionParts bytes
 fixed_parts leading wanted bytes row low (content, len, e) =

@@ -6,7 +6,7 @@ use Rattle.mx_msgpack.specs.declared.value.Value.{the_lemmas}
 use Rattle.mx_msgpack.specs.declared.value.Values.{Values}
 use Rattle.mx_msgpack.specs.declared.value.Pairs.{Pairs, Row_of-Pairs-items-2, end_of-Pairs-items-2, more_of-Pairs-items-2, items-the_row-Pairs-items-2}
 use Rattle.mx_msgpack.specs.Grammar as grammar
-use Rattle.mx_msgpack.specs.Grammar.{value_count, pair_count, most_length}
+use Rattle.mx_msgpack.specs.Grammar.{value_count, pair_count, max_length}
 use Rattle.mx_msgpack.specs.Spelling.{shortest, shortest_all, shortest_pairs, array_head, map_head}
 use Rattle.mx_msgpack.specs.Writing.{IsWritable, AreWritable, ArePairsWritable}
 use Rattle.mx_msgpack.specs.Owned.{value_view, row_view, pair_row_view, list_view, pair_list_view, values_in, pairs_in}
@@ -36,16 +36,16 @@ count_pair_list (pair ∷ others) = ap suc (count_pair_list others)
 -- ---- an array and a map that are written
 
 pub array_writable : (value : Value) (values : Values) → value ≡ shown.Array values → IsWritable (value_view value)
-    → (length (values_in values) ≤ most_length) × AreWritable (list_view (values_in values))
+    → (length (values_in values) ≤ max_length) × AreWritable (list_view (values_in values))
 array_writable value values e w =
     let parts = subst IsWritable (ap value_view e ∙ array_view values) w in
-    (subst (λ (n : ℕ). n ≤ most_length) (count_list (values_in values)) parts.0, parts.1)
+    (subst (λ (n : ℕ). n ≤ max_length) (count_list (values_in values)) parts.0, parts.1)
 
 pub map_writable : (value : Value) (pairs : Pairs) → value ≡ shown.Map pairs → IsWritable (value_view value)
-    → (length (pairs_in pairs) ≤ most_length) × ArePairsWritable (pair_list_view (pairs_in pairs))
+    → (length (pairs_in pairs) ≤ max_length) × ArePairsWritable (pair_list_view (pairs_in pairs))
 map_writable value pairs e w =
     let parts = subst IsWritable (ap value_view e ∙ map_view pairs) w in
-    (subst (λ (n : ℕ). n ≤ most_length) (count_pair_list (pairs_in pairs)) parts.0, parts.1)
+    (subst (λ (n : ℕ). n ≤ max_length) (count_pair_list (pairs_in pairs)) parts.0, parts.1)
 
 pub array_written : (before headed new : List ℕ) (value : Value) (values : Values) → value ≡ shown.Array values
     → headed ≡ before ++ array_head (length (values_in values)) → new ≡ headed ++ shortest_all (list_view (values_in values))

@@ -3,7 +3,7 @@ use Rattle.std.proofs.Common.{◌≡◌, ℕ, zero, suc, ◌-◌, List, [], ◌+
 use Rattle.std.proofs.lemmas.List.{append-nil}
 use Rattle.mx_msgpack.specs.declared.head.Head.{Head}
 use Rattle.mx_msgpack.specs.declared.head.Head.TheVariants.{Nil, Bool as Boolean, Int, Str, Bin, Array, Map, Fixed, Extension}
-use Rattle.mx_msgpack.specs.Grammar.{Value, Values, NoValue, MoreValues, Pairs, NoPair, MorePairs, value_count, pair_count, most_nested, Spells, SpellsAll, SpellsPairs}
+use Rattle.mx_msgpack.specs.Grammar.{Value, Values, NoValue, MoreValues, Pairs, NoPair, MorePairs, value_count, pair_count, max_nesting, Spells, SpellsAll, SpellsPairs}
 use Rattle.mx_msgpack.specs.Grammar as grammar
 use Rattle.mx_msgpack.specs.Reading.{head_at, after_value, Shown, ShownNil, ShownBool, ShownInt, ShownStr, ShownBin, ShownArray, ShownMap, ShownOpaque, shown}
 use Rattle.mx_msgpack.proofs.Results.{ok_is}
@@ -12,7 +12,7 @@ use Rattle.mx_msgpack.proofs.OpaqueLaws.{FixedParts, ExtensionParts, opaque_part
 use Rattle.mx_msgpack.proofs.GrammarLaws.{ShowsIn, value_again}
 use Rattle.mx_msgpack.proofs.Measured.{front_is}
 
-pub no_prefix_of_another : (one other : Value) (bytes more : List ℕ) → Spells most_nested one bytes → Spells most_nested other (bytes ++ more) → more ≡ []
+pub no_prefix_of_another : (one other : Value) (bytes more : List ℕ) → Spells max_nesting one bytes → Spells max_nesting other (bytes ++ more) → more ≡ []
 no_prefix_of_another one other bytes more s t =
     let first = value_again 0 64 one bytes more s in
     let second = value_again 0 64 other (bytes ++ more) [] t in

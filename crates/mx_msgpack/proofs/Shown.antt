@@ -4,7 +4,7 @@ use Rattle.std.proofs.lemmas.List.{length-append}
 use Rattle.mx_msgpack.specs.declared.bad.Bad.{Bad}
 use Rattle.mx_msgpack.specs.declared.head.Head.{Head}
 use Rattle.mx_msgpack.specs.declared.head.Head.TheVariants.{Int}
-use Rattle.mx_msgpack.specs.Grammar.{Value, Spells, most_nested}
+use Rattle.mx_msgpack.specs.Grammar.{Value, Spells, max_nesting}
 use Rattle.mx_msgpack.specs.Reading.{head_at, after_value, measured, reading_of, Shown, ShownNil, ShownBool, ShownInt, ShownStr, ShownBin, ShownArray, ShownMap, ShownOpaque, shown}
 use Rattle.mx_msgpack.specs.View.{Shows}
 use Rattle.mx_msgpack.proofs.Results.{ok_is}
@@ -44,7 +44,7 @@ pub record Bounds (bytes : List ℕ) (after : List ℕ) (size : ℕ) : Type 0 wh
 
 -- what stands first, and its length
 pub record Seen (bytes : List ℕ) (seen : Shown) (size : ℕ) : Type 0 where
-  pub spelled : (size ≤ length bytes) × (value : Value) × Spells most_nested value (take size bytes) × Shows seen value
+  pub spelled : (size ≤ length bytes) × (value : Value) × Spells max_nesting value (take size bytes) × Shows seen value
   pub exact : reading_of bytes ≡ Ok (seen, size)
 
 one_head : (total : ℕ) (bytes : List ℕ) (head other : Head) (after rest : List ℕ) → length bytes ≡ total → head_at 0 bytes ≡ Ok (head, after) → head_at (total - length bytes) bytes ≡ Ok (other, rest)

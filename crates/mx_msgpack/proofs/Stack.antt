@@ -6,7 +6,7 @@ use Rattle.mx_msgpack.specs.declared.bad.Bad.TheVariants.{Deep, Long}
 use Rattle.mx_msgpack.specs.declared.head.Head.{Head}
 use Rattle.mx_msgpack.specs.declared.head.Head.TheVariants.{Nil, Bool as Boolean, Int, Str, Bin, Array, Map, Fixed, Extension}
 use Rattle.mx_msgpack.specs.declared.skipping.Inside.{Inside}
-use Rattle.mx_msgpack.specs.Grammar.{most_length}
+use Rattle.mx_msgpack.specs.Grammar.{max_length}
 use Rattle.mx_msgpack.specs.Reading.{◌>>=◌, head_at, after_all, after_bytes, after_inside, after_content, after_value}
 use Rattle.mx_msgpack.specs.Steps.{behind, step_behind, step_over}
 use Rattle.mx_msgpack.proofs.Results.{bind_Ok, bind_bind}
@@ -108,20 +108,20 @@ module _ (total room count : ℕ) (others bytes : List ℕ) where
   plain_steps rest s = plain_step (Ok (None, rest)) s
 
 module _ (total room count : ℕ) (others : List ℕ) (inside : Inside) (bytes rest : List ℕ) where
-  pub plain_long : most_length < inside.announced → step_over (total - length bytes) bytes ≡ Ok (Some inside, rest)
+  pub plain_long : max_length < inside.announced → step_over (total - length bytes) bytes ≡ Ok (Some inside, rest)
       → after_stack total (suc room) (suc count ∷ others) bytes ≡ Err (Long (total - length bytes))
   plain_long many s =
       let stopped : after_inside (Some (after_value total room)) (total - length bytes) inside.announced (values_in inside) rest ≡ Err (Long (total - length bytes)) =
-      rw (lt-ltb most_length inside.announced many) refl in
+      rw (lt-ltb max_length inside.announced many) refl in
       plain_step total (suc room) count others bytes (Ok (Some inside, rest)) s
       ∙ ap (λ (r : Result (List ℕ) Bad). r >>= after_stack total (suc room) (count ∷ others)) stopped
 
-  pub plain_pushes : inside.announced ≤ most_length → step_over (total - length bytes) bytes ≡ Ok (Some inside, rest)
+  pub plain_pushes : inside.announced ≤ max_length → step_over (total - length bytes) bytes ≡ Ok (Some inside, rest)
       → after_stack total (suc room) (suc count ∷ others) bytes ≡ after_stack total room (values_in inside ∷ count ∷ others) rest
   unfolding after_stack
   plain_pushes few s =
       let going : after_inside (Some (after_value total room)) (total - length bytes) inside.announced (values_in inside) rest ≡ after_all (after_value total room) (values_in inside) rest =
-      rw (le-ltb most_length inside.announced few) refl in
+      rw (le-ltb max_length inside.announced few) refl in
       plain_step total (suc room) count others bytes (Ok (Some inside, rest)) s
       ∙ ap (λ (r : Result (List ℕ) Bad). r >>= after_stack total (suc room) (count ∷ others)) going
 
@@ -150,13 +150,13 @@ pub stack_deep : (total : ℕ) (left : List ℕ) (depth count : ℕ) (inside : I
 stack_deep total left depth count inside bytes rest e s =
     rw (counters-one left depth count e) (plain_step total 0 count (counters left depth) bytes (Ok (Some inside, rest)) s)
 
-pub stack_long : (total room : ℕ) (left : List ℕ) (depth count : ℕ) (inside : Inside) (bytes rest : List ℕ) → most_length < inside.announced → get_or left depth 0 ≡ suc count
+pub stack_long : (total room : ℕ) (left : List ℕ) (depth count : ℕ) (inside : Inside) (bytes rest : List ℕ) → max_length < inside.announced → get_or left depth 0 ≡ suc count
     → step_over (total - length bytes) bytes ≡ Ok (Some inside, rest)
     → after_stack total (suc room) (counters left (suc depth)) bytes ≡ Err (Long (total - length bytes))
 stack_long total room left depth count inside bytes rest many e s =
     rw (counters-one left depth count e) (plain_long total room count (counters left depth) inside bytes rest many s)
 
-pub stack_pushes : (total room : ℕ) (left : List ℕ) (depth count : ℕ) (inside : Inside) (bytes rest : List ℕ) → suc depth < length left → inside.announced ≤ most_length
+pub stack_pushes : (total room : ℕ) (left : List ℕ) (depth count : ℕ) (inside : Inside) (bytes rest : List ℕ) → suc depth < length left → inside.announced ≤ max_length
     → get_or left depth 0 ≡ suc count → step_over (total - length bytes) bytes ≡ Ok (Some inside, rest)
     → after_stack total (suc room) (counters left (suc depth)) bytes
     ≡ after_stack total room (counters (set (set left depth count) (suc depth) (values_in inside)) (suc (suc depth))) rest
@@ -205,13 +205,13 @@ module _ (total depth : ℕ) (left bytes : List ℕ) (below : 0 < depth) where
         let room : 65 - depth ≡ 0 = omega arith in
         rw room (opened 0 ∙ stack_deep total left (depth - 1) (get_or left (depth - 1) 0 - 1) inside bytes rest count_is s)
 
-    pub walk_long : (inside : Inside) (rest : List ℕ) → depth < 65 → most_length < inside.announced → step_over (total - length bytes) bytes ≡ Ok (Some inside, rest)
+    pub walk_long : (inside : Inside) (rest : List ℕ) → depth < 65 → max_length < inside.announced → step_over (total - length bytes) bytes ≡ Ok (Some inside, rest)
         → after_stack total (65 - depth) (counters left depth) bytes ≡ Err (Long (total - length bytes))
     walk_long inside rest most many s =
         let room : 65 - depth ≡ suc (65 - (depth + 1)) = omega arith in
         rw room (opened (suc (65 - (depth + 1))) ∙ stack_long total (65 - (depth + 1)) left (depth - 1) (get_or left (depth - 1) 0 - 1) inside bytes rest many count_is s)
 
-    pub walk_pushes : (inside : Inside) (rest : List ℕ) → depth < 65 → length left ≡ 65 → inside.announced ≤ most_length
+    pub walk_pushes : (inside : Inside) (rest : List ℕ) → depth < 65 → length left ≡ 65 → inside.announced ≤ max_length
         → step_over (total - length bytes) bytes ≡ Ok (Some inside, rest)
         → after_stack total (65 - depth) (counters left depth) bytes
         ≡ after_stack total (65 - (depth + 1)) (counters (set (set left (depth - 1) (get_or left (depth - 1) 0 - 1)) depth (values_in inside)) (depth + 1)) rest
@@ -240,18 +240,18 @@ first_fails bytes bad e = first_step bytes (Err bad) e
 pub first_ends : (bytes rest : List ℕ) → step_over 0 bytes ≡ Ok (None, rest) → after_value (length bytes) 64 bytes ≡ Ok rest
 first_ends bytes rest e = first_step bytes (Ok (None, rest)) e
 
-pub first_inside : (bytes : List ℕ) (inside : Inside) (rest : List ℕ) → inside.announced ≤ most_length → step_over 0 bytes ≡ Ok (Some inside, rest)
+pub first_inside : (bytes : List ℕ) (inside : Inside) (rest : List ℕ) → inside.announced ≤ max_length → step_over 0 bytes ≡ Ok (Some inside, rest)
     → after_value (length bytes) 64 bytes ≡ after_all (after_value (length bytes) 63) (values_in inside) rest
 first_inside bytes inside rest few e =
     let going : after_inside (Some (after_value (length bytes) 63)) 0 inside.announced (values_in inside) rest ≡ after_all (after_value (length bytes) 63) (values_in inside) rest =
-    rw (le-ltb most_length inside.announced few) refl in
+    rw (le-ltb max_length inside.announced few) refl in
     first_step bytes (Ok (Some inside, rest)) e ∙ going
 
-pub first_long : (bytes : List ℕ) (inside : Inside) (rest : List ℕ) → most_length < inside.announced → step_over 0 bytes ≡ Ok (Some inside, rest)
+pub first_long : (bytes : List ℕ) (inside : Inside) (rest : List ℕ) → max_length < inside.announced → step_over 0 bytes ≡ Ok (Some inside, rest)
     → after_value (length bytes) 64 bytes ≡ Err (Long 0)
 first_long bytes inside rest many e =
     let stopped : after_inside (Some (after_value (length bytes) 63)) 0 inside.announced (values_in inside) rest ≡ Err (Long 0) =
-    rw (lt-ltb most_length inside.announced many) refl in
+    rw (lt-ltb max_length inside.announced many) refl in
     first_step bytes (Ok (Some inside, rest)) e ∙ stopped
 
 pub stack_of_one : (total room count : ℕ) (bytes : List ℕ) → after_stack total room (count ∷ []) bytes ≡ after_all (after_value total room) count bytes

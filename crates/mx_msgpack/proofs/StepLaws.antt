@@ -7,7 +7,7 @@ use Rattle.mx_msgpack.specs.declared.bad.Bad.TheVariants.{Short}
 use Rattle.mx_msgpack.specs.declared.head.Head.{Head}
 use Rattle.mx_msgpack.specs.declared.head.Head.TheVariants.{Int}
 use Rattle.mx_msgpack.specs.declared.skipping.Inside.{Inside}
-use Rattle.mx_msgpack.specs.Grammar.{most_length}
+use Rattle.mx_msgpack.specs.Grammar.{max_length}
 use Rattle.mx_msgpack.specs.Reading.{◌>>=◌, head_at, number_head, unsigned_at, signed_at}
 use Rattle.mx_msgpack.specs.Steps.{IsPlain, after_few, fixed_size, behind, step_behind, step_over}
 use Rattle.mx_msgpack.proofs.LeadingLaws.{leads_number}
@@ -66,7 +66,7 @@ text_plain leading size low high e =
     let f2 : ltb leading 0x90 ≡ false = le-ltb _ _ (omega arith) in
     let f3 : ltb leading 0xa0 ≡ false = le-ltb _ _ low in
     let t : ltb leading 0xc0 ≡ true = lt-ltb _ _ high in
-    let short : ltb most_length (leading - 0xa0) ≡ false = le-ltb _ _ (omega arith) in
+    let short : ltb max_length (leading - 0xa0) ≡ false = le-ltb _ _ (omega arith) in
     λ at rest. rw (e, f1, f2, f3, t, short) refl
 
 -- a small number, and one just below 0

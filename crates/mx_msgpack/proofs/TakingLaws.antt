@@ -11,7 +11,7 @@ use Rattle.mx_msgpack.specs.declared.reading.ReadBad.{ReadBad}
 use Rattle.mx_msgpack.specs.declared.reading.ReadBad.TheVariants.{Bad as Faulty}
 use Rattle.mx_msgpack.specs.declared.value.Value.{Value}
 use Rattle.mx_msgpack.specs.Grammar as grammar
-use Rattle.mx_msgpack.specs.Grammar.{Values, Pairs, value_count, pair_count, most_length, Spells, SpellsAll, SpellsPairs}
+use Rattle.mx_msgpack.specs.Grammar.{Values, Pairs, value_count, pair_count, max_length, Spells, SpellsAll, SpellsPairs}
 use Rattle.mx_msgpack.specs.Owned.{value_view, list_view, pair_list_view, Begins, BeginsAll, BeginsPairs}
 use Rattle.mx_msgpack.specs.Reading.{◌>>=◌, head_at, after_all, after_inside, after_content, after_value, measured, first_fault}
 use Rattle.mx_msgpack.specs.Spelling.{AreBytes, IsSpellable}
@@ -43,14 +43,14 @@ taken size after content rest long e f = record {
   parts = sym (take-append-drop size after) ∙ ap (λ (l : List ℕ). l ++ drop size after) (sym e) ∙ ap (λ (l : List ℕ). content ++ l) (sym f);
 }
 
-pub str_found : (room at size : ℕ) (bytes after content rest : List ℕ) → head_at at bytes ≡ Ok (Str size, after) → size ≤ most_length → size ≤ length after
+pub str_found : (room at size : ℕ) (bytes after content rest : List ℕ) → head_at at bytes ≡ Ok (Str size, after) → size ≤ max_length → size ≤ length after
     → content ≡ take size after → rest ≡ drop size after → Begins room (grammar.Str content) bytes rest
 str_found room at size bytes after content rest e few long c r =
     let h = head_spelled at bytes (Str size) after e in
     let t = taken size after content rest long c r in
     (h.0 ++ content, joined bytes h.0 after content rest h.1 t.parts, (h.0, rw t.many h.2, rw t.many few, refl))
 
-pub bin_found : (room at size : ℕ) (bytes after content rest : List ℕ) → head_at at bytes ≡ Ok (Bin size, after) → size ≤ most_length → size ≤ length after
+pub bin_found : (room at size : ℕ) (bytes after content rest : List ℕ) → head_at at bytes ≡ Ok (Bin size, after) → size ≤ max_length → size ≤ length after
     → content ≡ take size after → rest ≡ drop size after → Begins room (grammar.Bin content) bytes rest
 bin_found room at size bytes after content rest e few long c r =
     let h = head_spelled at bytes (Bin size) after e in
@@ -82,7 +82,7 @@ fixed_found room at size bytes after spelling rest e long s r =
     let t = taken size after (take size after) rest long refl r in
     opaque_found room size bytes h.0 after spelling rest h.1 long (fixed_whole size h.0 (take size after) h.2 t.many) s r
 
-pub extension_found : (room at size : ℕ) (bytes after spelling rest : List ℕ) → head_at at bytes ≡ Ok (Extension size, after) → size ≤ most_length
+pub extension_found : (room at size : ℕ) (bytes after spelling rest : List ℕ) → head_at at bytes ≡ Ok (Extension size, after) → size ≤ max_length
     → size + 1 ≤ length after → spelling ≡ take (length bytes - length after + (size + 1)) bytes → rest ≡ drop (size + 1) after
     → Begins room (grammar.Opaque spelling) bytes rest
 extension_found room at size bytes after spelling rest e few long s r =
@@ -92,13 +92,13 @@ extension_found room at size bytes after spelling rest e few long s r =
     opaque_found room (size + 1) bytes h.0 after spelling rest h.1 long (extension_whole size h.0 (take (size + 1) after) h.2 few many) s r
 
 pub array_found : (room inner at count : ℕ) (bytes after rest : List ℕ) (values : Values) → head_at at bytes ≡ Ok (Array count, after) → room ≡ suc inner
-    → count ≤ most_length → value_count values ≡ count → BeginsAll inner values after rest → Begins room (grammar.Array values) bytes rest
+    → count ≤ max_length → value_count values ≡ count → BeginsAll inner values after rest → Begins room (grammar.Array values) bytes rest
 array_found room inner at count bytes after rest values e is few many (content, parts, all) =
     let h = head_spelled at bytes (Array count) after e in
     rw is (h.0 ++ content, joined bytes h.0 after content rest h.1 parts, (h.0, content, rw many h.2, rw many few, refl, all))
 
 pub map_found : (room inner at count : ℕ) (bytes after rest : List ℕ) (pairs : Pairs) → head_at at bytes ≡ Ok (Map count, after) → room ≡ suc inner
-    → count ≤ most_length → pair_count pairs ≡ count → BeginsPairs inner pairs after rest → Begins room (grammar.Map pairs) bytes rest
+    → count ≤ max_length → pair_count pairs ≡ count → BeginsPairs inner pairs after rest → Begins room (grammar.Map pairs) bytes rest
 map_found room inner at count bytes after rest pairs e is few many (content, parts, all) =
     let h = head_spelled at bytes (Map count) after e in
     rw is (h.0 ++ content, joined bytes h.0 after content rest h.1 parts, (h.0, content, rw many h.2, rw many few, refl, all))
@@ -127,18 +127,18 @@ pub content_fault : (total room : ℕ) (bytes after : List ℕ) (head : Head) (b
 content_fault total room bytes after head bad e f = value_begins total room bytes head after e ∙ f
 
 pub room_fault : (total room at count values : ℕ) (after : List ℕ) (bad : Bad)
-    → ((room ≡ 0) × (bad ≡ Deep at)) ⊎ ((room ≡ suc (room - 1)) × (most_length < count) × (bad ≡ Long at))
+    → ((room ≡ 0) × (bad ≡ Deep at)) ⊎ ((room ≡ suc (room - 1)) × (max_length < count) × (bad ≡ Long at))
     → after_inside (inside_of total room) at count values after ≡ Err bad
 room_fault total room at count values after bad (inl (none, e)) = rw (none, e) refl
 room_fault total zero at count values after bad (inr (some, long, e)) = absurd (omega arith)
 room_fault total (suc room) at count values after bad (inr (some, long, e)) =
-    let t : ltb most_length count ≡ true = lt-ltb _ _ long in
+    let t : ltb max_length count ≡ true = lt-ltb _ _ long in
     rw (t, e) refl
 
-pub inside_fault : (total room inner at count values : ℕ) (after : List ℕ) (bad : Bad) → room ≡ suc inner → count ≤ most_length
+pub inside_fault : (total room inner at count values : ℕ) (after : List ℕ) (bad : Bad) → room ≡ suc inner → count ≤ max_length
     → after_all (after_value total inner) values after ≡ Err bad → after_inside (inside_of total room) at count values after ≡ Err bad
 inside_fault total room inner at count values after bad is few e =
-    let f : ltb most_length count ≡ false = le-ltb _ _ few in
+    let f : ltb max_length count ≡ false = le-ltb _ _ few in
     rw (is, f) e
 
 pub whole_fault : (bytes : List ℕ) (bad : Bad) → after_value (length bytes) 64 bytes ≡ Err bad → first_fault bytes ≡ Some bad

@@ -31,8 +31,8 @@ pair_count NoPair = 0
 pair_count (MorePairs key value others) = suc (pair_count others)
 
 -- how many bytes a Str, a Bin or an extension may have, and how many values an Array, or pairs a Map
-abbrev pub most_length : ℕ
-most_length = 2097152
+abbrev pub max_length : ℕ
+max_length = 2097152
 
 -- a leading byte, and then the number in this many bytes, the highest first
 abbrev pub SpellsNumber : ℕ → ℕ → ℕ → List ℕ → Type 0
@@ -86,7 +86,7 @@ IsFixed leading size bytes = (content : List ℕ) × (length content ≡ size) �
 -- an extension: a length, a kind, and so many bytes
 abbrev pub IsExtension : (leading width : ℕ) → List ℕ → Type 0
 IsExtension leading width bytes =
-    (size : ℕ) × (head content : List ℕ) × SpellsNumber leading width size head × (size ≤ most_length) × (length content ≡ suc size)
+    (size : ℕ) × (head content : List ℕ) × SpellsNumber leading width size head × (size ≤ max_length) × (length content ≡ suc size)
     × (bytes ≡ head ++ content)
 
 -- floats and extensions
@@ -102,15 +102,15 @@ abbrev mutual
   Spells room Nil bytes = bytes ≡ 0xc0 ∷ []
   Spells room (Boolean truth) bytes = bytes ≡ (if truth then 0xc3 else 0xc2) ∷ []
   Spells room (Int number) bytes = SpellsInt number bytes
-  Spells room (Str text) bytes = (head : List ℕ) × StrHead (length text) head × (length text ≤ most_length) × (bytes ≡ head ++ text)
-  Spells room (Bin content) bytes = (head : List ℕ) × BinHead (length content) head × (length content ≤ most_length) × (bytes ≡ head ++ content)
+  Spells room (Str text) bytes = (head : List ℕ) × StrHead (length text) head × (length text ≤ max_length) × (bytes ≡ head ++ text)
+  Spells room (Bin content) bytes = (head : List ℕ) × BinHead (length content) head × (length content ≤ max_length) × (bytes ≡ head ++ content)
   Spells zero (Array values) bytes = ⊥
   Spells (suc room) (Array values) bytes =
-      (head content : List ℕ) × ArrayHead (value_count values) head × (value_count values ≤ most_length) × (bytes ≡ head ++ content)
+      (head content : List ℕ) × ArrayHead (value_count values) head × (value_count values ≤ max_length) × (bytes ≡ head ++ content)
       × SpellsAll room values content
   Spells zero (Map pairs) bytes = ⊥
   Spells (suc room) (Map pairs) bytes =
-      (head content : List ℕ) × MapHead (pair_count pairs) head × (pair_count pairs ≤ most_length) × (bytes ≡ head ++ content)
+      (head content : List ℕ) × MapHead (pair_count pairs) head × (pair_count pairs ≤ max_length) × (bytes ≡ head ++ content)
       × SpellsPairs room pairs content
   Spells room (Opaque spelling) bytes = IsOpaque spelling × (bytes ≡ spelling)
 
@@ -127,5 +127,5 @@ abbrev mutual
       (front middle rest : List ℕ) × (bytes ≡ (front ++ middle) ++ rest) × Spells room key front × Spells room value middle × SpellsPairs room others rest
 
 -- how many containers may stand one inside the other
-abbrev pub most_nested : ℕ
-most_nested = 64
+abbrev pub max_nesting : ℕ
+max_nesting = 64

@@ -7,7 +7,7 @@ use Rattle.mx_msgpack.specs.declared.head.Head.{Head}
 use Rattle.mx_msgpack.specs.declared.head.Head.TheVariants.{Nil, Bool as Boolean, Int, Str, Bin, Array, Map, Fixed, Extension}
 use Rattle.mx_msgpack.specs.declared.head.Kind.{Kind}
 use Rattle.mx_msgpack.specs.declared.head.Kind.TheVariants as kind
-use Rattle.mx_msgpack.specs.Grammar.{most_nested, most_length}
+use Rattle.mx_msgpack.specs.Grammar.{max_nesting, max_length}
 
 infixl 10 ◌>>=◌
 abbrev pub ◌>>=◌ : {A B : Type 0} → Result A Bad → (A → Result B Bad) → Result B Bad
@@ -106,12 +106,12 @@ after_all one (suc count) bytes = one bytes >>= after_all one count
 -- for one more container it is too deep, and then it may be too long.
 abbrev pub after_inside : Option (List ℕ → Result (List ℕ) Bad) → (at announced values : ℕ) → List ℕ → Result (List ℕ) Bad
 after_inside None at announced values rest = Err (Deep at)
-after_inside (Some one) at announced values rest = if nat_lt most_length announced then Err (Long at) else after_all one values rest
+after_inside (Some one) at announced values rest = if nat_lt max_length announced then Err (Long at) else after_all one values rest
 
 -- the bytes after so many bytes at this place, where this length is announced
 abbrev pub after_bytes : (at announced size : ℕ) → List ℕ → Result (List ℕ) Bad
 after_bytes at announced size rest =
-    if nat_lt most_length announced then Err (Long at) else if nat_lt (length rest) size then Err Short else Ok (drop size rest)
+    if nat_lt max_length announced then Err (Long at) else if nat_lt (length rest) size then Err Short else Ok (drop size rest)
 
 -- the bytes after what a head at this place announces
 abbrev pub after_content : Option (List ℕ → Result (List ℕ) Bad) → ℕ → Head → List ℕ → Result (List ℕ) Bad
@@ -138,7 +138,7 @@ after_value total (suc room) bytes = do
 -- how many bytes the value takes that stands first, or the first fault from the left
 unfoldable pub measured : List ℕ → Result ℕ Bad
 measured bytes = do
-  rest ← after_value (length bytes) most_nested bytes
+  rest ← after_value (length bytes) max_nesting bytes
   Ok (length bytes - length rest)
 
 -- the first fault from the left, where no value stands first
@@ -176,5 +176,5 @@ shown (Extension size) content whole = ShownOpaque whole
 unfoldable pub reading_of : List ℕ → Result (Shown × ℕ) Bad
 reading_of bytes = do
   head ← head_at 0 bytes
-  rest ← after_value (length bytes) most_nested bytes
+  rest ← after_value (length bytes) max_nesting bytes
   Ok (shown head.0 (take (length head.1 - length rest) head.1) (take (length bytes - length rest) bytes), length bytes - length rest)

@@ -1,7 +1,7 @@
 -- Spelling a value: of its spellings in the grammar, the shortest.
 use Rattle.std.specs.Prelude.{ℕ, suc, ◌+◌, ◌-◌, ◌^◌, ◌<◌, ℤ, pos, negsuc, List, [], ◌∷◌, ◌++◌, length, get_or, nat_lt, if◌then◌else◌}
 use Rattle.byteorder.specs.Endian.{big_bytes}
-use Rattle.mx_msgpack.specs.Grammar.{Value, Nil, Boolean, Int, Str, Bin, Array, Map, Opaque, Values, NoValue, MoreValues, Pairs, NoPair, MorePairs, value_count, pair_count, Spells, most_nested}
+use Rattle.mx_msgpack.specs.Grammar.{Value, Nil, Boolean, Int, Str, Bin, Array, Map, Opaque, Values, NoValue, MoreValues, Pairs, NoPair, MorePairs, value_count, pair_count, Spells, max_nesting}
 
 -- each is a byte
 abbrev pub AreBytes : List ℕ → Type 0
@@ -76,4 +76,4 @@ abbrev mutual
 
 -- the value can be spelled: its numbers and lengths are within the limits, and its containers stand no deeper
 abbrev pub IsSpellable : Value → Type 0
-IsSpellable value = (bytes : List ℕ) × AreBytes bytes × Spells most_nested value bytes
+IsSpellable value = (bytes : List ℕ) × AreBytes bytes × Spells max_nesting value bytes

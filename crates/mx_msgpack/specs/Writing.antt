@@ -1,6 +1,6 @@
 -- What can be written: numbers and lengths within the limits.
 use Rattle.std.specs.Prelude.{◌^◌, ◌<◌, ◌≤◌, ℤ, pos, negsuc, ⊤}
-use Rattle.mx_msgpack.specs.Grammar.{Value, Nil, Boolean, Int, Str, Bin, Array, Map, Opaque, Values, NoValue, MoreValues, Pairs, NoPair, MorePairs, value_count, pair_count, most_length}
+use Rattle.mx_msgpack.specs.Grammar.{Value, Nil, Boolean, Int, Str, Bin, Array, Map, Opaque, Values, NoValue, MoreValues, Pairs, NoPair, MorePairs, value_count, pair_count, max_length}
 use Rattle.std.specs.Prelude.{length}
 
 -- from -2^63 up to 2^64 - 1
@@ -13,10 +13,10 @@ abbrev mutual
   IsWritable Nil = ⊤
   IsWritable (Boolean truth) = ⊤
   IsWritable (Int number) = Fits64 number
-  IsWritable (Str text) = length text ≤ most_length
-  IsWritable (Bin content) = length content ≤ most_length
-  IsWritable (Array values) = (value_count values ≤ most_length) × AreWritable values
-  IsWritable (Map pairs) = (pair_count pairs ≤ most_length) × ArePairsWritable pairs
+  IsWritable (Str text) = length text ≤ max_length
+  IsWritable (Bin content) = length content ≤ max_length
+  IsWritable (Array values) = (value_count values ≤ max_length) × AreWritable values
+  IsWritable (Map pairs) = (pair_count pairs ≤ max_length) × ArePairsWritable pairs
   IsWritable (Opaque spelling) = ⊤
 
   pub AreWritable : Values → Type 0

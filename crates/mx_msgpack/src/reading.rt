@@ -4,7 +4,7 @@ ghost use Rattle.std.specs.Prelude.{◌≡◌, ◌≤◌, ◌<◌, ◌+◌, ◌-
 ghost use Rattle.mx_msgpack.specs.declared.bad.Bad.{Bad};
 ghost use Rattle.mx_msgpack.specs.declared.bad.Bad.TheVariants.{Deep, Long};
 ghost use Rattle.mx_msgpack.specs.declared.reading.ReadBad.TheVariants.{Bad as Faulty, NoMemory};
-ghost use Rattle.mx_msgpack.specs.Grammar.{Spells, most_length, most_nested};
+ghost use Rattle.mx_msgpack.specs.Grammar.{Spells, max_length, max_nesting};
 ghost use Rattle.mx_msgpack.specs.Reading.{after_all, after_bytes, after_value, first_fault};
 ghost use Rattle.mx_msgpack.specs.Spelling.{IsSpellable};
 ghost use Rattle.mx_msgpack.specs.Owned.{Begins, BeginsAll, BeginsPairs, list_view, pair_list_view, pairs_in, value_view, values_in};
@@ -12,7 +12,7 @@ ghost use Rattle.mx_msgpack.specs.Owned.{Begins, BeginsAll, BeginsPairs, list_vi
 use crate::bad::Bad;
 use crate::bytes::Bytes;
 use crate::head::{Head, head_at};
-use crate::skipping::{MOST_LENGTH, MOST_NESTED, skip};
+use crate::skipping::{MAX_LENGTH, MAX_NESTING, skip};
 use crate::value::{Pairs, Value, Values};
 use std::alloc::{AllocError, Global};
 use thiserror::Error;
@@ -50,12 +50,12 @@ impl From<AllocError> for ReadBad {
 /// The first fault from the left, where no value stands first, or want of memory.
 pub fn read_value(alloc: Global, bytes: &[u8]) -> Result<(Value, usize), ReadBad>
     ensures spelled { IfOk result (λ x. (x.1 ≤ length bytes.now)
-        × Spells most_nested (value_view x.0) (take x.1 bytes.now)) }
+        × Spells max_nesting (value_view x.0) (take x.1 bytes.now)) }
     ensures spellable { IfOk result (λ x. IsSpellable (value_view x.0)) }
     ensures fault { (bad : Bad) → result ≡ Err (Faulty bad) → first_fault bytes.now ≡ Some bad }
 {
     skip(bytes)?;
-    let (value, rest) = read_any(alloc, bytes.len(), MOST_NESTED, bytes)?;
+    let (value, rest) = read_any(alloc, bytes.len(), MAX_NESTING, bytes)?;
     Ok((value, bytes.len() - rest.len()))
 }
 
@@ -172,14 +172,14 @@ fn read_pairs(
 
 /// The room inside a container at this place, which announces so many values or pairs.
 fn room_inside(at: usize, room: usize, count: u32) -> Result<usize, Bad>
-    ensures found { IfOk result (λ inner. (room ≡ suc inner) × (count ≤ most_length)) }
+    ensures found { IfOk result (λ inner. (room ≡ suc inner) × (count ≤ max_length)) }
     ensures fault { IfErr result (λ bad. ((room ≡ 0) × (bad ≡ Deep at))
-        ⊎ ((room ≡ suc (room - 1)) × (most_length < count) × (bad ≡ Long at))) }
+        ⊎ ((room ≡ suc (room - 1)) × (max_length < count) × (bad ≡ Long at))) }
 {
     if room == 0 {
         return Err(Bad::Deep(at));
     }
-    if count > MOST_LENGTH {
+    if count > MAX_LENGTH {
         return Err(Bad::Long(at));
     }
     Ok(room - 1)
@@ -187,11 +187,11 @@ fn room_inside(at: usize, room: usize, count: u32) -> Result<usize, Bad>
 
 /// Takes so many bytes behind a head at this place, and gives those after them.
 fn read_bytes(alloc: Global, at: usize, size: u32, after: &[u8]) -> Result<(Bytes, &[u8]), ReadBad>
-    ensures found { IfOk result (λ x. (size ≤ most_length) × (size ≤ length after.now)
+    ensures found { IfOk result (λ x. (size ≤ max_length) × (size ≤ length after.now)
         × (x.0 ≡ take size after.now) × (x.1.now ≡ drop size after.now)) }
     ensures fault { (bad : Bad) → result ≡ Err (Faulty bad) → after_bytes at size size after.now ≡ Err bad }
 {
-    if size > MOST_LENGTH {
+    if size > MAX_LENGTH {
         return Err(ReadBad::Bad(Bad::Long(at)));
     }
     if after.len() < size as usize {
@@ -211,11 +211,11 @@ fn read_opaque<'a>(
     after: &'a [u8],
 ) -> Result<(Bytes, &'a [u8]), ReadBad>
     requires { length after.now ≤ length bytes.now }
-    ensures found { IfOk result (λ x. (announced ≤ most_length) × (size ≤ length after.now)
+    ensures found { IfOk result (λ x. (announced ≤ max_length) × (size ≤ length after.now)
         × (x.0 ≡ take (length bytes.now - length after.now + size) bytes.now) × (x.1.now ≡ drop size after.now)) }
     ensures fault { (bad : Bad) → result ≡ Err (Faulty bad) → after_bytes at announced size after.now ≡ Err bad }
 {
-    if announced > MOST_LENGTH {
+    if announced > MAX_LENGTH {
         return Err(ReadBad::Bad(Bad::Long(at)));
     }
     if after.len() < size {

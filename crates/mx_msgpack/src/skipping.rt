@@ -1,7 +1,7 @@
 //! The length of a value, found without recursion.
 
 ghost use Rattle.std.specs.Prelude.{◌≡◌, ◌<◌, ◌≤◌, ℕ, true, List, ◌∷◌, Ok, take, length, IfOk, IfErr, IfSome, Some, None};
-ghost use Rattle.mx_msgpack.specs.Grammar.{Value, Spells, most_nested};
+ghost use Rattle.mx_msgpack.specs.Grammar.{Value, Spells, max_nesting};
 ghost use Rattle.mx_msgpack.specs.Reading.{Gives, after_bytes, head_at, measured, first_fault};
 ghost use Rattle.mx_msgpack.specs.Steps.{IsPlain, fixed_size, step_behind, step_over};
 
@@ -9,13 +9,13 @@ use crate::bad::Bad;
 use crate::head::{Head, head_at};
 
 /// How many containers may stand one inside the other.
-pub(crate) const MOST_NESTED: usize = 64;
+pub(crate) const MAX_NESTING: usize = 64;
 
 /// How many bytes a text, bytes or an extension may have, and how many values or pairs a container.
-pub(crate) const MOST_LENGTH: u32 = 2_097_152;
+pub(crate) const MAX_LENGTH: u32 = 2_097_152;
 
 /// The most bytes that follow a leading byte that alone tells the value's length.
-const MOST_PLAIN: usize = 31;
+const MAX_PLAIN: usize = 31;
 
 /// What a container announces: so many values, or pairs of two of them.
 #[derive(Clone, Copy)]
@@ -30,8 +30,8 @@ pub(crate) struct Inside {
 /// The first fault from the left, where no value stands first.
 #[inline]
 pub fn skip(bytes: &[u8]) -> Result<usize, Bad>
-    ensures spelled { IfOk result (λ size. (size ≤ length bytes.now) × (value : Value) × Spells most_nested value (take size bytes.now)) }
-    ensures only { (value : Value) (size : ℕ) → size ≤ length bytes.now → Spells most_nested value (take size bytes.now) → result ≡ Ok size }
+    ensures spelled { IfOk result (λ size. (size ≤ length bytes.now) × (value : Value) × Spells max_nesting value (take size bytes.now)) }
+    ensures only { (value : Value) (size : ℕ) → size ≤ length bytes.now → Spells max_nesting value (take size bytes.now) → result ≡ Ok size }
     ensures fault { IfErr result (λ bad. first_fault bytes.now ≡ Some bad) }
     ensures exact { result ≡ measured bytes.now }
 {
@@ -76,7 +76,7 @@ fn walk(inside: Inside, behind: &[u8], bytes: &[u8]) -> Result<usize, Bad>
     requires within { length behind.now ≤ length bytes.now }
     ensures { result ≡ measured bytes.now }
 {
-    if inside.announced > MOST_LENGTH {
+    if inside.announced > MAX_LENGTH {
         return Err(Bad::Long(0));
     }
     // How many values are still to come in the open containers, and how many were opened.
@@ -93,10 +93,10 @@ fn walk(inside: Inside, behind: &[u8], bytes: &[u8]) -> Result<usize, Bad>
         let (inside, after) = step_over(at, rest)?;
         rest = after;
         if let Some(inside) = inside {
-            if opened == MOST_NESTED {
+            if opened == MAX_NESTING {
                 return walk_nested(bytes);
             }
-            if inside.announced > MOST_LENGTH {
+            if inside.announced > MAX_LENGTH {
                 return Err(Bad::Long(at));
             }
             left += inside.each * inside.announced;
@@ -112,7 +112,7 @@ fn walk_nested(bytes: &[u8]) -> Result<usize, Bad>
     ensures { result ≡ measured bytes.now }
 {
     // How many values are still to come: in the bytes themselves one, then in each open container.
-    let mut left = [0u32; MOST_NESTED + 1];
+    let mut left = [0u32; MAX_NESTING + 1];
     left[0] = 1;
     let mut depth = 1;
     let mut rest = bytes;
@@ -126,10 +126,10 @@ fn walk_nested(bytes: &[u8]) -> Result<usize, Bad>
         let (inside, after) = step_over(at, rest)?;
         rest = after;
         if let Some(inside) = inside {
-            if depth > MOST_NESTED {
+            if depth > MAX_NESTING {
                 return Err(Bad::Deep(at));
             }
-            if inside.announced > MOST_LENGTH {
+            if inside.announced > MAX_LENGTH {
                 return Err(Bad::Long(at));
             }
             left[depth] = inside.each * inside.announced;
@@ -215,14 +215,14 @@ fn plain_after(bytes: &[u8]) -> Option<&[u8]>
         return None;
     };
     let size = plain_size(*leading);
-    if size > MOST_PLAIN || rest.len() < size {
+    if size > MAX_PLAIN || rest.len() < size {
         return None;
     }
     let (_, after) = rest.split_at(size);
     Some(after)
 }
 
-/// How many bytes follow a leading byte that alone tells the value's length; more than `MOST_PLAIN` for
+/// How many bytes follow a leading byte that alone tells the value's length; more than `MAX_PLAIN` for
 /// another one.
 #[inline(always)]
 fn plain_size(leading: u8) -> usize
@@ -238,7 +238,7 @@ fn plain_size(leading: u8) -> usize
         0xc3 => 0,
         0xca..=0xd8 => fixed_size(leading),
         0xe0..=0xff => 0,
-        _ => MOST_PLAIN + 1,
+        _ => MAX_PLAIN + 1,
     }
 }
 
@@ -272,7 +272,7 @@ fn after_bytes(at: usize, announced: u32, size: usize, rest: &[u8]) -> Result<&[
     ensures exact { Gives (λ x. x.now) result (after_bytes at announced size rest.now) }
     ensures shorter { IfOk result (λ x. length x.now ≤ length rest.now) }
 {
-    if announced > MOST_LENGTH {
+    if announced > MAX_LENGTH {
         return Err(Bad::Long(at));
     }
     if rest.len() < size {

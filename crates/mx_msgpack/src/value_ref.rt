@@ -1,7 +1,7 @@
 //! A value where it stands in its bytes.
 
 ghost use Rattle.std.specs.Prelude.{◌≡◌, ◌≤◌, Ok, take, length, IfOk};
-ghost use Rattle.mx_msgpack.specs.Grammar.{Value, Spells, most_nested};
+ghost use Rattle.mx_msgpack.specs.Grammar.{Value, Spells, max_nesting};
 ghost use Rattle.mx_msgpack.specs.Reading.{Gives, head_at, reading_of, shown};
 ghost use Rattle.mx_msgpack.specs.View.{view, Shows};
 
@@ -34,7 +34,7 @@ pub enum ValueRef<'a> {
 /// The first fault from the left, where no value stands first.
 pub fn read_ref(bytes: &[u8]) -> Result<(ValueRef<'_>, usize), Bad>
     ensures spelled { IfOk result (λ x. (x.1 ≤ length bytes.now) × (value : Value)
-        × Spells most_nested value (take x.1 bytes.now) × Shows (view x.0) value) }
+        × Spells max_nesting value (take x.1 bytes.now) × Shows (view x.0) value) }
     ensures exact { Gives (λ x. (view x.0, x.1)) result (reading_of bytes.now) }
 {
     if let Some((head, rest)) = short_head(bytes) {
@@ -54,7 +54,7 @@ fn read_behind<'a>(
     requires head { head_at 0 bytes.now ≡ Ok (head, rest.now) }
     requires within { length rest.now ≤ length bytes.now }
     ensures spelled { IfOk result (λ x. (x.1 ≤ length bytes.now) × (value : Value)
-        × Spells most_nested value (take x.1 bytes.now) × Shows (view x.0) value) }
+        × Spells max_nesting value (take x.1 bytes.now) × Shows (view x.0) value) }
     ensures exact { Gives (λ x. (view x.0, x.1)) result (reading_of bytes.now) }
 {
     if let Head::Int(_) = head {

@@ -2,7 +2,7 @@
 
 ghost use Rattle.std.specs.Prelude.{◌≡◌, ◌++◌, ◌∷◌, ◌<◌, ◌≤◌, ◌^◌, length, take, MatchResult};
 ghost use Rattle.byteorder.specs.Endian.{big_bytes};
-ghost use Rattle.mx_msgpack.specs.Grammar.{most_length};
+ghost use Rattle.mx_msgpack.specs.Grammar.{max_length};
 ghost use Rattle.mx_msgpack.specs.Owned.{list_view, pair_list_view, value_view};
 ghost use Rattle.mx_msgpack.specs.Spelling.{array_head, bin_head, IsSpellable, map_head, shortest, shortest_all, shortest_int, shortest_negative, shortest_pairs, shortest_unsigned, str_head};
 ghost use Rattle.mx_msgpack.specs.Writing.{ArePairsWritable, AreWritable, Fits64, IsWritable};
@@ -149,7 +149,7 @@ fn write_negative(below: u64, out: &mut Bytes) -> Result<(), AllocError>
 /// Memory ran out; nothing was added.
 #[tactic(auto, unfolding(crate::specs::Spelling::str_head))]
 pub fn write_str_head(size: usize, out: &mut Bytes) -> Result<(), AllocError>
-    requires { size ≤ most_length }
+    requires { size ≤ max_length }
     ensures { MatchResult result (λ _. out.new ≡ out.old ++ str_head size) (λ _. out.new ≡ out.old) }
 {
     match size {
@@ -164,7 +164,7 @@ pub fn write_str_head(size: usize, out: &mut Bytes) -> Result<(), AllocError>
 /// Adds the shortest head of a Bin of so many bytes.
 #[tactic(auto, unfolding(crate::specs::Spelling::bin_head))]
 fn write_bin_head(size: usize, out: &mut Bytes) -> Result<(), AllocError>
-    requires { size ≤ most_length }
+    requires { size ≤ max_length }
     ensures { MatchResult result (λ _. out.new ≡ out.old ++ bin_head size) (λ _. out.new ≡ out.old) }
 {
     match size {
@@ -178,7 +178,7 @@ fn write_bin_head(size: usize, out: &mut Bytes) -> Result<(), AllocError>
 /// Adds the shortest head of an Array of so many values.
 #[tactic(auto, unfolding(crate::specs::Spelling::array_head))]
 fn write_array_head(count: usize, out: &mut Bytes) -> Result<(), AllocError>
-    requires { count ≤ most_length }
+    requires { count ≤ max_length }
     ensures { MatchResult result (λ _. out.new ≡ out.old ++ array_head count) (λ _. out.new ≡ out.old) }
 {
     match count {
@@ -196,7 +196,7 @@ fn write_array_head(count: usize, out: &mut Bytes) -> Result<(), AllocError>
 /// Memory ran out; nothing was added.
 #[tactic(auto, unfolding(crate::specs::Spelling::map_head))]
 pub fn write_map_head(count: usize, out: &mut Bytes) -> Result<(), AllocError>
-    requires { count ≤ most_length }
+    requires { count ≤ max_length }
     ensures { MatchResult result (λ _. out.new ≡ out.old ++ map_head count) (λ _. out.new ≡ out.old) }
 {
     match count {

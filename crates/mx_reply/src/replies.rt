@@ -11,7 +11,7 @@ use mx_msgpack::{Bytes, write_str_head};
 use std::alloc::{AllocError, Global};
 
 /// The most bytes that a Str may have.
-const MOST_TEXT: usize = 2_097_152;
+const MAX_TEXT: usize = 2_097_152;
 
 /// Adds the reply of an answer: a packet of type 0 with this sync and schema version, and the body's
 /// map.
@@ -68,7 +68,7 @@ pub fn write_error(
     ensures fits { OnOk result (23 + length (refusal_body refusal.now) < 2 ^ 32) }
 {
     let text = text_of(alloc, refusal)?;
-    if text.len() > MOST_TEXT {
+    if text.len() > MAX_TEXT {
         return Err(AllocError);
     }
     let mut head = Bytes::new(alloc);

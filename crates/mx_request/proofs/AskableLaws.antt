@@ -13,7 +13,7 @@ use Rattle.mx_base.specs.declared.refusal.Refusal.{Refusal}
 use Rattle.mx_msgpack.specs.declared.bad.Bad.{Bad}
 use Rattle.mx_msgpack.specs.Reading.{reading_of, Shown, ShownNil, ShownBool, ShownInt, ShownStr, ShownBin, ShownArray, ShownMap, ShownOpaque}
 use Rattle.mx_msgpack.proofs.Options.{bind_some, allowed, same_some}
-use Rattle.mx_vclock.specs.Vclocks.{replicas, most_lsn, IsVclock}
+use Rattle.mx_vclock.specs.Vclocks.{replicas, max_lsn, IsVclock}
 use Rattle.mx_request.specs.declared.request.Head3.{Head3}
 use Rattle.mx_request.specs.declared.request.Request.{Request}
 use Rattle.mx_request.specs.declared.request.Request.TheVariants.{Nop, Ping, Commit, Rollback, Id}
@@ -138,22 +138,22 @@ uuid_is (Ok (ShownOpaque spelling, size)) x e = absurd cc
 required_uuid : (key : ℕ) (pairs : List Pair) (x : List ℕ) → required key uuid_in pairs ≡ Ok x → IsUuid x
 required_uuid key pairs x e = required_is IsUuid key uuid_in (value_under key pairs) x (λ value _ k. uuid_is (reading_of value) x k) e
 
-clock_set : (clock : List ℕ) (id lsn : ℕ) → IsVclock clock → lsn ≤ most_lsn → IsVclock (slice_set clock id lsn)
+clock_set : (clock : List ℕ) (id lsn : ℕ) → IsVclock clock → lsn ≤ max_lsn → IsVclock (slice_set clock id lsn)
 clock_set clock id lsn c most = record {
   whole = length-set clock id lsn ∙ c.whole;
-  bounded = All-set (λ n. n ≤ most_lsn) clock id lsn most c.bounded;
+  bounded = All-set (λ n. n ≤ max_lsn) clock id lsn most c.bounded;
 }
 
 clock_more : (clock : List ℕ) (pairs : List Pair) (x : List ℕ) → IsVclock clock → clock_from clock pairs ≡ Some x → IsVclock x
 clock_more clock [] x c e = subst (λ (l : List ℕ). IsVclock l) (same_some clock x e) c
 clock_more clock (pair ∷ others) x c e =
     let id = bind_some pair.key _ x e in
-    let lsn = bind_some (number_to most_lsn pair.value) (λ lsn. if nat_lt id.0 replicas then clock_from (slice_set clock id.0 lsn) others else None) x id.2 in
+    let lsn = bind_some (number_to max_lsn pair.value) (λ lsn. if nat_lt id.0 replicas then clock_from (slice_set clock id.0 lsn) others else None) x id.2 in
     let t = allowed (nat_lt id.0 replicas) (clock_from (slice_set clock id.0 lsn.0) others) x lsn.2 in
-    clock_more (slice_set clock id.0 lsn.0) others x (clock_set clock id.0 lsn.0 c (number_most most_lsn pair.value lsn.0 lsn.1)) t.1
+    clock_more (slice_set clock id.0 lsn.0) others x (clock_set clock id.0 lsn.0 c (number_most max_lsn pair.value lsn.0 lsn.1)) t.1
 
 clock_empty : IsVclock (replicate replicas 0)
-clock_empty = record { whole = refl; bounded = All-replicate (λ n. n ≤ most_lsn) replicas 0 (omega arith) }
+clock_empty = record { whole = refl; bounded = All-replicate (λ n. n ≤ max_lsn) replicas 0 (omega arith) }
 
 clock_is : (read : Result (Shown × ℕ) Bad) (x : List ℕ) → clock_shown read ≡ Some x → IsVclock x
 clock_is (Err bad) x e = absurd cc

@@ -9,7 +9,7 @@ use Rattle.std.proofs.lemmas.List.Elements.{All-head, All-tail}
 use Rattle.mx_msgpack.specs.Grammar.{Int}
 use Rattle.mx_msgpack.specs.Spelling.{shortest_unsigned}
 use Rattle.mx_msgpack.proofs.SpellingLaws.{shortest_spelled}
-use Rattle.mx_vclock.specs.Vclocks.{replicas, most_lsn, IsVclock}
+use Rattle.mx_vclock.specs.Vclocks.{replicas, max_lsn, IsVclock}
 use Rattle.mx_vclock.specs.Spelling as clocks
 use Rattle.mx_vclock.specs.Spelling.{clock_map}
 use Rattle.mx_request.specs.Maps.{Pair}
@@ -28,13 +28,13 @@ written pair = (pair.0, shortest_unsigned pair.1)
 -- each is of a replica id
 abbrev AreComponents : List (ℕ × ℕ) → Type 0
 AreComponents [] = ⊤
-AreComponents (pair ∷ others) = (pair.0 < replicas) × (pair.1 ≤ most_lsn) × AreComponents others
+AreComponents (pair ∷ others) = (pair.0 < replicas) × (pair.1 ≤ max_lsn) × AreComponents others
 
-components_of : (id : ℕ) (lsns : List ℕ) → id + length lsns ≤ replicas → All (λ lsn. lsn ≤ most_lsn) lsns → AreComponents (clocks.pairs_from id lsns)
+components_of : (id : ℕ) (lsns : List ℕ) → id + length lsns ≤ replicas → All (λ lsn. lsn ≤ max_lsn) lsns → AreComponents (clocks.pairs_from id lsns)
 components_of id [] within bounded = tt
 components_of id (lsn ∷ lsns) within bounded =
-    let rest = components_of (suc id) lsns (omega arith) (All-tail (λ n. n ≤ most_lsn) lsn lsns bounded) in
-    cond_both (lsn == 0) _ _ AreComponents (λ _. rest) (λ _. (omega arith, All-head (λ n. n ≤ most_lsn) lsn lsns bounded, rest))
+    let rest = components_of (suc id) lsns (omega arith) (All-tail (λ n. n ≤ max_lsn) lsn lsns bounded) in
+    cond_both (lsn == 0) _ _ AreComponents (λ _. rest) (λ _. (omega arith, All-head (λ n. n ≤ max_lsn) lsn lsns bounded, rest))
 
 -- no more than there are lsns
 components_count : (id : ℕ) (lsns : List ℕ) → length (clocks.pairs_from id lsns) ≤ length lsns
@@ -59,27 +59,27 @@ components_within room (pair ∷ others) (low, most, rest) =
 -- ---- the lsns are read one after the other
 
 -- a component is set where the earlier ones end
-component_set : (earlier zeros : List ℕ) (id lsn : ℕ) (others : List Pair) → length earlier ≡ id → id < replicas → lsn ≤ most_lsn
+component_set : (earlier zeros : List ℕ) (id lsn : ℕ) (others : List Pair) → length earlier ≡ id → id < replicas → lsn ≤ max_lsn
     → clock_from (earlier ++ 0 ∷ zeros) (as_read (written (id, lsn)) ∷ others) ≡ clock_from (earlier ++ lsn ∷ zeros) others
 component_set earlier zeros id lsn others len low most =
     let set : slice_set (earlier ++ 0 ∷ zeros) id lsn ≡ earlier ++ lsn ∷ zeros =
     ap (λ (i : ℕ). slice_set (earlier ++ 0 ∷ zeros) i lsn) (sym len) ∙ set-append_seam earlier 0 zeros lsn in
-    rw (number_read_again most_lsn lsn most (omega arith), lt-ltb id replicas low, set) refl
+    rw (number_read_again max_lsn lsn most (omega arith), lt-ltb id replicas low, set) refl
 
-lsns_again : (earlier lsns : List ℕ) (id : ℕ) → length earlier ≡ id → id + length lsns ≤ replicas → All (λ lsn. lsn ≤ most_lsn) lsns
+lsns_again : (earlier lsns : List ℕ) (id : ℕ) → length earlier ≡ id → id + length lsns ≤ replicas → All (λ lsn. lsn ≤ max_lsn) lsns
     → clock_from (earlier ++ replicate (length lsns) 0) (map as_read (map written (clocks.pairs_from id lsns))) ≡ Some (earlier ++ lsns)
 lsns_again earlier [] id len within bounded = refl
 lsns_again earlier (lsn ∷ lsns) id len within bounded =
     let zeros : List ℕ = replicate (length lsns) 0 in
     let others = clocks.pairs_from (suc id) lsns in
     let longer : length (earlier ++ lsn ∷ []) ≡ suc id = omega (arith, length-append earlier (lsn ∷ [])) in
-    let rest = lsns_again (earlier ++ lsn ∷ []) lsns (suc id) longer (omega arith) (All-tail (λ n. n ≤ most_lsn) lsn lsns bounded) in
+    let rest = lsns_again (earlier ++ lsn ∷ []) lsns (suc id) longer (omega arith) (All-tail (λ n. n ≤ max_lsn) lsn lsns bounded) in
     let after : clock_from (earlier ++ lsn ∷ zeros) (map as_read (map written others)) ≡ Some (earlier ++ lsn ∷ lsns) =
     ap (λ (l : List ℕ). clock_from l (map as_read (map written others))) (sym (append_assoc earlier (lsn ∷ []) zeros)) ∙ rest
     ∙ ap (λ (l : List ℕ). Some l) (append_assoc earlier (lsn ∷ []) lsns) in
     cond_both (lsn == 0) _ _ (λ (pairs : List (ℕ × ℕ)). clock_from (earlier ++ 0 ∷ zeros) (map as_read (map written pairs)) ≡ Some (earlier ++ lsn ∷ lsns))
     (λ t. ap (λ (n : ℕ). clock_from (earlier ++ n ∷ zeros) (map as_read (map written others))) (sym (eqb-true lsn 0 t)) ∙ after)
-    (λ _. component_set earlier zeros id lsn (map as_read (map written others)) len (omega arith) (All-head (λ n. n ≤ most_lsn) lsn lsns bounded) ∙ after)
+    (λ _. component_set earlier zeros id lsn (map as_read (map written others)) len (omega arith) (All-head (λ n. n ≤ max_lsn) lsn lsns bounded) ∙ after)
 
 -- ---- the whole
 
@@ -92,7 +92,7 @@ record Parts (clock : List ℕ) : Type 0 where
   lsns : List ℕ
   parts : clock ≡ 0 ∷ lsns
   many : length lsns ≡ 31
-  bounded : All (λ lsn. lsn ≤ most_lsn) lsns
+  bounded : All (λ lsn. lsn ≤ max_lsn) lsns
 
 parts_of : (clock : List ℕ) → IsVclock clock → slice_index clock 0 ≡ 0 → Parts clock
 parts_of [] c e = let whole = c.whole in absurd (omega arith)
@@ -100,10 +100,10 @@ parts_of (first ∷ lsns) c e = record {
   lsns = lsns;
   parts = ap (λ (n : ℕ). n ∷ lsns) e;
   many = omega (arith, c.whole);
-  bounded = All-tail (λ n. n ≤ most_lsn) first lsns c.bounded;
+  bounded = All-tail (λ n. n ≤ max_lsn) first lsns c.bounded;
 }
 
-module _ (lsns : List ℕ) (many : length lsns ≡ 31) (bounded : All (λ lsn. lsn ≤ most_lsn) lsns) where
+module _ (lsns : List ℕ) (many : length lsns ≡ 31) (bounded : All (λ lsn. lsn ≤ max_lsn) lsns) where
   each : AreComponents (clocks.pairs_from 1 lsns)
   each = components_of 1 lsns (omega arith) bounded
 

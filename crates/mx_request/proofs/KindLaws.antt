@@ -5,7 +5,7 @@ use Rattle.std.specs.Prelude.{◌↔◌, IsOk, IfOk}
 use Rattle.std.specs.Result.{result_ok}
 use Rattle.uuid.specs.Text.{parsed, parsed_hyphenated}
 use Rattle.mx_msgpack.specs.Reading.{ShownStr, reading_of}
-use Rattle.mx_vclock.specs.Vclocks.{most_lsn}
+use Rattle.mx_vclock.specs.Vclocks.{max_lsn}
 use Rattle.mx_request.specs.Maps.{pairs_from}
 use Rattle.mx_request.specs.Kinds.{clock_from, number_to, uuid_in}
 
@@ -25,7 +25,7 @@ uuid_parsed value text size r reads long found same = rw reads (parsed_as r (par
 -- one more pair of a vclock
 pub clock_turn : (clock after : List ℕ) (whole : Option (List ℕ)) (left id lsn : ℕ) (bytes rest value : List ℕ) → 0 < left
     → ((others : ℕ) → pairs_from (suc others) bytes ≡ record { key = Some id; value = value } ∷ pairs_from others rest)
-    → Some lsn ≡ number_to most_lsn value → id < 32 → after ≡ set clock id lsn
+    → Some lsn ≡ number_to max_lsn value → id < 32 → after ≡ set clock id lsn
     → clock_from clock (pairs_from left bytes) ≡ whole → clock_from after (pairs_from (left - 1) rest) ≡ whole
 clock_turn clock after whole left id lsn bytes rest value some first number below is all =
     let more : left ≡ suc (left - 1) = omega arith in

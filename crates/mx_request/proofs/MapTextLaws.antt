@@ -5,7 +5,7 @@ use Rattle.std.proofs.lemmas.Bool.{cond_both, ltb-true, ltb-false, le-ltb}
 use Rattle.std.proofs.lemmas.List.{append-nil, take_all, take_at, drop_at, length-append}
 use Rattle.byteorder.specs.Endian.{big_number, big_bytes}
 use Rattle.byteorder.specs.Numbers.{big_number-reads_back, length-bytes_high_first}
-use Rattle.mx_msgpack.specs.Grammar.{Value, Int, Map, Pairs, NoPair, MorePairs, pair_count, most_length, MapHead, Spells, SpellsPairs}
+use Rattle.mx_msgpack.specs.Grammar.{Value, Int, Map, Pairs, NoPair, MorePairs, pair_count, max_length, MapHead, Spells, SpellsPairs}
 use Rattle.mx_msgpack.specs.Reading.{head_at, after_value, reading_of, ShownMap}
 use Rattle.mx_msgpack.specs.Spelling.{map_head}
 use Rattle.mx_msgpack.proofs.FrontLaws.{map_read}
@@ -69,7 +69,7 @@ wide_reads : (rest : List ℕ) → 2 ≤ length rest → after_value (length (0x
 unfolding reading_of head_at
 wide_reads rest two alone = rw (alone, le-ltb (length rest) 2 two) refl
 
-wide_shown : (count : ℕ) (pairs : Pairs) (content : List ℕ) → count ≡ pair_count pairs → count < 2 ^ 16 → count ≤ most_length → SpellsPairs 63 pairs content
+wide_shown : (count : ℕ) (pairs : Pairs) (content : List ℕ) → count ≡ pair_count pairs → count < 2 ^ 16 → count ≤ max_length → SpellsPairs 63 pairs content
     → (size : ℕ) × (reading_of ((0xde ∷ big_bytes 2 count) ++ content) ≡ Ok (ShownMap count content, size))
 wide_shown count pairs content many fits few s =
     let digits = big_bytes 2 count in
@@ -107,7 +107,7 @@ pub map_shown : (pairs : List Written) → AreWhole pairs → length pairs < 2 ^
 map_shown pairs whole few = let s = spelled_so 63 pairs whole in headed_shown (length pairs) s.all (pairs_text pairs) (sym s.many) few s.spelled
 
 -- a map may stand in a map, where its values leave room for it
-pub map_inner : (pairs : List Written) → AreWithin 62 pairs → length pairs ≤ most_length → IsInner (map_text pairs)
+pub map_inner : (pairs : List Written) → AreWithin 62 pairs → length pairs ≤ max_length → IsInner (map_text pairs)
 map_inner pairs within few =
     let s = spelled_so 62 pairs within in
     (Map s.all, (map_head (length pairs), pairs_text pairs, rw s.many (map_head_spelled (length pairs) few), rw s.many few, refl, s.spelled))

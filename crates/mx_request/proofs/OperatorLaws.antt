@@ -5,7 +5,7 @@ use Rattle.mx_base.specs.declared.refusal.Refusal.{Refusal}
 use Rattle.mx_base.specs.declared.refusal.Refusal.TheVariants.{BadArgument}
 use Rattle.mx_msgpack.specs.Reading.{reading_of}
 use Rattle.mx_request.specs.Maps.{first_value, after_value, values_from}
-use Rattle.mx_request.specs.Operators.{Arguments, AnyValue, Count, OneInt, OneUnsigned, Splice, are_arguments, are_operands, arguments_of, elements_in, first_fault_from, is_int, most_operations, operands_fault, operation_fault, operator_fault, or_else, text_shown}
+use Rattle.mx_request.specs.Operators.{Arguments, AnyValue, Count, OneInt, OneUnsigned, Splice, are_arguments, are_operands, arguments_of, elements_in, first_fault_from, is_int, max_operations, operands_fault, operation_fault, operator_fault, or_else, text_shown}
 use Rattle.mx_request.specs.Views.{argument_count}
 
 -- another number of values
@@ -47,30 +47,30 @@ operands_right arguments count bytes field values int right first after told =
 -- the operation that stands first, and the others
 operations_more : (place count : ℕ) (bytes : List ℕ) → place < count
     → first_fault_from place (values_from (count - place) bytes)
-    ≡ or_else (cond (ltb place most_operations) (operation_fault place (first_value bytes)) (Some (BadArgument place))) (first_fault_from (place + 1) (values_from (count - (place + 1)) (after_value bytes)))
+    ≡ or_else (cond (ltb place max_operations) (operation_fault place (first_value bytes)) (Some (BadArgument place))) (first_fault_from (place + 1) (values_from (count - (place + 1)) (after_value bytes)))
 operations_more place count bytes below =
     let more : count - place ≡ suc (count - (place + 1)) = omega arith in
     let next : suc place ≡ place + 1 = omega arith in
     rw (more, ← next) refl
 
-pub one_too_many : (place count : ℕ) (bytes : List ℕ) (whole : Option Refusal) → place < count → most_operations ≤ place
+pub one_too_many : (place count : ℕ) (bytes : List ℕ) (whole : Option Refusal) → place < count → max_operations ≤ place
     → first_fault_from place (values_from (count - place) bytes) ≡ whole → Some (BadArgument place) ≡ whole
 one_too_many place count bytes whole below many all =
-    let known : ltb place most_operations ≡ false = le-ltb place most_operations many in
+    let known : ltb place max_operations ≡ false = le-ltb place max_operations many in
     sym (operations_more place count bytes below ∙ rw known refl) ∙ all
 
-pub faulty : (place count : ℕ) (bytes operation : List ℕ) (fault : Refusal) (whole : Option Refusal) → place < count → place < most_operations
+pub faulty : (place count : ℕ) (bytes operation : List ℕ) (fault : Refusal) (whole : Option Refusal) → place < count → place < max_operations
     → operation ≡ first_value bytes → Some fault ≡ operation_fault place operation
     → first_fault_from place (values_from (count - place) bytes) ≡ whole → Some fault ≡ whole
 faulty place count bytes operation fault whole below few first told all =
-    let known : ltb place most_operations ≡ true = lt-ltb place most_operations few in
+    let known : ltb place max_operations ≡ true = lt-ltb place max_operations few in
     sym (operations_more place count bytes below ∙ rw (known, ← first, ← told) refl) ∙ all
 
-pub passes : (place count : ℕ) (bytes operation rest : List ℕ) (whole : Option Refusal) → place < count → place < most_operations
+pub passes : (place count : ℕ) (bytes operation rest : List ℕ) (whole : Option Refusal) → place < count → place < max_operations
     → operation ≡ first_value bytes → rest ≡ after_value bytes → None ≡ operation_fault place operation
     → first_fault_from place (values_from (count - place) bytes) ≡ whole → first_fault_from (place + 1) (values_from (count - (place + 1)) rest) ≡ whole
 passes place count bytes operation rest whole below few first after told all =
-    let known : ltb place most_operations ≡ true = lt-ltb place most_operations few in
+    let known : ltb place max_operations ≡ true = lt-ltb place max_operations few in
     sym (operations_more place count bytes below ∙ rw (known, ← first, ← told, ← after) refl) ∙ all
 
 one_letter : (place : ℕ) (text : List ℕ) (operands : List (List ℕ)) → 1 ≤ length text → length text < 2

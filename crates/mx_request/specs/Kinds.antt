@@ -4,7 +4,7 @@ use Rattle.uuid.specs.Text.{parsed_hyphenated}
 use Rattle.mx_msgpack.specs.declared.bad.Bad.{Bad}
 use Rattle.mx_msgpack.specs.Reading.{Shown, ShownNil, ShownBool, ShownInt, ShownStr, ShownBin, ShownArray, ShownMap, ShownOpaque, reading_of}
 use Rattle.mx_msgpack.specs.Readers.{◌>>=◌, unsigned_at}
-use Rattle.mx_vclock.specs.Vclocks.{replicas, most_lsn}
+use Rattle.mx_vclock.specs.Vclocks.{replicas, max_lsn}
 use Rattle.mx_request.specs.Maps.{Pair, number_of, pairs_from}
 
 -- a number of 0 or more
@@ -56,7 +56,7 @@ abbrev pub clock_from : List ℕ → List Pair → Option (List ℕ)
 clock_from clock [] = Some clock
 clock_from clock (pair ∷ others) = do
   id ← pair.key
-  lsn ← number_to most_lsn pair.value
+  lsn ← number_to max_lsn pair.value
   if nat_lt id replicas then clock_from (slice_set clock id lsn) others else None
 
 abbrev pub clock_shown : Result (Shown × ℕ) Bad → Option (List ℕ)

@@ -8,8 +8,8 @@ use Rattle.mx_request.specs.Maps.{values_from}
 use Rattle.mx_request.specs.Kinds.{unsigned_in}
 
 -- the most operations of a request
-abbrev pub most_operations : ℕ
-most_operations = 4000
+abbrev pub max_operations : ℕ
+max_operations = 4000
 
 abbrev pub elements_shown : Result (Shown × ℕ) Bad → Option (List (List ℕ))
 elements_shown (Err bad) = None
@@ -140,7 +140,7 @@ or_else (Some refusal) other = Some refusal
 abbrev pub first_fault_from : (place : ℕ) → List (List ℕ) → Option Refusal
 first_fault_from place [] = None
 first_fault_from place (operation ∷ others) =
-    or_else (if nat_lt place most_operations then operation_fault place operation else Some (BadArgument place)) (first_fault_from (suc place) others)
+    or_else (if nat_lt place max_operations then operation_fault place operation else Some (BadArgument place)) (first_fault_from (suc place) others)
 
 abbrev pub operations_fault : Option (List (List ℕ)) → Option Refusal
 operations_fault None = None

@@ -16,13 +16,13 @@ use crate::request_type::RequestType;
 use mx_base::{IndexId, Refusal, SpaceId};
 
 /// The greatest number of an iterator.
-const MOST_ITERATOR: u32 = 6;
+const MAX_ITERATOR: u32 = 6;
 
 /// The greatest number of a tuple's first field.
-const MOST_BASE: u32 = 1;
+const MAX_BASE: u32 = 1;
 
 /// The greatest number of an isolation level.
-const MOST_ISOLATION: u32 = 4;
+const MAX_ISOLATION: u32 = 4;
 
 /// What a body asks with this type of request: its keys in rising order, then its operations.
 pub(crate) fn request_in(request_type: RequestType, body: &[u8]) -> Result<RequestRef<'_>, Refusal>
@@ -71,7 +71,7 @@ fn select_in(body: &[u8]) -> Result<RequestRef<'_>, Refusal>
         index: IndexId(optional_number(keys::INDEX, 0, u32::MAX, index)?),
         limit: optional_number(keys::LIMIT, u32::MAX, u32::MAX, limit)?,
         offset: optional_number(keys::OFFSET, 0, u32::MAX, offset)?,
-        iterator: optional_number(keys::ITERATOR, 0, MOST_ITERATOR, iterator)? as u8,
+        iterator: optional_number(keys::ITERATOR, 0, MAX_ITERATOR, iterator)? as u8,
         key: required_array(keys::KEY, key)?,
     })
 }
@@ -119,7 +119,7 @@ fn update_in(body: &[u8]) -> Result<RequestRef<'_>, Refusal>
     Ok(RequestRef::Update {
         space: SpaceId(required_number(keys::SPACE, space)?),
         index: IndexId(optional_number(keys::INDEX, 0, u32::MAX, index)?),
-        base: optional_number(keys::BASE, 0, MOST_BASE, base)?,
+        base: optional_number(keys::BASE, 0, MAX_BASE, base)?,
         key: required_array(keys::KEY, key)?,
         ops: shaped(required_array(keys::TUPLE, ops)?)?,
     })
@@ -154,7 +154,7 @@ fn upsert_in(body: &[u8]) -> Result<RequestRef<'_>, Refusal>
     let [space, base, tuple, ops] = values;
     Ok(RequestRef::Upsert {
         space: SpaceId(required_number(keys::SPACE, space)?),
-        base: optional_number(keys::BASE, 0, MOST_BASE, base)?,
+        base: optional_number(keys::BASE, 0, MAX_BASE, base)?,
         tuple: required_array(keys::TUPLE, tuple)?,
         ops: shaped(required_array(keys::OPERATIONS, ops)?)?,
     })
@@ -168,7 +168,7 @@ fn begin_in(body: &[u8]) -> Result<RequestRef<'_>, Refusal>
     let mut values = [None; 1];
     values_under(&[keys::ISOLATION], body, &mut values);
     let [level] = values;
-    optional_number(keys::ISOLATION, 0, MOST_ISOLATION, level)?;
+    optional_number(keys::ISOLATION, 0, MAX_ISOLATION, level)?;
     Ok(RequestRef::Plain(Request::Begin))
 }
 

@@ -15,7 +15,7 @@ use uuid::Uuid;
 const REPLICAS: u64 = 32;
 
 /// The greatest lsn.
-const MOST_LSN: u64 = 1 << 58;
+const MAX_LSN: u64 = 1 << 58;
 
 /// How many bytes the hyphenated text of a UUID has.
 const UUID_TEXT: usize = 36;
@@ -86,7 +86,7 @@ fn clock_from(pairs: Row<'_>) -> Option<Vclock>
     while left > 0 {
         let (pair, others) = first_pair(rest);
         let id = pair.key?;
-        let lsn = number_to(MOST_LSN, pair.value)?;
+        let lsn = number_to(MAX_LSN, pair.value)?;
         if id >= REPLICAS {
             return None;
         }

@@ -14,7 +14,7 @@ use mx_base::Refusal;
 use mx_msgpack::{ValueRef, parted, read_ref};
 
 /// The most operations of a request.
-const MOST_OPERATIONS: u32 = 4_000;
+const MAX_OPERATIONS: u32 = 4_000;
 
 /// What an operator takes behind the field number.
 #[derive(Clone, Copy)]
@@ -47,7 +47,7 @@ fn first_fault(operations: Row<'_>) -> Option<Refusal>
 {
     let mut rest = operations.bytes;
     for place in 0..operations.count {
-        if place >= MOST_OPERATIONS {
+        if place >= MAX_OPERATIONS {
             return Some(Refusal::BadArgument { operation: place });
         }
         let (operation, others) = parted(rest);

@@ -29,7 +29,7 @@ const LAST: &[u8] = &[0xce, 0xff, 0xff, 0xff, 0xff];
 const PAST: &[u8] = &[0xcf, 0, 0, 0, 1, 0, 0, 0, 0];
 
 /// The lsns 2^58 and 2^58 + 1 of the replica id 31, and the lsn 1 of 32.
-const LAST_LSN: &[u8] = &[0x81, 31, 0xcf, 4, 0, 0, 0, 0, 0, 0, 0];
+const MAX_LSN_CLOCK: &[u8] = &[0x81, 31, 0xcf, 4, 0, 0, 0, 0, 0, 0, 0];
 
 const PAST_LSN: &[u8] = &[0x81, 31, 0xcf, 4, 0, 0, 0, 0, 0, 0, 1];
 
@@ -110,7 +110,7 @@ static BODIES: [(u8, Pairs, &str); 15] = [
 
 /// A type of request, a key, whether it has to be there, a value that is taken and one that isn't.
 static KEYS: [(u8, u8, bool, &[u8], &[u8]); 33] = [
-    (0, 0x26, true, LAST_LSN, PAST_LSN),
+    (0, 0x26, true, MAX_LSN_CLOCK, PAST_LSN),
     (0, 0x26, true, &[0x80], &[0x81, 0xa1, 0x31, 1]),
     (1, 0x10, true, LAST, PAST),
     (1, 0x11, false, LAST, PAST),
@@ -140,7 +140,7 @@ static KEYS: [(u8, u8, bool, &[u8], &[u8]); 33] = [
     (66, 0x24, true, CAPITALS, BRACED),
     (66, 0x25, true, INSTANCE, NO_TEXT),
     (66, 0x26, true, &[0x80], PAST_ID),
-    (66, 0x26, true, LAST_LSN, PAST_LSN),
+    (66, 0x26, true, MAX_LSN_CLOCK, PAST_LSN),
     (66, 0x26, true, &[0x82, 1, 5, 1, 6], &[0x82, 1, 0xff, 1, 6]),
     (66, 0x26, true, &[0x81, 0, 1], &[0x91, 1]),
 ];

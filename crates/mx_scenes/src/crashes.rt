@@ -160,7 +160,7 @@ fn other_ends_count_for_nothing(rt: HostRuntime) -> Result<(), Fail> {
 type Runs = &'static [&'static [u8]];
 
 /// More calls than any of these runs make on the directory.
-const MOST_CALLS: u64 = 100;
+const MAX_CALLS: u64 = 100;
 
 const RUNS: [Runs; 3] = [&[&[1, 2, 3]], &[&[1], &[2, 3, 4]], &[&[], &[1, 2, 3]]];
 
@@ -297,7 +297,7 @@ fn what_was_acknowledged_is_found_after_a_stop_at_any_call(rt: HostRuntime) -> R
     for runs in RUNS {
         let mut has_ended = false;
         let mut is_more_found = false;
-        for call in 1..MOST_CALLS {
+        for call in 1..MAX_CALLS {
             if has_ended {
                 break;
             }
@@ -311,7 +311,7 @@ fn what_was_acknowledged_is_found_after_a_stop_at_any_call(rt: HostRuntime) -> R
                 is_more_found |= seen.found > seen.acknowledged;
             }
         }
-        assert!(rt; has_ended, "{runs:?} made more than {MOST_CALLS} calls");
+        assert!(rt; has_ended, "{runs:?} made more than {MAX_CALLS} calls");
         assert!(rt; is_more_found, "{runs:?} left no block without its reply");
     }
     Ok(())

@@ -10,7 +10,7 @@ use Rattle.std.proofs.lemmas.List.Elements.{All-set}
 use Rattle.std.proofs.Math.ListN.{length-set}
 use Rattle.mx_xlog.specs.declared.head.Head.{Head}
 use Rattle.mx_xlog.specs.Headers.{IsHead}
-use Rattle.mx_vclock.specs.Vclocks.{IsVclock, IsNext, Covers, most_lsn}
+use Rattle.mx_vclock.specs.Vclocks.{IsVclock, IsNext, Covers, max_lsn}
 use Rattle.mx_xlog.specs.declared.block.Block.{Block}
 use Rattle.mx_xlog.specs.declared.block.Block.TheVariants.{Rows, End, Empty, Torn}
 use Rattle.mx_xlog.specs.Blocks.{StandsAt, block_of}
@@ -26,7 +26,7 @@ use Rattle.mx_key.specs.declared.fault.KeyFault.TheVariants.{NoMemory}
 use Rattle.mx_key.specs.Keys.{Key}
 use Rattle.mx_model.specs.State.{test_space, test_parts, key_in}
 use Rattle.mx_model.specs.Stored.{Holds}
-use Rattle.mx_model.specs.Answers.{state_after_row, state_after_rows, longest_tuple}
+use Rattle.mx_model.specs.Answers.{state_after_row, state_after_rows, max_tuple_size}
 use Rattle.mx_model.specs.Transactions.{clock_after_one}
 use Rattle.mx_model.specs.Files as files
 use Rattle.mx_model.specs.Files.{after_transaction, after_block, after_blocks, block_reached, damaged_row, same_bytes, follows, takes_row, takes_rows, ids_or, ids_in, FileRead, head_fits, after_head}
@@ -106,12 +106,12 @@ one_row replica lsn space tuple = record { replica = replica; first = lsn; rows 
 
 module _ (old new : Reached) (before : files.Reached) (stands : StandsFor old before) (replica lsn : ℕ) (tuple copy : List ℕ) (key : Key)
     (least : 1 ≤ replica) (few : replica < 32) (next : IsNext old.clock replica lsn) (clock : new.clock ≡ slice_set old.clock replica lsn)
-    (ids : new.ids ≡ old.ids) (short : length tuple ≤ longest_tuple) (keyed : key_in test_parts tuple ≡ Ok key) (copied : copy ≡ tuple)
+    (ids : new.ids ≡ old.ids) (short : length tuple ≤ max_tuple_size) (keyed : key_in test_parts tuple ≡ Ok key) (copied : copy ≡ tuple)
     (holds : Holds new.state (state_after_row before.state (Replaced test_space copy))) where
   abbrev tx : Tx
   tx = one_row replica lsn test_space tuple
 
-  most : (lsn + 1) - 1 ≤ most_lsn
+  most : (lsn + 1) - 1 ≤ max_lsn
   most = omega (arith, next.allowed)
 
   does_follow : follows before.clock tx ≡ true
@@ -122,8 +122,8 @@ module _ (old new : Reached) (before : files.Reached) (stands : StandsFor old be
 
   takes : takes_rows before.state tx.rows ≡ true
   takes =
-      ap (λ o. (is_some o && nat_le (length tuple) longest_tuple && is_ok (key_in test_parts tuple)) && true) stands.holds.keeps.there
-      ∙ ap (λ b. (b && is_ok (key_in test_parts tuple)) && true) (le-leb (length tuple) longest_tuple short)
+      ap (λ o. (is_some o && nat_le (length tuple) max_tuple_size && is_ok (key_in test_parts tuple)) && true) stands.holds.keeps.there
+      ∙ ap (λ b. (b && is_ok (key_in test_parts tuple)) && true) (le-leb (length tuple) max_tuple_size short)
       ∙ ap (λ k. is_ok k && true) keyed
 
   stands_after : StandsFor new (record before { state = state_after_rows before.state tx.rows; clock = clock_after_one before.clock tx })
@@ -134,7 +134,7 @@ module _ (old new : Reached) (before : files.Reached) (stands : StandsFor old be
         clock = clock ∙ ap (λ (c : List ℕ). slice_set c replica lsn) stands.clock ∙ ap (slice_set before.clock replica) last;
         sound = record {
           whole = length-set before.clock replica ((lsn + 1) - 1) ∙ stands.sound.whole;
-          bounded = All-set (λ lsn. lsn ≤ most_lsn) before.clock replica ((lsn + 1) - 1) most stands.sound.bounded;
+          bounded = All-set (λ lsn. lsn ≤ max_lsn) before.clock replica ((lsn + 1) - 1) most stands.sound.bounded;
         };
         nothing = get_or-set_other before.clock replica 0 ((lsn + 1) - 1) 0 (λ is. omega (arith, is)) ∙ stands.nothing;
         whose = stands.whose;
@@ -162,8 +162,8 @@ module _ (new : Reached) (before : files.Reached) (replica lsn space : ℕ) (tup
   -- its tuple has no primary key
   pub unkeyed_row : (fault : KeyFault) → key_in test_parts tuple ≡ Err fault → Refused
   unkeyed_row fault is =
-      refused_by (ap (λ k. is_some (finite.get before.state space) && nat_le (length tuple) longest_tuple && is_ok k) is
-      ∙ and_false (is_some (finite.get before.state space) && nat_le (length tuple) longest_tuple))
+      refused_by (ap (λ k. is_some (finite.get before.state space) && nat_le (length tuple) max_tuple_size && is_ok k) is
+      ∙ and_false (is_some (finite.get before.state space) && nat_le (length tuple) max_tuple_size))
 
 -- ---- blocks
 

@@ -19,7 +19,7 @@ use Rattle.mx_engine.specs.declared.engine.Engine.{Engine}
 use Rattle.mx_engine.specs.Standing.{EngineStandsFor}
 use Rattle.mx_journal.specs.declared.journal.Journal.{Journal}
 use Rattle.mx_top.specs.declared.server.Server.{Server}
-use Rattle.mx_top.specs.Units.{InputUnit, Bytes, Close, connection_of, last_connection}
+use Rattle.mx_top.specs.Units.{InputUnit, Bytes, Close, connection_of, max_connection}
 use Rattle.mx_top.specs.Connections.{came_after, came_on, is_open, asked_by, asks_by, jobs_by, jobs_from}
 use Rattle.mx_top.specs.Starts.{Start, greeting_of}
 use Rattle.mx_top.specs.TraceOutput.{schema_version, sync_of, opening, output_unit, output_for, trace_output}
@@ -74,7 +74,7 @@ can_serve start server units history states serves = record {
         subst (λ (slot : Option SessionState). IfSome slot IsIdle) (sym (get_or_past server.sessions.items connection None past)) tt
 
 -- it can still be asked where one place changed
-pub can_still_serve : (old new : Server) (before after : Option (List Disk)) (on : ℕ) (slot : Option SessionState) → CanServe old before → on ≤ last_connection
+pub can_still_serve : (old new : Server) (before after : Option (List Disk)) (on : ℕ) (slot : Option SessionState) → CanServe old before → on ≤ max_connection
     → IsReady new.engine new.journal after → new.sessions.items ≡ set old.sessions.items on slot → IfSome slot IsIdle → CanServe new after
 can_still_serve old new before after on slot serves known ready table idle =
     let sessions = old.sessions.items in
@@ -158,9 +158,9 @@ came_here : (on : ℕ) (came bytes : List ℕ) → came_after on came (Bytes on 
 came_here on came bytes = ap (λ (b : Bool). if b then came ++ bytes else came) (eq-eqb on on refl)
 
 module _ (start : Start) (old new : Server) (units : List InputUnit) (earlier : History) (unit : InputUnit) (output : List ℕ) (before after : Option (List Disk))
-    (serves : Serves start old units earlier before) (known : connection_of unit ≤ last_connection)
+    (serves : Serves start old units earlier before) (known : connection_of unit ≤ max_connection)
     (gave : Gave start old new units earlier unit output before after) where
-  session_now : (connection : ℕ) → connection ≤ last_connection
+  session_now : (connection : ℕ) → connection ≤ max_connection
       → HasSession connection (came_on connection (units ++ unit ∷ [])) (session_at new.sessions.items connection)
   session_now connection within =
       let on = connection_of unit in
@@ -199,7 +199,7 @@ module _ (start : Start) (old new : Server) (units : List InputUnit) (earlier : 
 -- ---- a unit without bytes
 
 pub gave_nothing : (start : Start) (server : Server) (units : List InputUnit) (history : History) (on : ℕ) (states : Option (List Disk))
-    → Serves start server units history states → on ≤ last_connection → Gave start server server units history (Bytes on []) [] states states
+    → Serves start server units history states → on ≤ max_connection → Gave start server server units history (Bytes on []) [] states states
 gave_nothing start server units history on states serves known =
     let came = came_on on units in
     let slot = session_at server.sessions.items on in
@@ -228,7 +228,7 @@ some_in [] is = absurd cc
 some_in (byte ∷ bytes) is = omega arith
 
 pub took_nothing : (start : Start) (server : Server) (units : List InputUnit) (history : History) (on : ℕ) (bytes output : List ℕ) (states : Option (List Disk))
-    → Serves start server units history states → on ≤ last_connection → (length bytes == 0) ≡ true → output ≡ []
+    → Serves start server units history states → on ≤ max_connection → (length bytes == 0) ≡ true → output ≡ []
     → Took start server units history (Bytes on bytes) output states states
 took_nothing start server units history on bytes output states serves known none silent =
     subst (λ (l : List ℕ). Took start server units history (Bytes on l) output states states) (sym (nothing_in bytes none))
@@ -263,7 +263,7 @@ module _ (start : Start) (old new : Server) (units : List InputUnit) (earlier : 
 
 -- a close was taken: what the table says of its connection is what the units do
 pub took_close : (start : Start) (old new : Server) (units : List InputUnit) (earlier : History) (on : ℕ) (states : Option (List Disk)) (stays : Bool)
-    (places : List (Option SessionState)) → Serves start old units earlier states → on ≤ last_connection → places ≡ old.sessions.items
+    (places : List (Option SessionState)) → Serves start old units earlier states → on ≤ max_connection → places ≡ old.sessions.items
     → goes_on (session_at places on) ≡ not stays → Ready start.base (left_by on stays earlier) new.engine new.journal states → new.greeting ≡ old.greeting
     → new.sessions.items ≡ set old.sessions.items on None → Took start new units earlier (Close on) [] states states
 took_close start old new units earlier on states stays places serves known same goes ready greeting table =
@@ -469,7 +469,7 @@ module _ (start : Start) (old new : Server) (units : List InputUnit) (earlier : 
       }
 
 module _ (start : Start) (server : Server) (units : List InputUnit) (history : History) (before : Option (List Disk)) (on : ℕ) (bytes : List ℕ)
-    (places : List (Option SessionState)) (session : SessionState) (serves : Serves start server units history before) (known : on ≤ last_connection)
+    (places : List (Option SessionState)) (session : SessionState) (serves : Serves start server units history before) (known : on ≤ max_connection)
     (some : (length bytes == 0) ≡ false) (same : places ≡ server.sessions.items) (found : session ≡ unwrap_or (session_at places on) (opened on server.greeting)) where
   pub meets_now : Meets start on (came_on on units) bytes session
   meets_now =
@@ -508,7 +508,7 @@ still_idle server states on places session later sent serves same found after_en
 
 -- bytes were taken: the connection's session is in its place again, and the connection left, where they ended it
 pub took_bytes : (start : Start) (old new : Server) (units : List InputUnit) (earlier : History) (on : ℕ) (bytes output : List ℕ)
-    (before after : Option (List Disk)) (engine : Engine) (later sent : SessionState) (ended : Bool) → Serves start old units earlier before → on ≤ last_connection
+    (before after : Option (List Disk)) (engine : Engine) (later sent : SessionState) (ended : Bool) → Serves start old units earlier before → on ≤ max_connection
     → (length bytes == 0) ≡ false → (done : Did start units earlier on bytes engine new.journal before after later ended)
     → EngineStandsFor new.engine start.base (if ended then Left on ∷ done.history else done.history)
     → output ≡ output_unit on later.out ++ (if ended then big_bytes 4 on ++ big_bytes 4 0 else []) → sent ≡ record later { out = [] }

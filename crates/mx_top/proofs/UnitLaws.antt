@@ -8,7 +8,7 @@ use Rattle.mx_msgpack.specs.Readers.{Advances, all_from, number_at, bytes_at}
 use Rattle.mx_msgpack.proofs.Options.{bind_some, allowed, same_some}
 use Rattle.mx_msgpack.proofs.PieceLaws.{number_rest, bytes_at-shorter}
 use Rattle.mx_msgpack.proofs.ReaderLaws.{all_from_none, all_from_some}
-use Rattle.mx_top.specs.Units.{InputUnit, last_connection, longest_unit, last_place, UnitHead, is_unit_kind, is_within, unit_head_at, unit_by, content_at, unit_at, units_of}
+use Rattle.mx_top.specs.Units.{InputUnit, max_connection, max_unit_size, max_offset, UnitHead, is_unit_kind, is_within, unit_head_at, unit_by, content_at, unit_at, units_of}
 
 -- ---- what stands first
 
@@ -49,14 +49,14 @@ head_parts place bytes found e =
 
 -- the limits as bounds
 pub head_within : (place : ℕ) (head : UnitHead) → is_within place head ≡ true
-    → (head.connection ≤ last_connection) × (head.size ≤ longest_unit) × ((place + 9) + head.size ≤ last_place)
+    → (head.connection ≤ max_connection) × (head.size ≤ max_unit_size) × ((place + 9) + head.size ≤ max_offset)
 head_within place head e =
-    let p = and_three (nat_le head.connection last_connection) (nat_le head.size longest_unit) (nat_le ((place + 9) + head.size) last_place) e in
-    (leb-true head.connection last_connection p.0, leb-true head.size longest_unit p.1, leb-true ((place + 9) + head.size) last_place p.2)
+    let p = and_three (nat_le head.connection max_connection) (nat_le head.size max_unit_size) (nat_le ((place + 9) + head.size) max_offset) e in
+    (leb-true head.connection max_connection p.0, leb-true head.size max_unit_size p.1, leb-true ((place + 9) + head.size) max_offset p.2)
 
 -- the bytes after a head are those after nine, and the unit ends within the last place
 pub head_rest : (place : ℕ) (bytes : List ℕ) (found : UnitHead × List ℕ) → unit_head_at place bytes ≡ Some found
-    → (found.1 ≡ drop 9 bytes) × (9 ≤ length bytes) × ((place + 9) + found.0.size ≤ last_place)
+    → (found.1 ≡ drop 9 bytes) × (9 ≤ length bytes) × ((place + 9) + found.0.size ≤ max_offset)
 head_rest place bytes found e =
     let p = head_parts place bytes found e in
     (p.0, p.1, (head_within place found.0 p.3).2)

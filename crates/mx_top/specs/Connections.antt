@@ -7,7 +7,7 @@ use Rattle.mx_request.specs.Spelling.{IsAskable}
 use Rattle.mx_session.specs.declared.job.Job.{Job}
 use Rattle.mx_session.specs.Jobs.{jobs_of, ends}
 use Rattle.mx_model.specs.Histories.{leaving}
-use Rattle.mx_top.specs.Units.{InputUnit, Bytes, Close, connection_of, last_connection}
+use Rattle.mx_top.specs.Units.{InputUnit, Bytes, Close, connection_of, max_connection}
 
 -- what came on a connection since it was opened, after a further unit: nothing after a close
 abbrev pub came_after : (connection : ℕ) → List ℕ → InputUnit → List ℕ
@@ -74,7 +74,7 @@ leaves_from connection (suc count) units =
 
 -- the connections that leave when the input ends
 abbrev pub leaves_of : List InputUnit → List (TxnName × Ask)
-leaves_of units = leaves_from 0 (suc last_connection) units
+leaves_of units = leaves_from 0 (suc max_connection) units
 
 -- all that is asked by an input that ends after these units
 abbrev pub all_asks_of : List InputUnit → List (TxnName × Ask)

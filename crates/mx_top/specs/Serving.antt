@@ -6,7 +6,7 @@ use Rattle.mx_session.specs.Jobs.{ends}
 use Rattle.mx_session.specs.Sessions.{SessionState}
 use Rattle.mx_model.specs.Histories.{History, Left, IsLegal, asks_in, replies_in}
 use Rattle.mx_top.specs.declared.server.Server.{Server}
-use Rattle.mx_top.specs.Units.{InputUnit, last_connection}
+use Rattle.mx_top.specs.Units.{InputUnit, max_connection}
 use Rattle.mx_top.specs.Connections.{came_on, asks_of, all_asks_of, jobs_from}
 use Rattle.mx_top.specs.Starts.{Start, greeting_of}
 use Rattle.mx_top.specs.TraceOutput.{trace_output}
@@ -43,7 +43,7 @@ goes_on (Some session) = not session.ended
 
 -- the table has a place for each connection
 abbrev pub IsTable : List (Option SessionState) → Type 0
-IsTable sessions = length sessions ≡ suc last_connection
+IsTable sessions = length sessions ≡ suc max_connection
 
 -- no reply of a session waits
 abbrev pub IsIdle : SessionState → Type 0
@@ -73,7 +73,7 @@ pub record Serves (start : Start) (server : Server) (units : List InputUnit) (hi
   pub asks : asks_in history ≡ asks_of units
   pub told : length (replies_in history) ≡ length (jobs_from [] units)
   pub table : IsTable server.sessions.items
-  pub sessions : (connection : ℕ) → connection ≤ last_connection → HasSession connection (came_on connection units) (session_at server.sessions.items connection)
+  pub sessions : (connection : ℕ) → connection ≤ max_connection → HasSession connection (came_on connection units) (session_at server.sessions.items connection)
 
 -- one unit more was answered, by this output
 pub record Took (start : Start) (server : Server) (units : List InputUnit) (earlier : History) (unit : InputUnit) (output : List ℕ) (old states : Option (List Disk)) : Type 0 where

@@ -12,14 +12,14 @@ connection_of (Bytes on bytes) = on
 connection_of (Close on) = on
 
 -- the greatest number of a connection, the most bytes that a unit brings, and the byte that no unit passes
-abbrev pub last_connection : ℕ
-last_connection = 1023
+abbrev pub max_connection : ℕ
+max_connection = 1023
 
-abbrev pub longest_unit : ℕ
-longest_unit = 16777216
+abbrev pub max_unit_size : ℕ
+max_unit_size = 16777216
 
-abbrev pub last_place : ℕ
-last_place = 2 ^ 40
+abbrev pub max_offset : ℕ
+max_offset = 2 ^ 40
 
 -- what stands before the bytes that a unit brings
 pub record UnitHead : Type 0 where
@@ -34,7 +34,7 @@ is_unit_kind head = (head.kind == 0) || ((head.kind == 1) && (head.size == 0))
 -- the unit passes neither the greatest connection, nor the longest unit, nor the last place
 abbrev pub is_within : (place : ℕ) → UnitHead → Bool
 is_within place head =
-    nat_le head.connection last_connection && nat_le head.size longest_unit && nat_le ((place + 9) + head.size) last_place
+    nat_le head.connection max_connection && nat_le head.size max_unit_size && nat_le ((place + 9) + head.size) max_offset
 
 abbrev pub allowed_head : (place : ℕ) → UnitHead → List ℕ → Option (UnitHead × List ℕ)
 allowed_head place head rest = if is_unit_kind head && is_within place head then Some (head, rest) else None

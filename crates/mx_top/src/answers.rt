@@ -30,7 +30,7 @@ use mx_session::{Job, Next, Session};
 use std::alloc::{AllocError, Global};
 
 /// The most steps of an engine: one for each entry, three for a job.
-const MOST_STEPS: u64 = (1 << 63) - 1;
+const MAX_STEPS: u64 = (1 << 63) - 1;
 
 /// The schema's version: no request changes the schema yet.
 const SCHEMA: u32 = 0;
@@ -117,7 +117,7 @@ fn answer<D: Dir>(
     ensures fault { result ≡ Err DiskFault → Rose (D.faults dir.old) (D.faults dir.new) }
     ensures stops { IfErr result IsDiskStop }
 {
-    if engine.count() > MOST_STEPS - 3 {
+    if engine.count() > MAX_STEPS - 3 {
         return Err(Stop::NoMemory);
     }
     let reply = reply(alloc, engine, &job)?;
@@ -180,7 +180,7 @@ pub(crate) fn leave(engine: &mut Engine, connection: ConnId) -> Result<(), Stop>
     ensures stops { IfErr result IsDiskStop }
     ensures no_disk { result ≡ Err DiskFault → ⊥ }
 {
-    if engine.count() >= MOST_STEPS {
+    if engine.count() >= MAX_STEPS {
         return Err(Stop::NoMemory);
     }
     engine.leave(connection);

@@ -19,7 +19,7 @@ ghost use Rattle.mx_top.specs.Replaying.{StandsFor};
 use crate::opening_fault::OpeningFault;
 use mx_journal::{TxRef, journal_name, read_tx};
 use mx_key::KeyFault;
-use mx_model::{Damage, DamageKind, Ids, Keyed, LONGEST_TUPLE, State, TEST_SPACE, bootstrap};
+use mx_model::{Damage, DamageKind, Ids, Keyed, MAX_TUPLE_SIZE, State, TEST_SPACE, bootstrap};
 use mx_msgpack::Bytes;
 use mx_vclock::Vclock;
 use mx_xlog::{Block, Head, read_block, read_header};
@@ -138,7 +138,7 @@ impl Reached {
         ensures { (before : files.Reached) → StandsFor self.old before → IfOk result (λ taken. MatchOption (after_transaction (tx_view tx.now) before)
             (taken ≡ false) (λ after. (taken ≡ true) × StandsFor self.new after)) }
     {
-        if tx.space != TEST_SPACE || tx.tuple.len() > LONGEST_TUPLE {
+        if tx.space != TEST_SPACE || tx.tuple.len() > MAX_TUPLE_SIZE {
             return Ok(false);
         }
         if self.clock.follow(tx.replica, tx.lsn).is_err() {

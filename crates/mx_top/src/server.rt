@@ -35,7 +35,7 @@ impl Server {
     ghost use Rattle.std.specs.Prelude.{ℕ, List, Option};
     ghost use Rattle.mx_outside.specs.Disks.{Disk, IfTold};
     ghost use Rattle.mx_model.specs.Histories.{Base, History};
-    ghost use Rattle.mx_top.specs.Units.{InputUnit, Bytes, Close, last_connection, unit_by};
+    ghost use Rattle.mx_top.specs.Units.{InputUnit, Bytes, Close, max_connection, unit_by};
     ghost use Rattle.mx_top.specs.UnitViews.{head_view};
     ghost use Rattle.mx_top.specs.Connections.{all_asks_of, asks_by, asks_of};
     ghost use Rattle.mx_top.specs.Starts.{Start};
@@ -68,7 +68,7 @@ impl Server {
         out: &mut Vec<u8>,
     ) -> Result<(), Stop>
         requires serves { CanServe self.old (D.states dir.old) }
-        requires connection { head.connection.0 ≤ last_connection }
+        requires connection { head.connection.0 ≤ max_connection }
         ensures took { (start : Start) (units : List InputUnit) (history : History) → Serves start self.old units history (D.states dir.old)
             → OnOk result (Took start self.new units history (unit_by (head_view head) content.now) out.new.items (D.states dir.old) (D.states dir.new)) }
         ensures breaks { (start : Start) (units : List InputUnit) (history : History) → Serves start self.old units history (D.states dir.old)
@@ -95,7 +95,7 @@ impl Server {
         out: &mut Vec<u8>,
     ) -> Result<(), Stop>
         requires serves { CanServe self.old (D.states dir.old) }
-        requires connection { connection.0 ≤ last_connection }
+        requires connection { connection.0 ≤ max_connection }
         requires empty { out.old.items ≡ [] }
         ensures took { (start : Start) (units : List InputUnit) (history : History) → Serves start self.old units history (D.states dir.old)
             → OnOk result (Took start self.new units history (Bytes connection.0 bytes.now) out.new.items (D.states dir.old) (D.states dir.new)) }
@@ -131,7 +131,7 @@ impl Server {
     /// Closes a connection, where it is open.
     fn close(&mut self, connection: ConnId) -> Result<(), Stop>
         requires table { IsTable self.old.sessions.items }
-        requires connection { connection.0 ≤ last_connection }
+        requires connection { connection.0 ≤ max_connection }
         ensures took { (start : Start) (units : List InputUnit) (history : History) (states : Option (List Disk)) → Serves start self.old units history states
             → OnOk result (Took start self.new units history (Close connection.0) [] states states) }
         ensures serves { (states : Option (List Disk)) → CanServe self.old states → OnOk result (CanServe self.new states) }

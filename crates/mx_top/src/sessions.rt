@@ -12,14 +12,14 @@ ghost use Rattle.mx_top.specs.TraceOutput.{output_unit};
 use crate::answers::leave;
 use crate::output_unit::{add_closing, begin_unit, finish_unit};
 use crate::stop::Stop;
-use crate::units::LAST_CONNECTION;
+use crate::units::MAX_CONNECTION;
 use mx_base::ConnId;
 use mx_engine::Engine;
 use mx_session::Session;
 use std::alloc::{AllocError, Global};
 
 /// How many connections there may be.
-const CONNECTIONS: usize = LAST_CONNECTION as usize + 1;
+const CONNECTIONS: usize = MAX_CONNECTION as usize + 1;
 
 /// A table without sessions, with a place for each connection.
 pub(crate) fn no_sessions(alloc: Global) -> Result<Vec<Option<Session>>, AllocError>

@@ -5,7 +5,7 @@ ghost use Rattle.mx_outside.specs.Causes.{Rose};
 ghost use Rattle.mx_top.specs.declared.stop.Stop.TheVariants.{ReadFault, WriteFault, DiskFault};
 ghost use Rattle.mx_top.specs.declared.status.Status.TheVariants as status;
 ghost use Rattle.mx_top.specs.Stops.{AtBadInput};
-ghost use Rattle.mx_top.specs.Units.{InputUnit, last_place};
+ghost use Rattle.mx_top.specs.Units.{InputUnit, max_offset};
 ghost use Rattle.mx_top.specs.Starts.{Start};
 ghost use Rattle.mx_top.specs.Serving.{CanServe, Serves};
 ghost use Rattle.mx_model.specs.declared.tx.Tx.{Tx};
@@ -139,7 +139,7 @@ fn step<D: Dir, S: Source, K: Sink>(
     output: &mut K,
 ) -> Result<Option<u64>, Stop>
     requires { CanServe server.old (D.states dir.old) }
-    ensures ahead { IfOk result (λ found. IfSome found (λ next. (place < next) × (next ≤ last_place))) }
+    ensures ahead { IfOk result (λ found. IfSome found (λ next. (place < next) × (next ≤ max_offset))) }
     ensures told { (bytes left : List ℕ) (units : List InputUnit) → S.left input.old ≡ Some left → ReadTo bytes (intake.old ++ left) place units
         → (more : List ℕ) × (S.left input.new ≡ Some more) × MatchResult result
         (λ found. MatchOption found

@@ -3,7 +3,7 @@
 ghost use Rattle.std.specs.Prelude.{◌≡◌, ◌+◌, ◌<◌, ◌≤◌, ◌++◌, ℕ, List, [], length, take, drop, Some, Err, IfOk, IfSome, MatchOption, MatchResult};
 ghost use Rattle.std.specs.Option.{option_map};
 ghost use Rattle.mx_outside.specs.Causes.{Rose};
-ghost use Rattle.mx_top.specs.Units.{content_at, last_connection, last_place, unit_by, unit_head_at};
+ghost use Rattle.mx_top.specs.Units.{content_at, max_connection, max_offset, unit_by, unit_head_at};
 ghost use Rattle.mx_top.specs.UnitViews.{head_view};
 ghost use Rattle.mx_top.specs.Progress.{StopsAt};
 ghost use Rattle.mx_top.specs.declared.stop.Stop.TheVariants.{ReadFault, WriteFault, DiskFault};
@@ -18,13 +18,13 @@ use mx_outside::Source;
 pub(crate) const UNIT_HEAD: usize = 9;
 
 /// The greatest number of a connection.
-pub(crate) const LAST_CONNECTION: u32 = 1023;
+pub(crate) const MAX_CONNECTION: u32 = 1023;
 
 /// The most bytes that a unit brings.
-const LONGEST_UNIT: u32 = 16_777_216;
+const MAX_UNIT_SIZE: u32 = 16_777_216;
 
 /// The byte that no unit passes.
-const LAST_PLACE: u64 = 1 << 40;
+const MAX_OFFSET: u64 = 1 << 40;
 
 /// What a unit is about.
 #[derive(Clone, Copy, Debug, PartialEq, Eq)]
@@ -58,8 +58,8 @@ pub(crate) fn next_unit<S: Source>(
         (λ found. MatchOption found (intake.new ++ more ≡ []) (λ head. content_at place (intake.new ++ more)
         ≡ Some (unit_by (head_view head) (take head.size (drop 9 intake.new)), drop head.size (drop 9 intake.new) ++ more)))
         (StopsAt place (intake.new ++ more)) }
-    ensures whole { IfOk result (λ found. IfSome found (λ head. (9 + head.size ≤ length intake.new) × ((place + 9) + head.size ≤ last_place))) }
-    ensures connection { IfOk result (λ found. IfSome found (λ head. head.connection.0 ≤ last_connection)) }
+    ensures whole { IfOk result (λ found. IfSome found (λ head. (9 + head.size ≤ length intake.new) × ((place + 9) + head.size ≤ max_offset))) }
+    ensures connection { IfOk result (λ found. IfSome found (λ head. head.connection.0 ≤ max_connection)) }
     ensures later { S.faults input.old ≤ S.faults input.new }
     ensures fault { result ≡ Err ReadFault → Rose (S.faults input.old) (S.faults input.new) }
     ensures no_write { result ≡ Err WriteFault → ⊥ }
@@ -105,10 +105,10 @@ fn unit_head_at(place: u64, bytes: &[u8]) -> Option<(UnitHead, &[u8])>
         1 if size == 0 => UnitKind::Close,
         _ => return None,
     };
-    if connection > LAST_CONNECTION || size > LONGEST_UNIT {
+    if connection > MAX_CONNECTION || size > MAX_UNIT_SIZE {
         return None;
     }
-    if place.saturating_add(9).saturating_add(u64::from(size)) > LAST_PLACE {
+    if place.saturating_add(9).saturating_add(u64::from(size)) > MAX_OFFSET {
         return None;
     }
     let head = UnitHead {

@@ -7,14 +7,14 @@ use Rattle.std.proofs.lemmas.List.{length-append, length-replicate}
 use Rattle.std.proofs.lemmas.List.Elements.{All-append, All-cons, All-head, All-replicate}
 use Rattle.mx_vclock.specs.declared.place.Place.{Place}
 use Rattle.mx_vclock.specs.declared.place.Place.TheVariants.{Start, Open, Comma, Next, Id, Colon, Named, Lsn, Done}
-use Rattle.mx_vclock.specs.Vclocks.{IsVclock, most_lsn}
+use Rattle.mx_vclock.specs.Vclocks.{IsVclock, max_lsn}
 use Rattle.mx_vclock.specs.Places.{greatest_begun}
 use Rattle.mx_vclock.specs.Text.{text_of}
 use Rattle.mx_vclock.proofs.Decimals.{GoesOn}
 use Rattle.mx_vclock.proofs.Tails.{named, more, first}
 
 abbrev pub Bounded : List ℕ → Type 0
-Bounded = All (λ lsn. lsn ≤ most_lsn)
+Bounded = All (λ lsn. lsn ≤ max_lsn)
 
 -- a vclock that goes on from these lsns by so many zeros and then this lsn
 pub record Part (front : List ℕ) (zeros lsn : ℕ) (others clock : List ℕ) : Type 0 where
@@ -25,7 +25,7 @@ pub record Part (front : List ℕ) (zeros lsn : ℕ) (others clock : List ℕ) :
 pub record Bounds (front : List ℕ) (zeros lsn : ℕ) (others : List ℕ) : Type 0 where
   pub id : length front + zeros ≤ 31
   pub long : length others ≡ 31 - (length front + zeros)
-  pub most : lsn ≤ most_lsn
+  pub most : lsn ≤ max_lsn
 
 pub all_right : (front back : List ℕ) → Bounded (front ++ back) → Bounded back
 all_right [] back all = all
@@ -43,14 +43,14 @@ part_bounds front zeros lsn others clock part =
     let long' : length (front ++ (replicate zeros 0 ++ lsn ∷ others)) ≡ length front + (zeros + suc (length others)) =
     long_is front zeros lsn others in
     let all : Bounded (lsn ∷ others) = all_right (replicate zeros 0) (lsn ∷ others) (all_right front (replicate zeros 0 ++ lsn ∷ others) (subst Bounded part.is part.sound.bounded)) in
-    record { id = omega arith; long = omega arith; most = All-head (λ n. n ≤ most_lsn) lsn others all }
+    record { id = omega arith; long = omega arith; most = All-head (λ n. n ≤ max_lsn) lsn others all }
 
 -- such a vclock with zeros behind
-pub padded : (front : List ℕ) (zeros lsn : ℕ) → Bounded front → length front + zeros ≤ 31 → 0 < lsn → lsn ≤ most_lsn
+pub padded : (front : List ℕ) (zeros lsn : ℕ) → Bounded front → length front + zeros ≤ 31 → 0 < lsn → lsn ≤ max_lsn
     → Part front zeros lsn (replicate (31 - (length front + zeros)) 0) (front ++ (replicate zeros 0 ++ lsn ∷ replicate (31 - (length front + zeros)) 0))
 padded front zeros lsn bounded high some most =
     let others : List ℕ = replicate (31 - (length front + zeros)) 0 in
-    let small : 0 ≤ most_lsn = omega arith in
+    let small : 0 ≤ max_lsn = omega arith in
     record {
       sound = record {
         whole =
@@ -58,9 +58,9 @@ padded front zeros lsn bounded high some most =
             let a : length (front ++ (replicate zeros 0 ++ lsn ∷ others)) ≡ length front + (zeros + suc (length others)) = long_is front zeros lsn others in
             omega arith;
         bounded =
-            All-append (λ n. n ≤ most_lsn) front (replicate zeros 0 ++ lsn ∷ others) bounded
-            (All-append (λ n. n ≤ most_lsn) (replicate zeros 0) (lsn ∷ others) (All-replicate (λ n. n ≤ most_lsn) zeros 0 small)
-            (All-cons (λ n. n ≤ most_lsn) lsn others most (All-replicate (λ n. n ≤ most_lsn) (31 - (length front + zeros)) 0 small)));
+            All-append (λ n. n ≤ max_lsn) front (replicate zeros 0 ++ lsn ∷ others) bounded
+            (All-append (λ n. n ≤ max_lsn) (replicate zeros 0) (lsn ∷ others) (All-replicate (λ n. n ≤ max_lsn) zeros 0 small)
+            (All-cons (λ n. n ≤ max_lsn) lsn others most (All-replicate (λ n. n ≤ max_lsn) (31 - (length front + zeros)) 0 small)));
       };
       is = refl;
       some = some;
@@ -105,7 +105,7 @@ Stands (Next least) front = Before least front
 Stands (Id least id) front = Before least front × (id ≤ 31) × (least ≤ greatest_begun id)
 Stands (Colon id) front = Before id front
 Stands (Named id) front = Before id front
-Stands (Lsn id lsn) front = Before id front × (0 < lsn) × (lsn ≤ most_lsn)
+Stands (Lsn id lsn) front = Before id front × (0 < lsn) × (lsn ≤ max_lsn)
 Stands Done front = IsVclock front
 
 -- an id's digits go on with these, and then its lsn and the rest follow

@@ -7,7 +7,7 @@ use Rattle.std.proofs.lemmas.List.{append-nil, length-append, length-replicate, 
 use Rattle.std.proofs.lemmas.List.Elements.{All-append, All-replicate}
 use Rattle.mx_vclock.specs.declared.place.Place.{Place}
 use Rattle.mx_vclock.specs.declared.place.Place.TheVariants.{Id, Colon}
-use Rattle.mx_vclock.specs.Vclocks.{most_lsn}
+use Rattle.mx_vclock.specs.Vclocks.{max_lsn}
 use Rattle.mx_vclock.specs.Places.{after_id, begun_id, digit, greatest_begun, ◌>>=◌}
 use Rattle.mx_vclock.proofs.Decimals.{IsDigit, GoesOn, begins, ends_or_goes_on, some_before, with_digit, not_below, two_digits}
 use Rattle.mx_vclock.proofs.Tails.{more}
@@ -214,7 +214,7 @@ before_later least id front before le high =
     record {
       long = omega arith;
       high = high;
-      bounded = All-append (λ n. n ≤ most_lsn) front (replicate (id - least) 0) before.bounded (All-replicate (λ n. n ≤ most_lsn) (id - least) 0 (omega arith));
+      bounded = All-append (λ n. n ≤ max_lsn) front (replicate (id - least) 0) before.bounded (All-replicate (λ n. n ≤ max_lsn) (id - least) 0 (omega arith));
     }
 
 zeros_left : (least id : ℕ) → least ≤ id → id ≤ 31 → (id - least) + (32 - id) ≡ 32 - least

@@ -9,7 +9,7 @@ use Rattle.std.proofs.lemmas.List.{append-nil, length-append}
 use Rattle.std.proofs.lemmas.List.Elements.{All-append, All-cons, All-nil}
 use Rattle.mx_vclock.specs.declared.place.Place.{Place}
 use Rattle.mx_vclock.specs.declared.place.Place.TheVariants.{Comma, Named, Lsn, Done}
-use Rattle.mx_vclock.specs.Vclocks.{IsVclock, most_lsn}
+use Rattle.mx_vclock.specs.Vclocks.{IsVclock, max_lsn}
 use Rattle.mx_vclock.specs.Places.{after_lsn, digit, ◌>>=◌}
 use Rattle.mx_vclock.proofs.Decimals.{IsDigit, GoesOn, begins, ends_or_goes_on, some_before, with_digit, not_below}
 use Rattle.mx_vclock.proofs.Tails.{named, more, split, Blank, Split, more-zeros}
@@ -85,13 +85,13 @@ record Ends (id number byte : ℕ) (front clock text : List ℕ) : Type 0 where
 
 record HasDigit (id number byte : ℕ) (front clock text : List ℕ) : Type 0 where
   pub digit : IsDigit byte
-  pub most : 10 * number + (byte - 48) ≤ most_lsn
+  pub most : 10 * number + (byte - 48) ≤ max_lsn
   pub fits : FitsLsn id (10 * number + (byte - 48)) front clock text
 
-lsn_to : (id number byte : ℕ) (front clock text : List ℕ) → number ≤ most_lsn → FitsLsn id number front clock (byte ∷ text) → Ends id number byte front clock text ⊎ HasDigit id number byte front clock text
+lsn_to : (id number byte : ℕ) (front clock text : List ℕ) → number ≤ max_lsn → FitsLsn id number front clock (byte ∷ text) → Ends id number byte front clock text ⊎ HasDigit id number byte front clock text
 lsn_to id number byte front clock text small f = by_end (ends_or_goes_on number byte f.lsn f.digits (more (suc id) f.others) text (omega arith) (omega (arith, top)) f.goes_on f.spelled)
   where
-    top : f.lsn ≤ most_lsn
+    top : f.lsn ≤ max_lsn
     top = (part_bounds front 0 f.lsn f.others clock f.part).most
 
     by_end : ((f.lsn ≡ number) × (more (suc id) f.others ≡ byte ∷ text)) ⊎ ((more' : List ℕ) × IsDigit byte × GoesOn number (byte ∷ more') f.lsn × (more' ++ more (suc id) f.others ≡ text))
@@ -108,7 +108,7 @@ lsn_to id number byte front clock text small f = by_end (ends_or_goes_on number 
           fits = record { lsn = f.lsn; others = f.others; digits = digits; part = f.part; goes_on = g; spelled = spelled };
         })
 
-lsn_from : (id number byte : ℕ) (front clock text : List ℕ) → 0 < number → IsDigit byte → 10 * number + (byte - 48) ≤ most_lsn → FitsLsn id (10 * number + (byte - 48)) front clock text → FitsLsn id number front clock (byte ∷ text)
+lsn_from : (id number byte : ℕ) (front clock text : List ℕ) → 0 < number → IsDigit byte → 10 * number + (byte - 48) ≤ max_lsn → FitsLsn id (10 * number + (byte - 48)) front clock text → FitsLsn id number front clock (byte ∷ text)
 lsn_from id number byte front clock text some is_digit most f = record {
   lsn = f.lsn;
   others = f.others;
@@ -190,14 +190,14 @@ end_from id number front clock text some (sound, same, empty) = record {
   spelled = more_none (suc id) (31 - id) ∙ ap (λ l. 125 ∷ l) empty;
 }
 
-whole : (id number : ℕ) (front : List ℕ) → Before id front → 0 < number → number ≤ most_lsn → IsVclock (front ++ number ∷ replicate (31 - id) 0)
+whole : (id number : ℕ) (front : List ℕ) → Before id front → 0 < number → number ≤ max_lsn → IsVclock (front ++ number ∷ replicate (31 - id) 0)
 whole id number front before some most =
     let l = before.long in
     let h = before.high in
     let n : 31 - (length front + 0) ≡ 31 - id = omega arith in
     subst (λ k. IsVclock (front ++ number ∷ replicate k 0)) n (padded front 0 number before.bounded (omega arith) some most).sound
 
-not_digit : (id number byte : ℕ) (front clock text : List ℕ) → number ≤ most_lsn → (IsDigit byte → ⊥) → FitsLsn id number front clock (byte ∷ text) → Ends id number byte front clock text
+not_digit : (id number byte : ℕ) (front clock text : List ℕ) → number ≤ max_lsn → (IsDigit byte → ⊥) → FitsLsn id number front clock (byte ∷ text) → Ends id number byte front clock text
 not_digit id number byte front clock text small other f = by_end (lsn_to id number byte front clock text small f)
   where
     by_end : Ends id number byte front clock text ⊎ HasDigit id number byte front clock text → Ends id number byte front clock text
@@ -212,7 +212,7 @@ more_ends id byte others text e = by_split (split id others)
     by_split (inl b) = inr (sym (one_more 125 byte [] text (sym b.as_more ∙ e)).0)
     by_split (inr s) = inl (sym (one_more 44 byte (32 ∷ named (id + s.zeros) (suc s.lsn) (more (suc (id + s.zeros)) s.others)) text (sym s.as_more ∙ e)).0)
 
-not_end : (id number byte : ℕ) (front clock text : List ℕ) → number ≤ most_lsn → (byte ≡ 44 → ⊥) → (byte ≡ 125 → ⊥) → FitsLsn id number front clock (byte ∷ text) → HasDigit id number byte front clock text
+not_end : (id number byte : ℕ) (front clock text : List ℕ) → number ≤ max_lsn → (byte ≡ 44 → ⊥) → (byte ≡ 125 → ⊥) → FitsLsn id number front clock (byte ∷ text) → HasDigit id number byte front clock text
 not_end id number byte front clock text small comma end f = by_end (lsn_to id number byte front clock text small f)
   where
     by_end : Ends id number byte front clock text ⊎ HasDigit id number byte front clock text → HasDigit id number byte front clock text
@@ -241,7 +241,7 @@ lsn_law id number byte front (before, some, most) = by_test O (eqb byte 44) (con
       record {
         long = omega arith;
         high = omega arith;
-        bounded = All-append (λ n. n ≤ most_lsn) front (number ∷ []) before.bounded (All-cons (λ n. n ≤ most_lsn) number [] most (All-nil (λ n. n ≤ most_lsn)));
+        bounded = All-append (λ n. n ≤ max_lsn) front (number ∷ []) before.bounded (All-cons (λ n. n ≤ max_lsn) number [] most (All-nil (λ n. n ≤ max_lsn)));
       },
       λ clock text g. subst (λ n. AfterBlank (FitsNext n (front ++ number ∷ []) clock) text) next (to clock text g).1,
       λ clock text f.
@@ -262,12 +262,12 @@ lsn_law id number byte front (before, some, most) = by_test O (eqb byte 44) (con
     let to : (clock text : List ℕ) → FitsLsn id number front clock (byte ∷ text) → HasDigit id number byte front clock text =
     λ clock text g. not_end id number byte front clock text most (eqb-false byte 44 t) (eqb-false byte 125 u) g in
     by_digit O byte longer
-    (λ d. by_test O (ltb (most_lsn / 10) number) None (cond (ltb most_lsn (10 * number + (byte - 48))) None (Some (Lsn id (10 * number + (byte - 48)))))
-    (λ v clock text g. let w = ltb-true (most_lsn / 10) number v in omega (arith, (to clock text g).most))
-    (λ v. by_test O (ltb most_lsn (10 * number + (byte - 48))) None (Some (Lsn id (10 * number + (byte - 48))))
-    (λ x clock text g. let w = ltb-true most_lsn (10 * number + (byte - 48)) x in omega (arith, (to clock text g).most))
+    (λ d. by_test O (ltb (max_lsn / 10) number) None (cond (ltb max_lsn (10 * number + (byte - 48))) None (Some (Lsn id (10 * number + (byte - 48)))))
+    (λ v clock text g. let w = ltb-true (max_lsn / 10) number v in omega (arith, (to clock text g).most))
+    (λ v. by_test O (ltb max_lsn (10 * number + (byte - 48))) None (Some (Lsn id (10 * number + (byte - 48))))
+    (λ x clock text g. let w = ltb-true max_lsn (10 * number + (byte - 48)) x in omega (arith, (to clock text g).most))
     (λ x.
-    let fits : 10 * number + (byte - 48) ≤ most_lsn = ltb-false most_lsn (10 * number + (byte - 48)) x in (
+    let fits : 10 * number + (byte - 48) ≤ max_lsn = ltb-false max_lsn (10 * number + (byte - 48)) x in (
       front,
       set_again front id number (10 * number + (byte - 48)) before.long,
       (before, omega arith, fits),
@@ -280,4 +280,4 @@ lsn_law id number byte front (before, some, most) = by_test O (eqb byte 44) (con
     O = Outcome (Taking (Lsn id number) front byte) (front ++ number ∷ replicate (31 - id) 0)
 
     longer : ℕ → Option Place
-    longer = λ d. cond (ltb (most_lsn / 10) number) None (cond (ltb most_lsn (10 * number + d)) None (Some (Lsn id (10 * number + d))))
+    longer = λ d. cond (ltb (max_lsn / 10) number) None (cond (ltb max_lsn (10 * number + d)) None (Some (Lsn id (10 * number + d))))

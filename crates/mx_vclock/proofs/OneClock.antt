@@ -9,7 +9,7 @@ use Rattle.std.proofs.lemmas.List.{append_cancel_left}
 use Rattle.std.proofs.lemmas.List.Elements.{All-head, All-tail}
 use Rattle.std.proofs.lemmas.Fmt.{decimal_is_IsNumeral, decimal_injective}
 use Rattle.std.proofs.lemmas.Str.Parse.{tells_digits}
-use Rattle.mx_vclock.specs.Vclocks.{IsVclock, most_lsn}
+use Rattle.mx_vclock.specs.Vclocks.{IsVclock, max_lsn}
 use Rattle.mx_vclock.specs.Text.{components, text_of}
 use Rattle.mx_vclock.proofs.TextLaws.{goes_on, goes_on-separated, components-more}
 
@@ -99,7 +99,7 @@ one_more before id x y xs ys false false begins hx hy high same ex ey again e =
     cc
 
 abbrev IsLsn : ℕ → Type 0
-IsLsn lsn = lsn ≤ most_lsn
+IsLsn lsn = lsn ≤ max_lsn
 
 same_from : (before : List ℕ) (id : ℕ) (xs ys : List ℕ) → Begins before → All IsLsn xs → All IsLsn ys → id + length xs ≤ 2 ^ 64 → length xs ≡ length ys → text_from before id xs ≡ text_from before id ys → xs ≡ ys
 same_from before id [] [] begins small_x small_y high same e = refl

@@ -6,7 +6,7 @@ use Rattle.std.proofs.lemmas.List.{append-nil}
 use Rattle.std.proofs.lemmas.List.Elements.{All-nil, All-replicate}
 use Rattle.mx_vclock.specs.declared.place.Place.{Place}
 use Rattle.mx_vclock.specs.declared.place.Place.TheVariants.{Start, Open, Comma, Next, Id, Colon, Named, Lsn, Done}
-use Rattle.mx_vclock.specs.Vclocks.{IsVclock, most_lsn}
+use Rattle.mx_vclock.specs.Vclocks.{IsVclock, max_lsn}
 use Rattle.mx_vclock.specs.Places.{after, begun_id, digit, greatest_begun, ◌>>=◌}
 use Rattle.mx_vclock.specs.Text.{text_of}
 use Rattle.mx_vclock.proofs.Decimals.{GoesOn, digit_more}
@@ -17,10 +17,10 @@ use Rattle.mx_vclock.proofs.IdLaws.{first_to, greatest, next_law, id_law}
 use Rattle.mx_vclock.proofs.LsnLaws.{named_law, lsn_law}
 
 pub empty_clock : IsVclock (replicate 32 0)
-empty_clock = record { whole = refl; bounded = All-replicate (λ n. n ≤ most_lsn) 32 0 (omega arith) }
+empty_clock = record { whole = refl; bounded = All-replicate (λ n. n ≤ max_lsn) 32 0 (omega arith) }
 
 none_before : Before 0 []
-none_before = record { long = refl; high = omega arith; bounded = All-nil (λ n. n ≤ most_lsn) }
+none_before = record { long = refl; high = omega arith; bounded = All-nil (λ n. n ≤ max_lsn) }
 
 -- ---- the brackets
 
@@ -123,7 +123,7 @@ named_viable id front before =
       record { lsn = 1; others = others; part = padded front 0 1 before.bounded (omega arith) (omega arith) (omega arith); spelled = refl },
     )
 
-lsn_viable : (id lsn : ℕ) (front : List ℕ) → Before id front → 0 < lsn → lsn ≤ most_lsn → (clock text : List ℕ) × FitsLsn id lsn front clock text
+lsn_viable : (id lsn : ℕ) (front : List ℕ) → Before id front → 0 < lsn → lsn ≤ max_lsn → (clock text : List ℕ) × FitsLsn id lsn front clock text
 lsn_viable id lsn front before some most =
     let l = before.long in
     let h = before.high in

@@ -2,7 +2,7 @@
 use Rattle.std.specs.Prelude.{ℕ, ◌+◌, ◌*◌, ◌-◌, ◌/◌, Option, Some, None, nat_lt, ◌==◌, if◌then◌else◌}
 use Rattle.mx_vclock.specs.declared.place.Place.{Place}
 use Rattle.mx_vclock.specs.declared.place.Place.TheVariants.{Start, Open, Comma, Next, Id, Colon, Named, Lsn, Done}
-use Rattle.mx_vclock.specs.Vclocks.{most_lsn}
+use Rattle.mx_vclock.specs.Vclocks.{max_lsn}
 
 infixl 10 ◌>>=◌
 abbrev pub ◌>>=◌ : {A B : Type 0} → Option A → (A → Option B) → Option B
@@ -38,7 +38,7 @@ abbrev pub after_lsn : ℕ → ℕ → ℕ → Option Place
 after_lsn id lsn byte =
     if byte == 44 then (if nat_lt id 31 then Some (Comma (id + 1)) else None)
     else if byte == 125 then Some Done
-    else (digit byte >>= λ d. if nat_lt (most_lsn / 10) lsn then None else if nat_lt most_lsn (10 * lsn + d) then None else Some (Lsn id (10 * lsn + d)))
+    else (digit byte >>= λ d. if nat_lt (max_lsn / 10) lsn then None else if nat_lt max_lsn (10 * lsn + d) then None else Some (Lsn id (10 * lsn + d)))
 
 -- where the byte takes the reader; nowhere where no text goes on with it
 unfoldable pub after : Place → ℕ → Option Place

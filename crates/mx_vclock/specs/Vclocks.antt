@@ -8,12 +8,12 @@ abbrev pub replicas : ℕ
 replicas = 32
 
 -- the greatest lsn
-abbrev pub most_lsn : ℕ
-most_lsn = 2 ^ 58
+abbrev pub max_lsn : ℕ
+max_lsn = 2 ^ 58
 
 pub record IsVclock (clock : List ℕ) : Type 0 where
   pub whole : length clock ≡ replicas
-  pub bounded : All (λ lsn. lsn ≤ most_lsn) clock
+  pub bounded : All (λ lsn. lsn ≤ max_lsn) clock
 
 -- nowhere less
 abbrev pub Covers : List ℕ → List ℕ → Type 0
@@ -22,7 +22,7 @@ Covers clock other = (id : ℕ) → id < replicas → slice_index other id ≤ s
 -- the lsn is the next one of this replica id
 pub record IsNext (clock : List ℕ) (id lsn : ℕ) : Type 0 where
   pub follows : lsn ≡ suc (slice_index clock id)
-  pub allowed : lsn ≤ most_lsn
+  pub allowed : lsn ≤ max_lsn
 
 -- how the clock stands to the other one; no answer where neither covers the other
 abbrev pub Compares : List ℕ → List ℕ → Option Ordering → Type 0

@@ -3,10 +3,10 @@
 ghost use Rattle.std.specs.Prelude.{◌≡◌};
 ghost use Rattle.mx_vclock.specs.Places.{after, after_id, after_lsn, begun_id, digit, given, greatest_begun};
 
-use crate::vclock::{MOST_LSN, REPLICAS};
+use crate::vclock::{MAX_LSN, REPLICAS};
 
 /// The greatest replica id.
-const LAST_ID: usize = REPLICAS - 1;
+const MAX_ID: usize = REPLICAS - 1;
 
 /// What was read last of a vclock's text.
 #[derive(Clone, Copy, Debug, Drop, PartialEq, Eq)]
@@ -83,7 +83,7 @@ fn digit(byte: u8) -> Option<u8>
 fn begun_id(least: usize, id: usize) -> Option<Place>
     ensures { result ≡ begun_id least id }
 {
-    if id > LAST_ID || greatest_begun(id) < least {
+    if id > MAX_ID || greatest_begun(id) < least {
         return None;
     }
     Some(Place::Id { least, id })
@@ -115,11 +115,11 @@ fn after_lsn(id: usize, lsn: u64, byte: u8) -> Option<Place>
     ensures { result ≡ after_lsn id lsn byte }
 {
     match byte {
-        b',' if id < LAST_ID => Some(Place::Comma(id + 1)),
+        b',' if id < MAX_ID => Some(Place::Comma(id + 1)),
         b'}' => Some(Place::Done),
         _ => {
             let digit = u64::from(digit(byte)?);
-            if lsn > MOST_LSN / 10 || 10 * lsn + digit > MOST_LSN {
+            if lsn > MAX_LSN / 10 || 10 * lsn + digit > MAX_LSN {
                 return None;
             }
             Some(Place::Lsn {

@@ -9,7 +9,7 @@ use std::alloc::{AllocError, Global};
 
 /// The length of the longest text in bytes: two braces, and 32 components of at most four bytes before the lsn, 18
 /// digits and two bytes after them.
-const MOST_TEXT: usize = 2 + 32 * (4 + 18 + 2);
+const MAX_TEXT: usize = 2 + 32 * (4 + 18 + 2);
 
 impl Vclock {
     /// The vclock's text.
@@ -19,7 +19,7 @@ impl Vclock {
     pub fn text(&self, alloc: Global) -> Result<Bytes, AllocError>
         ensures { IfOk result (λ text. text ≡ text_of self.now) }
     {
-        let mut text = String::with_capacity(alloc, MOST_TEXT)?;
+        let mut text = String::with_capacity(alloc, MAX_TEXT)?;
         text.push('{')?;
         let mut between = "";
         for (id, lsn) in self.lsns().iter().enumerate() {

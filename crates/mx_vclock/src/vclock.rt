@@ -1,7 +1,7 @@
 //! The vclock, which a contract sees as the list of its 32 lsns.
 
 ghost use Rattle.std.specs.Prelude.{◌≡◌, ◌<◌, ◌≤◌, length, IsTrue, ◌↔◌, MatchResult, sum, replicate, slice_index, slice_set};
-ghost use Rattle.mx_vclock.specs.Vclocks.{replicas, most_lsn, Covers, IsNext, Compares};
+ghost use Rattle.mx_vclock.specs.Vclocks.{replicas, max_lsn, Covers, IsNext, Compares};
 
 use crate::gap::Gap;
 use std::cmp::Ordering;
@@ -11,7 +11,7 @@ use std::marker::Model;
 pub(crate) const REPLICAS: usize = 32;
 
 /// The greatest lsn.
-pub(crate) const MOST_LSN: u64 = 1 << 58;
+pub(crate) const MAX_LSN: u64 = 1 << 58;
 
 /// For each replica id from 0 to 31 the lsn that it has reached, at most 2^58; 0 where it has none.
 #[derive(Clone, Copy, Debug, Drop)]
@@ -53,7 +53,7 @@ impl Vclock {
     /// Sets the lsn of a replica id.
     pub fn set(&mut self, id: u8, lsn: u64)
         requires id { id < replicas }
-        requires lsn { lsn ≤ most_lsn }
+        requires lsn { lsn ≤ max_lsn }
         ensures { self.new ≡ slice_set self.old id lsn }
     {
         self.lsns[usize::from(id)] = lsn;
@@ -78,7 +78,7 @@ impl Vclock {
             (λ gap. ¬ IsNext self.old id lsn × (gap.has ≡ slice_index self.old id) × (gap.got ≡ lsn) × (self.new ≡ self.old)) }
     {
         let last = &mut self.lsns[usize::from(id)];
-        if lsn > MOST_LSN || lsn != *last + 1 {
+        if lsn > MAX_LSN || lsn != *last + 1 {
             return Err(Gap {
                 has: *last,
                 got: lsn,

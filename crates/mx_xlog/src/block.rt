@@ -13,7 +13,7 @@ use std::alloc::AllocError;
 const HEAD_SIZE: usize = 19;
 
 /// The most bytes of a block's data.
-const MOST_DATA: usize = 4_194_304;
+const MAX_DATA_SIZE: usize = 4_194_304;
 
 /// The marker of a file's end.
 const END_MARKER: [u8; 4] = [0xd5, 0x10, 0xad, 0xed];
@@ -74,7 +74,7 @@ fn first_rows(bytes: &[u8]) -> Option<&[u8]>
         return None;
     }
     let size = size as usize;
-    if size == 0 || size > MOST_DATA || size > rest.len() {
+    if size == 0 || size > MAX_DATA_SIZE || size > rest.len() {
         return None;
     }
     let (rows, _) = rest.split_at(size);

@@ -1,5 +1,5 @@
 use Rattle.std.proofs.Common.{◌≡◌, ◌≤◌, ◌++◌, take, option_map}
-use Rattle.mx_model.specs.Picks.{directed, total_bytes, longest_result}
+use Rattle.mx_model.specs.Picks.{directed, total_bytes, max_result_size}
 use Rattle.mx_model.specs.Selecting.{last_of}
 use Rattle.mx_model.proofs.WindowLaws.{tuples_of, last_after}
 use Rattle.mx_model.proofs.selecting.collect.Given as goal
@@ -10,7 +10,7 @@ invariant-loop-left l =
     (tuples_of (take l.fn.limit (directed l.fn.down l.fn.entries)) ≡ l.tuples ++ tuples_of (take l.left (directed l.fn.down l.entries)))
     × (last_of (take l.fn.limit (directed l.fn.down l.fn.entries)) ≡ last_after (option_map (λ key. key.now) l.last) (take l.left (directed l.fn.down l.entries)))
     × (l.bytes ≡ total_bytes l.tuples)
-    × (l.bytes ≤ longest_result)
+    × (l.bytes ≤ max_result_size)
 
 abbrev pub decreases-loop-left : goal.decreases-loop-left
 decreases-loop-left l = l.left

@@ -1,7 +1,7 @@
 use Rattle.std.proofs.Common.{◌≡◌, ◌≤◌, ◌++◌, length, filter}
 use Rattle.mx_key.specs.Comparable.{holds}
 use Rattle.mx_key.specs.Ranges.{descends}
-use Rattle.mx_model.specs.Picks.{directed, window, total_bytes, longest_result}
+use Rattle.mx_model.specs.Picks.{directed, window, total_bytes, max_result_size}
 use Rattle.mx_model.specs.Slow.{kept_list}
 use Rattle.mx_model.proofs.WindowLaws.{tuples_of}
 use Rattle.mx_model.proofs.slow.gather.Given as goal
@@ -12,7 +12,7 @@ invariant-loop-left l =
     (tuples_of (window l.fn.pick.offset l.fn.pick.limit (directed (descends l.fn.pick.iterator) (filter (λ entry. holds l.fn.range entry.0) (kept_list l.fn.kept))))
     ≡ l.tuples ++ tuples_of (window l.offset l.left (directed l.down (filter (λ entry. holds l.fn.range entry.0) (kept_list l.rest)))))
     × (l.bytes ≡ total_bytes l.tuples)
-    × (l.bytes ≤ longest_result)
+    × (l.bytes ≤ max_result_size)
 
 abbrev pub decreases-loop-left : goal.decreases-loop-left
 decreases-loop-left l = length l.rest

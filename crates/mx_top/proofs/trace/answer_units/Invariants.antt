@@ -1,5 +1,5 @@
 use Rattle.std.proofs.Common.{◌≡◌, ◌-◌, ◌≤◌, ℕ, List, Some}
-use Rattle.mx_top.specs.Units.{last_place}
+use Rattle.mx_top.specs.Units.{max_offset}
 use Rattle.mx_top.specs.Serving.{CanServe}
 use Rattle.mx_top.proofs.Told.{HasRead}
 use Rattle.mx_top.proofs.trace.answer_units.Given as goal
@@ -14,9 +14,9 @@ invariant-units g l = record {
   reads : g.S.Source.faults l.fn.input ≤ g.S.Source.faults l.input;
   writes : g.K.Sink.faults l.fn.output ≤ g.K.Sink.faults l.output;
   disks : g.D.Dir.faults l.fn.dir ≤ g.D.Dir.faults l.dir;
-  within : l.place ≤ last_place;
+  within : l.place ≤ max_offset;
 }
 
 -- how far it is to the last place
 abbrev pub decreases-units : goal.decreases-units
-decreases-units g l = last_place - l.place
+decreases-units g l = max_offset - l.place

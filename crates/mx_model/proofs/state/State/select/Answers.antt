@@ -12,7 +12,7 @@ use Rattle.mx_key.specs.Comparable.{comparable_of, edges_of, bound_of}
 use Rattle.mx_key.specs.Ranges.{range_of, ended}
 use Rattle.mx_key.specs.Parts.{given}
 use Rattle.mx_model.specs.Stored.{Kept}
-use Rattle.mx_model.specs.Picks.{entries_of, pick, total_bytes, longest_result}
+use Rattle.mx_model.specs.Picks.{entries_of, pick, total_bytes, max_result_size}
 use Rattle.mx_model.specs.Selecting.{last_of}
 use Rattle.mx_key.proofs.RangeLaws.{range_holds}
 use Rattle.mx_model.proofs.PickLaws.{HoldsItsKeys, fit_ends, found_past, tuples_are_picked, reads_to_last, reads_to_end}
@@ -74,7 +74,7 @@ returns-in_err-found c state memory key fits fit =
     let gone = found_past iterator key law all memory.keeps.fit kept memory.keeps.same offset limit c.descends-down.result c.descends-down.ensures c.range-entries.result c.pass_over.new.entries between c.pass_over.ensures in
     let tuples = ap (map (λ (entry : Kept). entry.1)) gone ∙ tuples_are_picked iterator key law all memory.keeps.fit kept memory.keeps.same offset limit in
     let p = err_from_is_err_and c.from_residual-in_err-found.result c.from_residual-in_err-found.ensures.1 in
-    rw (p.1, p.2) (subst (λ l. ((c.in_err-found.field-0.0 ≡ TooLong) × (longest_result < total_bytes l)) ⊎ (c.in_err-found.field-0.0 ≡ NoMemory)) tuples c.in_err-found.ensures)
+    rw (p.1, p.2) (subst (λ l. ((c.in_err-found.field-0.0 ≡ TooLong) × (max_result_size < total_bytes l)) ⊎ (c.in_err-found.field-0.0 ≡ NoMemory)) tuples c.in_err-found.ensures)
 
 pub range-entries-requires : goal.range-entries-requires
 range-entries-requires c = rw (c.low_bound.ensures, c.high_bound.ensures) c.in_ok-range.ensures.forward
