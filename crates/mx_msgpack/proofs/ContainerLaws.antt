@@ -6,15 +6,15 @@ use Rattle.mx_msgpack.specs.declared.head.Head.{Head}
 use Rattle.mx_msgpack.specs.declared.head.Head.TheVariants.{Nil, Bool as Boolean, Int, Str, Bin, Array, Map, Fixed, Extension}
 use Rattle.mx_msgpack.specs.Grammar.{Values, Spells, max_length}
 use Rattle.mx_msgpack.specs.Grammar as grammar
-use Rattle.mx_msgpack.specs.Reading.{head_at, after_all, after_value, reading_of, Shown, ShownArray, shown}
+use Rattle.mx_msgpack.specs.Reading.{head_at, after_all, after_first, reading_of, Shown, ShownArray, shown}
 use Rattle.mx_msgpack.proofs.Results.{bind_ok, guard_then, ok_is}
 use Rattle.mx_msgpack.proofs.Heads.{head_spelled, head_again}
 use Rattle.mx_msgpack.proofs.ValueLaws.{value_begins}
 use Rattle.mx_msgpack.proofs.GrammarLaws.{value_stands}
 
 -- what stands behind the leading byte of a map
-pub map_content : (total room count : ℕ) (pairs rest : List ℕ) → count < 0x10 → after_value total (suc room) ((0x80 + count) ∷ pairs) ≡ Ok rest
-    → after_all (after_value total room) (2 * count) pairs ≡ Ok rest
+pub map_content : (total room count : ℕ) (pairs rest : List ℕ) → count < 0x10 → after_first total (suc room) ((0x80 + count) ∷ pairs) ≡ Ok rest
+    → after_all (after_first total room) (2 * count) pairs ≡ Ok rest
 map_content total room count pairs rest few e =
     let bytes = (0x80 + count) ∷ pairs in
     let head = head_again (total - length bytes) (Map count) ((0x80 + count) ∷ []) pairs (inl (few, refl)) in
@@ -37,13 +37,13 @@ array_begins : (bytes : List ℕ) (count : ℕ) (items : List ℕ) (size : ℕ) 
 unfolding reading_of
 array_begins bytes count items size e =
     let a = bind_ok (head_at 0 bytes) _ (ShownArray count items, size) e in
-    let b = bind_ok (after_value (length bytes) 64 bytes) _ (ShownArray count items, size) a.2 in
+    let b = bind_ok (after_first (length bytes) 64 bytes) _ (ShownArray count items, size) a.2 in
     let same = ok_is (shown a.0.0 (take (length a.0.1 - length b.0) a.0.1) (take (length bytes - length b.0) bytes), length bytes - length b.0) (ShownArray count items, size) b.2 in
     let is = array_head a.0.0 _ _ count items (ap (λ (x : Shown × ℕ). x.0) same) in
     (a.0.1, a.1 ∙ ap (λ (h : Head). Ok (h, a.0.1)) is)
 
 -- one value and nothing else, shown as an array
-pub array_spelled : (total room : ℕ) (bytes : List ℕ) (count : ℕ) (items : List ℕ) (size : ℕ) → after_value total (suc room) bytes ≡ Ok []
+pub array_spelled : (total room : ℕ) (bytes : List ℕ) (count : ℕ) (items : List ℕ) (size : ℕ) → after_first total (suc room) bytes ≡ Ok []
     → reading_of bytes ≡ Ok (ShownArray count items, size) → (values : Values) × Spells (suc room) (grammar.Array values) bytes
 array_spelled total room bytes count items size e shown_so =
     let at = total - length bytes in

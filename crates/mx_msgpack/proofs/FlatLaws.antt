@@ -3,9 +3,9 @@ use Rattle.std.proofs.Common.{◌≡◌, ℕ, zero, suc, ◌+◌, ◌-◌, ◌<�
 use Rattle.std.proofs.lemmas.Nat.{mul-le}
 use Rattle.mx_msgpack.specs.declared.bad.Bad.{Bad}
 use Rattle.mx_msgpack.specs.declared.bad.Bad.TheVariants.{Long}
-use Rattle.mx_msgpack.specs.declared.skipping.Inside.{Inside}
+use Rattle.mx_msgpack.specs.declared.size.Inside.{Inside}
 use Rattle.mx_msgpack.specs.Grammar.{max_length}
-use Rattle.mx_msgpack.specs.Reading.{after_value}
+use Rattle.mx_msgpack.specs.Reading.{after_first}
 use Rattle.mx_msgpack.specs.Steps.{step_over}
 use Rattle.mx_msgpack.proofs.Stack.{after_stack, values_in, plain_fails, plain_steps, plain_long, plain_pushes, stack_of_one, first_inside}
 
@@ -105,7 +105,7 @@ module _ (total : ℕ) (rest : List ℕ) (answer : Result (List ℕ) Bad) where
       }
 
 pub flat_begins : (bytes : List ℕ) (inside : Inside) (rest : List ℕ) → step_over 0 bytes ≡ Ok (Some inside, rest) → inside.announced ≤ max_length
-    → Flat (length bytes) (values_in inside) 1 rest (after_value (length bytes) 64 bytes)
+    → Flat (length bytes) (values_in inside) 1 rest (after_first (length bytes) 64 bytes)
 flat_begins bytes inside rest s most = record {
   stack = values_in inside ∷ [];
   room = 63;

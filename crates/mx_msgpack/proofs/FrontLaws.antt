@@ -5,7 +5,7 @@ use Rattle.mx_msgpack.specs.declared.bad.Bad.TheVariants.{Short}
 use Rattle.mx_msgpack.specs.declared.head.Head.TheVariants.{Map}
 use Rattle.mx_msgpack.specs.Grammar as grammar
 use Rattle.mx_msgpack.specs.Grammar.{Value, Values, NoValue, MoreValues, Pairs, NoPair, MorePairs, pair_count, Spells, SpellsAll, SpellsPairs}
-use Rattle.mx_msgpack.specs.Reading.{Shown, ShownMap, shown, head_at, after_value, reading_of, measured}
+use Rattle.mx_msgpack.specs.Reading.{Shown, ShownMap, shown, head_at, after_first, reading_of, measured}
 use Rattle.mx_msgpack.proofs.Results.{bind_ok, ok_is}
 use Rattle.mx_msgpack.proofs.ValueLaws.{value_is, measured_ok}
 use Rattle.mx_msgpack.proofs.Heads.{head_again}
@@ -36,7 +36,7 @@ mutual
       (front, middle, rest, e, roomier room key front s, roomier room value middle t, pairs_roomier room others rest ss)
 
 -- in no bytes stands no value
-none_first : (total room : ℕ) → after_value total room [] ≡ Err Short
+none_first : (total room : ℕ) → after_first total room [] ≡ Err Short
 unfolding head_at
 none_first total room = value_is total room []
 
@@ -59,7 +59,7 @@ map_read pairs content rest few s =
     let front = (0x80 + count) ∷ content in
     let bytes = front ++ rest in
     let head : head_at 0 bytes ≡ Ok (Map count, content ++ rest) = head_again 0 (Map count) ((0x80 + count) ∷ []) (content ++ rest) (inl (few, refl)) in
-    let value : after_value (length bytes) 64 bytes ≡ Ok rest = value_again (length bytes) 64 (grammar.Map pairs) front rest ((0x80 + count) ∷ [], content, inl (few, refl), omega arith, refl, s) in
+    let value : after_first (length bytes) 64 bytes ≡ Ok rest = value_again (length bytes) 64 (grammar.Map pairs) front rest ((0x80 + count) ∷ [], content, inl (few, refl), omega arith, refl, s) in
     let l = length-append content rest in
     let inside : length content ≡ length (content ++ rest) - length rest = omega arith in
     let size : length bytes - length rest ≡ suc (length content) = omega arith in
@@ -71,7 +71,7 @@ pub read_shorter : (bytes : List ℕ) (what : Shown) (size : ℕ) → reading_of
 unfolding reading_of
 read_shorter bytes what size e =
     let a = bind_ok (head_at 0 bytes) _ (what, size) e in
-    let b = bind_ok (after_value (length bytes) 64 bytes) (λ rest. Ok (shown a.0.0 (take (length a.0.1 - length rest) a.0.1) (take (length bytes - length rest) bytes), length bytes - length rest)) (what, size) a.2 in
+    let b = bind_ok (after_first (length bytes) 64 bytes) (λ rest. Ok (shown a.0.0 (take (length a.0.1 - length rest) a.0.1) (take (length bytes - length rest) bytes), length bytes - length rest)) (what, size) a.2 in
     let same = ap (λ (x : Shown × ℕ). x.1) (ok_is (shown a.0.0 (take (length a.0.1 - length b.0) a.0.1) (take (length bytes - length b.0) bytes), length bytes - length b.0) (what, size) b.2) in
     let v = value_spelled (length bytes) 64 bytes b.0 b.1 in
     let some = spelled_some 64 v.0 v.1 v.3 in

@@ -10,7 +10,7 @@ use Rattle.mx_msgpack.specs.declared.head.Head.{Head}
 use Rattle.mx_msgpack.specs.declared.head.Head.TheVariants.{Nil, Bool as Boolean, Int, Str, Bin, Array, Map, Fixed, Extension}
 use Rattle.mx_msgpack.specs.Grammar.{Value, Values, NoValue, MoreValues, Pairs, NoPair, MorePairs, value_count, pair_count, max_length, IsOpaque, Spells, SpellsAll, SpellsPairs}
 use Rattle.mx_msgpack.specs.Grammar as grammar
-use Rattle.mx_msgpack.specs.Reading.{head_at, after_all, after_bytes, after_inside, after_content, after_value, Shown, ShownNil, ShownBool, ShownInt, ShownStr, ShownBin, ShownArray, ShownMap, ShownOpaque, shown}
+use Rattle.mx_msgpack.specs.Reading.{head_at, after_all, after_bytes, after_inside, after_content, after_first, Shown, ShownNil, ShownBool, ShownInt, ShownStr, ShownBin, ShownArray, ShownMap, ShownOpaque, shown}
 use Rattle.mx_msgpack.proofs.Results.{bind_ok, guard_ok, guard_then, ok_is}
 use Rattle.mx_msgpack.proofs.ValueLaws.{inside_of, value_is, value_begins}
 use Rattle.mx_msgpack.proofs.Heads.{SpellsHead, head_spelled, head_again}
@@ -35,7 +35,7 @@ inside_again one at announced values bytes rest few e = rw (le-ltb max_length an
 
 -- a value from a head on that is spelled
 begun : (total room : ℕ) (head : Head) (front content rest : List ℕ) → SpellsHead head front
-    → after_value total room ((front ++ content) ++ rest) ≡ after_content (inside_of total room) (total - length ((front ++ content) ++ rest)) head (content ++ rest)
+    → after_first total room ((front ++ content) ++ rest) ≡ after_content (inside_of total room) (total - length ((front ++ content) ++ rest)) head (content ++ rest)
 begun total room head front content rest s =
     let bytes = (front ++ content) ++ rest in
     value_begins total room bytes head (content ++ rest)
@@ -43,17 +43,17 @@ begun total room head front content rest s =
 
 -- a value that is all head
 begun_whole : (total room : ℕ) (head : Head) (front rest : List ℕ) → SpellsHead head front
-    → after_value total room (front ++ rest) ≡ after_content (inside_of total room) (total - length (front ++ rest)) head rest
+    → after_first total room (front ++ rest) ≡ after_content (inside_of total room) (total - length (front ++ rest)) head rest
 begun_whole total room head front rest s = value_begins total room (front ++ rest) head rest (head_again (total - length (front ++ rest)) head front rest s)
 
-opaque_again : (total room : ℕ) (bytes rest : List ℕ) → FixedParts bytes ⊎ ExtensionParts bytes → after_value total room (bytes ++ rest) ≡ Ok rest
+opaque_again : (total room : ℕ) (bytes rest : List ℕ) → FixedParts bytes ⊎ ExtensionParts bytes → after_first total room (bytes ++ rest) ≡ Ok rest
 opaque_again total room bytes rest (inl p) =
     rw p.parts (begun total room (Fixed p.size) p.front p.content rest p.head ∙ bytes_again _ p.size p.size p.content rest p.few p.many)
 opaque_again total room bytes rest (inr p) =
     rw p.parts (begun total room (Extension p.size) p.front p.content rest p.head ∙ bytes_again _ p.size (suc p.size) p.content rest p.few p.many)
 
 mutual
-  pub value_again : (total room : ℕ) (value : Value) (front rest : List ℕ) → Spells room value front → after_value total room (front ++ rest) ≡ Ok rest
+  pub value_again : (total room : ℕ) (value : Value) (front rest : List ℕ) → Spells room value front → after_first total room (front ++ rest) ≡ Ok rest
   value_again total room grammar.Nil front rest s = begun_whole total room Nil front rest s
   value_again total room (grammar.Boolean truth) front rest s = begun_whole total room (Boolean truth) front rest s
   value_again total room (grammar.Int number) front rest s = begun_whole total room (Int number) front rest s
@@ -65,22 +65,22 @@ mutual
   value_again total (suc room) (grammar.Array values) front rest (head, content, h, few, e, s) =
       rw e
       (begun total (suc room) (Array (value_count values)) head content rest h
-      ∙ inside_again (after_value total room) _ (value_count values) (value_count values) (content ++ rest) rest few (all_again total room values content rest s))
+      ∙ inside_again (after_first total room) _ (value_count values) (value_count values) (content ++ rest) rest few (all_again total room values content rest s))
   value_again total zero (grammar.Map pairs) front rest s = absurd s
   value_again total (suc room) (grammar.Map pairs) front rest (head, content, h, few, e, s) =
       rw e
       (begun total (suc room) (Map (pair_count pairs)) head content rest h
-      ∙ inside_again (after_value total room) _ (pair_count pairs) (2 * pair_count pairs) (content ++ rest) rest few (pairs_again total room pairs content rest s))
+      ∙ inside_again (after_first total room) _ (pair_count pairs) (2 * pair_count pairs) (content ++ rest) rest few (pairs_again total room pairs content rest s))
   value_again total room (grammar.Opaque spelling) front rest (o, e) = rw e (opaque_again total room spelling rest (opaque_parts spelling o))
 
   pub all_again : (total room : ℕ) (values : Values) (front rest : List ℕ) → SpellsAll room values front
-      → after_all (after_value total room) (value_count values) (front ++ rest) ≡ Ok rest
+      → after_all (after_first total room) (value_count values) (front ++ rest) ≡ Ok rest
   all_again total room NoValue front rest e = rw e refl
   all_again total room (MoreValues value others) front rest (first, more, e, s, ss) =
       rw (e, append_assoc first more rest, value_again total room value first (more ++ rest) s) (all_again total room others more rest ss)
 
   pub pairs_again : (total room : ℕ) (pairs : Pairs) (front rest : List ℕ) → SpellsPairs room pairs front
-      → after_all (after_value total room) (2 * pair_count pairs) (front ++ rest) ≡ Ok rest
+      → after_all (after_first total room) (2 * pair_count pairs) (front ++ rest) ≡ Ok rest
   pairs_again total room NoPair front rest e = rw e refl
   pairs_again total room (MorePairs key value others) front rest (first, second, more, e, s, t, ss) =
       rw (
@@ -181,7 +181,7 @@ pub record Content (room : ℕ) (head : Head) (front after rest : List ℕ) : Ty
 -- the claim for the depth below, where there is one
 abbrev Below : ℕ → ℕ → Type 0
 Below total zero = Unit {0}
-Below total (suc room) = Claim room (after_value total room)
+Below total (suc room) = Claim room (after_first total room)
 
 -- bytes that a head announces, and the bytes after them
 record Announced (announced size : ℕ) (after rest : List ℕ) : Type 0 where
@@ -223,8 +223,8 @@ content_spelled total room at (Bin size) front after rest below s e =
     record { value = grammar.Bin (take size after); content = take size after; parts = g.parts; spelled = (front, rw g.many s, rw g.many g.few, refl); shows = refl }
 content_spelled total zero at (Array count) front after rest below s e = absurd cc
 content_spelled total (suc room) at (Array count) front after rest below s e =
-    let g = inside_announced (after_value total room) at count count after rest e in
-    let all = all_spelled room (after_value total room) below count after rest g.1 in
+    let g = inside_announced (after_first total room) at count count after rest e in
+    let all = all_spelled room (after_first total room) below count after rest g.1 in
     record {
       value = grammar.Array all.values;
       content = all.front;
@@ -234,8 +234,8 @@ content_spelled total (suc room) at (Array count) front after rest below s e =
     }
 content_spelled total zero at (Map count) front after rest below s e = absurd cc
 content_spelled total (suc room) at (Map count) front after rest below s e =
-    let g = inside_announced (after_value total room) at count (2 * count) after rest e in
-    let all = pairs_spelled room (after_value total room) below count after rest g.1 in
+    let g = inside_announced (after_first total room) at count (2 * count) after rest e in
+    let all = pairs_spelled room (after_first total room) below count after rest g.1 in
     record {
       value = grammar.Map all.pairs;
       content = all.front;
@@ -275,7 +275,7 @@ pub record Stands (total room : ℕ) (bytes rest : List ℕ) : Type 0 where
   pub spelled : Spells room value front
   pub shows : ShowsIn room (shown head content front) value
 
-stands_over : (total room : ℕ) → Below total room → (bytes rest : List ℕ) → after_value total room bytes ≡ Ok rest → Stands total room bytes rest
+stands_over : (total room : ℕ) → Below total room → (bytes rest : List ℕ) → after_first total room bytes ≡ Ok rest → Stands total room bytes rest
 stands_over total room below bytes rest e =
     let b = bind_ok (head_at (total - length bytes) bytes) (λ head. after_content (inside_of total room) (total - length bytes) head.0 head.1) rest (sym (value_is total room bytes) ∙ e) in
     let h = head_spelled (total - length bytes) bytes b.0.0 b.0.1 b.1 in
@@ -296,11 +296,11 @@ stands_over total room below bytes rest e =
 front_of : (total room : ℕ) (bytes rest : List ℕ) → Stands total room bytes rest → Front room bytes rest
 front_of total room bytes rest s = record { value = s.value; front = s.front; parts = s.whole; spelled = s.spelled }
 
-pub value_stands : (total room : ℕ) (bytes rest : List ℕ) → after_value total room bytes ≡ Ok rest → Stands total room bytes rest
+pub value_stands : (total room : ℕ) (bytes rest : List ℕ) → after_first total room bytes ≡ Ok rest → Stands total room bytes rest
 value_stands total zero bytes rest e = stands_over total zero tt bytes rest e
 value_stands total (suc room) bytes rest e = stands_over total (suc room) (λ b r h. front_of total room b r (value_stands total room b r h)) bytes rest e
 
-pub value_spelled : (total room : ℕ) (bytes rest : List ℕ) → after_value total room bytes ≡ Ok rest
+pub value_spelled : (total room : ℕ) (bytes rest : List ℕ) → after_first total room bytes ≡ Ok rest
     → (value : Value) × (front : List ℕ) × (bytes ≡ front ++ rest) × Spells room value front
 value_spelled total room bytes rest e =
     let s = value_stands total room bytes rest e in

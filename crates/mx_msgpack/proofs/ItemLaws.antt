@@ -1,5 +1,5 @@
 -- The items of an array: they fill its bytes behind the head, and each is the spelling of the value in its place.
-use Rattle.std.proofs.Common.{◌≡◌, ℕ, zero, suc, ◌+◌, ◌-◌, ◌≤◌, Bool, true, false, cond, List, [], ◌∷◌, ◌++◌, length, take, drop, Option, Some, None, Result, Ok, Err, refl, sym, subst, ap, ◌∙◌, arith, eqb, eqb-true, eq-eqb}
+use Rattle.std.proofs.Common.{◌≡◌, ℕ, zero, suc, ◌+◌, ◌-◌, ◌≤◌, List, [], ◌∷◌, ◌++◌, length, take, drop, Option, Some, None, Result, Ok, Err, refl, sym, subst, ap, ◌∙◌, arith, eqb, eqb-true, eq-eqb}
 use Rattle.std.specs.List.{concat}
 use Rattle.std.specs.Option.{option_map}
 use Rattle.std.proofs.lemmas.List.{append-nil, take_at, drop_at, take-append-drop, length-append}
@@ -7,11 +7,13 @@ use Rattle.mx_msgpack.specs.declared.bad.Bad.{Bad}
 use Rattle.mx_msgpack.specs.declared.head.Head.TheVariants.{Array}
 use Rattle.mx_msgpack.specs.Grammar as grammar
 use Rattle.mx_msgpack.specs.Grammar.{Value, Values, NoValue, MoreValues, value_count, max_length, max_nesting, ArrayHead, Spells, SpellsAll}
-use Rattle.mx_msgpack.specs.Reading.{Shown, ShownNil, ShownBool, ShownInt, ShownStr, ShownBin, ShownArray, ShownMap, ShownOpaque, shown, head_at, after_value, reading_of, measured}
+use Rattle.mx_msgpack.specs.Reading.{Shown, ShownArray, shown, head_at, after_first, reading_of, measured}
 use Rattle.mx_msgpack.specs.Items as items
-use Rattle.mx_msgpack.specs.Items.{parted, first_value, values_from, array_shown, array_of, items_of, SpellEach}
+use Rattle.mx_msgpack.specs.Items.{parted, first_value, values_from, array_of, items_of, SpellEach}
 use Rattle.mx_msgpack.proofs.Results.{bind_ok, ok_is}
-use Rattle.mx_msgpack.proofs.Options.{same_some}
+use Rattle.mx_msgpack.specs.Projections.{as_array, shown_first}
+use Rattle.mx_msgpack.proofs.ProjectionLaws.{first_read, array_is}
+use Rattle.mx_msgpack.proofs.Options.{bind_some, allowed, same_some}
 use Rattle.mx_msgpack.proofs.Heads.{head_again}
 use Rattle.mx_msgpack.proofs.GrammarLaws.{value_again, value_spelled}
 use Rattle.mx_msgpack.proofs.FrontLaws.{roomier, measured_again}
@@ -31,6 +33,10 @@ first_front value front more s = ap (λ (x : List ℕ × List ℕ). x.0) (parted
 
 after_front : (value : Value) (front more : List ℕ) → Spells 63 value front → items.after_value (front ++ more) ≡ more
 after_front value front more s = ap (λ (x : List ℕ × List ℕ). x.1) (parted_front value front more s)
+
+pub first_is : (value : Value) (front more : List ℕ) → Spells 63 value front
+    → (first_value (front ++ more) ≡ front) × (items.after_value (front ++ more) ≡ more)
+first_is value front more s = (first_front value front more s, after_front value front more s)
 
 -- the spellings of values in a row fill their bytes
 pub values_fill : (values : Values) (bytes : List ℕ) → SpellsAll 63 values bytes → concat (values_from (value_count values) bytes) ≡ bytes
@@ -66,8 +72,8 @@ array_read values head content h few s =
     let count = value_count values in
     let bytes = head ++ content in
     let begins : head_at 0 bytes ≡ Ok (Array count, content) = head_again 0 (Array count) head content h in
-    let value : after_value (length bytes) 64 bytes ≡ Ok [] =
-    ap (after_value (length bytes) 64) (sym (append-nil bytes))
+    let value : after_first (length bytes) 64 bytes ≡ Ok [] =
+    ap (after_first (length bytes) 64) (sym (append-nil bytes))
     ∙ value_again (length bytes) 64 (grammar.Array values) bytes [] (head, content, h, few, refl, s) in
     let whole : length content ≡ length content - length (the_empty) = omega arith in
     let all : take (length content - length the_empty) content ≡ content =
@@ -90,34 +96,24 @@ pub record Row (bytes : List ℕ) (count : ℕ) (content : List ℕ) : Type 0 wh
   pub few : count ≤ max_length
   pub spelled : SpellsAll 63 values content
 
-shown_array : (total : ℕ) (read : Result (Shown × ℕ) Bad) (count : ℕ) (content : List ℕ) → array_shown total read ≡ Some (count, content) → read ≡ Ok (ShownArray count content, total)
-shown_array total (Err bad) count content e = absurd cc
-shown_array total (Ok (ShownNil, size)) count content e = absurd cc
-shown_array total (Ok (ShownBool truth, size)) count content e = absurd cc
-shown_array total (Ok (ShownInt number, size)) count content e = absurd cc
-shown_array total (Ok (ShownStr text, size)) count content e = absurd cc
-shown_array total (Ok (ShownBin bin, size)) count content e = absurd cc
-shown_array total (Ok (ShownArray other inside, size)) count content e = by_test (eqb size total) refl e
-  where
-    read_as : Shown → ℕ → Result (Shown × ℕ) Bad
-    read_as what size = Ok (what, size)
-
-    by_test : (b : Bool) → eqb size total ≡ b → cond {A = Option (ℕ × List ℕ)} b (Some (other, inside)) None ≡ Some (count, content) → read_as (ShownArray other inside) size ≡ read_as (ShownArray count content) total
-    by_test true t e =
-        let same = same_some (other, inside) (count, content) e in
-        let whole : size ≡ total = eqb-true size total t in
-        (λ i. Ok (ShownArray (same i).0 (same i).1, whole i))
-    by_test false t e = absurd cc
-shown_array total (Ok (ShownMap pairs inside, size)) count content e = absurd cc
-shown_array total (Ok (ShownOpaque spelling, size)) count content e = absurd cc
+-- what is shown of an array
+pub whole_array : (bytes : List ℕ) (array : ℕ × List ℕ) → array_of bytes ≡ Some array → reading_of bytes ≡ Ok (ShownArray array.0 array.1, length bytes)
+unfolding array_of
+whole_array bytes array e =
+    let first = bind_some (shown_first bytes) _ array e in
+    let held = bind_some (as_array first.0.0) _ array first.2 in
+    let whole = allowed (eqb first.0.1 (length bytes)) (Some held.0) array held.2 in
+    let what = array_is first.0.0 array (held.1 ∙ whole.1) in
+    let size = eqb-true first.0.1 (length bytes) whole.0 in
+    first_read bytes first.0 first.1 ∙ (λ i. Ok (what i, size i))
 
 -- nothing is left behind a value that takes all bytes
-all_read : (bytes : List ℕ) (what : Shown) → reading_of bytes ≡ Ok (what, length bytes) → after_value (length bytes) 64 bytes ≡ Ok []
+all_read : (bytes : List ℕ) (what : Shown) → reading_of bytes ≡ Ok (what, length bytes) → after_first (length bytes) 64 bytes ≡ Ok []
 unfolding reading_of
 all_read bytes what e =
     let a = bind_ok (head_at 0 bytes) _ (what, length bytes) e in
     let b =
-    bind_ok (after_value (length bytes) 64 bytes)
+    bind_ok (after_first (length bytes) 64 bytes)
     (λ rest. Ok (shown a.0.0 (take (length a.0.1 - length rest) a.0.1) (take (length bytes - length rest) bytes), length bytes - length rest)) (what, length bytes) a.2 in
     let same =
     ap (λ (x : Shown × ℕ). x.1)
@@ -134,7 +130,7 @@ all_read bytes what e =
 array_of_spelled : (bytes : List ℕ) (count : ℕ) (content : List ℕ) → array_of bytes ≡ Some (count, content) → (values : Values) × Spells 64 (grammar.Array values) bytes
 unfolding array_of
 array_of_spelled bytes count content e =
-    let read = shown_array (length bytes) (reading_of bytes) count content e in
+    let read = whole_array bytes (count, content) e in
     array_spelled (length bytes) 63 bytes count content (length bytes) (all_read bytes (ShownArray count content) read) read
 
 -- and so it is a head and values in a row

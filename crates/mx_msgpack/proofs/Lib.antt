@@ -26,3 +26,6 @@ pub mod WriterLaws
 pub mod ClaimLaws
 pub mod TakingLaws
 pub mod ItemLaws
+pub mod ProjectionLaws
+pub mod MapLaws
+pub mod LookupLaws

@@ -4,7 +4,7 @@ use Rattle.std.specs.Prelude.{IfOk}
 use Rattle.std.proofs.lemmas.List.{take_at, take-append-drop, length-append, length-drop}
 use Rattle.mx_msgpack.specs.declared.bad.Bad.{Bad}
 use Rattle.mx_msgpack.specs.Grammar.{Value, Spells, max_nesting}
-use Rattle.mx_msgpack.specs.Reading.{after_value, measured}
+use Rattle.mx_msgpack.specs.Reading.{after_first, measured}
 use Rattle.mx_msgpack.proofs.ValueLaws.{measured_ok, read_ok}
 use Rattle.mx_msgpack.proofs.GrammarLaws.{value_spelled, value_again}
 
@@ -28,6 +28,6 @@ measured_spelled bytes (Err bad) e = tt
 pub measured_only : (bytes : List ℕ) (value : Value) (size : ℕ) → size ≤ length bytes → Spells max_nesting value (take size bytes) → measured bytes ≡ Ok size
 measured_only bytes value size le s =
     let again = value_again (length bytes) 64 value (take size bytes) (drop size bytes) s in
-    let read : after_value (length bytes) 64 bytes ≡ Ok (drop size bytes) = ap (λ (x : List ℕ). after_value (length bytes) 64 x) (sym (take-append-drop size bytes)) ∙ again in
+    let read : after_first (length bytes) 64 bytes ≡ Ok (drop size bytes) = ap (λ (x : List ℕ). after_first (length bytes) 64 x) (sym (take-append-drop size bytes)) ∙ again in
     let n : length bytes - length (drop size bytes) ≡ size = omega (arith, length-drop size bytes) in
     sym (measured_ok bytes (drop size bytes) read) ∙ ap Ok n

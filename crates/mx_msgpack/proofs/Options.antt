@@ -1,6 +1,7 @@
 -- Steps that may find nothing, and the steps after them.
 use Rattle.std.proofs.Common.{◌≡◌, Bool, true, false, cond, Option, Some, None, refl}
 use Rattle.std.specs.Prelude.{MatchBool}
+use Rattle.std.specs.Option.{option_map}
 use Rattle.mx_msgpack.specs.Readers.{◌>>=◌}
 
 -- what a step found, where the steps after it found something
@@ -28,3 +29,8 @@ same_some x y e = cc
 pub when_true : (b : Bool) (P Q : Type 0) → b ≡ true → MatchBool b P Q → P
 when_true true P Q e h = h
 when_true false P Q e h = absurd cc
+
+-- a value of which a function gives another
+pub mapped_some : {A B : Type 0} (f : A → B) (o : Option A) (y : B) → option_map f o ≡ Some y → (x : A) × (o ≡ Some x) × (f x ≡ y)
+mapped_some f None y e = absurd cc
+mapped_some f (Some x) y e = (x, refl, same_some (f x) y e)

@@ -9,7 +9,7 @@ use Rattle.mx_msgpack.specs.Grammar as grammar
 use Rattle.mx_msgpack.specs.Grammar.{value_count, pair_count, max_length}
 use Rattle.mx_msgpack.specs.Spelling.{shortest, shortest_all, shortest_pairs, array_head, map_head}
 use Rattle.mx_msgpack.specs.Writing.{IsWritable, AreWritable, ArePairsWritable}
-use Rattle.mx_msgpack.specs.Owned.{value_view, row_view, pair_row_view, list_view, pair_list_view, values_in, pairs_in}
+use Rattle.mx_msgpack.specs.Owned.{value_view, row_view, pair_row_view, list_view, pair_list_view, value_list, pair_list}
 
 row_list : (n : _) (row : Row_of-Value n) → row_view row ≡ list_view (items-the_row-Value n row)
 row_list n end_of-Value = refl
@@ -19,10 +19,10 @@ pair_row_list : (n : _) (row : Row_of-Pairs-items-2 n) → pair_row_view row ≡
 pair_row_list n end_of-Pairs-items-2 = refl
 pair_row_list n (more_of-Pairs-items-2 key value others) = ap (grammar.MorePairs (value_view key) (value_view value)) (pair_row_list _ others)
 
-pub array_view : (values : Values) → value_view (shown.Array values) ≡ grammar.Array (list_view (values_in values))
+pub array_view : (values : Values) → value_view (shown.Array values) ≡ grammar.Array (list_view (value_list values))
 array_view values = search (rules, the_lemmas, row_list)
 
-pub map_view : (pairs : Pairs) → value_view (shown.Map pairs) ≡ grammar.Map (pair_list_view (pairs_in pairs))
+pub map_view : (pairs : Pairs) → value_view (shown.Map pairs) ≡ grammar.Map (pair_list_view (pair_list pairs))
 map_view pairs = search (rules, the_lemmas, pair_row_list)
 
 pub count_list : (values : List Value) → value_count (list_view values) ≡ length values
@@ -36,33 +36,33 @@ count_pair_list (pair ∷ others) = ap suc (count_pair_list others)
 -- ---- an array and a map that are written
 
 pub array_writable : (value : Value) (values : Values) → value ≡ shown.Array values → IsWritable (value_view value)
-    → (length (values_in values) ≤ max_length) × AreWritable (list_view (values_in values))
+    → (length (value_list values) ≤ max_length) × AreWritable (list_view (value_list values))
 array_writable value values e w =
     let parts = subst IsWritable (ap value_view e ∙ array_view values) w in
-    (subst (λ (n : ℕ). n ≤ max_length) (count_list (values_in values)) parts.0, parts.1)
+    (subst (λ (n : ℕ). n ≤ max_length) (count_list (value_list values)) parts.0, parts.1)
 
 pub map_writable : (value : Value) (pairs : Pairs) → value ≡ shown.Map pairs → IsWritable (value_view value)
-    → (length (pairs_in pairs) ≤ max_length) × ArePairsWritable (pair_list_view (pairs_in pairs))
+    → (length (pair_list pairs) ≤ max_length) × ArePairsWritable (pair_list_view (pair_list pairs))
 map_writable value pairs e w =
     let parts = subst IsWritable (ap value_view e ∙ map_view pairs) w in
-    (subst (λ (n : ℕ). n ≤ max_length) (count_pair_list (pairs_in pairs)) parts.0, parts.1)
+    (subst (λ (n : ℕ). n ≤ max_length) (count_pair_list (pair_list pairs)) parts.0, parts.1)
 
 pub array_written : (before headed new : List ℕ) (value : Value) (values : Values) → value ≡ shown.Array values
-    → headed ≡ before ++ array_head (length (values_in values)) → new ≡ headed ++ shortest_all (list_view (values_in values))
+    → headed ≡ before ++ array_head (length (value_list values)) → new ≡ headed ++ shortest_all (list_view (value_list values))
     → new ≡ before ++ shortest (value_view value)
 array_written before headed new value values e f g =
-    let all = shortest_all (list_view (values_in values)) in
-    g ∙ ap (λ (l : List ℕ). l ++ all) f ∙ append_assoc before (array_head (length (values_in values))) all
-    ∙ ap (λ (n : ℕ). before ++ (array_head n ++ all)) (sym (count_list (values_in values)))
+    let all = shortest_all (list_view (value_list values)) in
+    g ∙ ap (λ (l : List ℕ). l ++ all) f ∙ append_assoc before (array_head (length (value_list values))) all
+    ∙ ap (λ (n : ℕ). before ++ (array_head n ++ all)) (sym (count_list (value_list values)))
     ∙ ap (λ (v : grammar.Value). before ++ shortest v) (sym (ap value_view e ∙ array_view values))
 
 pub map_written : (before headed new : List ℕ) (value : Value) (pairs : Pairs) → value ≡ shown.Map pairs
-    → headed ≡ before ++ map_head (length (pairs_in pairs)) → new ≡ headed ++ shortest_pairs (pair_list_view (pairs_in pairs))
+    → headed ≡ before ++ map_head (length (pair_list pairs)) → new ≡ headed ++ shortest_pairs (pair_list_view (pair_list pairs))
     → new ≡ before ++ shortest (value_view value)
 map_written before headed new value pairs e f g =
-    let all = shortest_pairs (pair_list_view (pairs_in pairs)) in
-    g ∙ ap (λ (l : List ℕ). l ++ all) f ∙ append_assoc before (map_head (length (pairs_in pairs))) all
-    ∙ ap (λ (n : ℕ). before ++ (map_head n ++ all)) (sym (count_pair_list (pairs_in pairs)))
+    let all = shortest_pairs (pair_list_view (pair_list pairs)) in
+    g ∙ ap (λ (l : List ℕ). l ++ all) f ∙ append_assoc before (map_head (length (pair_list pairs))) all
+    ∙ ap (λ (n : ℕ). before ++ (map_head n ++ all)) (sym (count_pair_list (pair_list pairs)))
     ∙ ap (λ (v : grammar.Value). before ++ shortest v) (sym (ap value_view e ∙ map_view pairs))
 
 -- ---- how much there is to write
@@ -86,12 +86,12 @@ abbrev mutual
   pair_nodes grammar.NoPair = 0
   pair_nodes (grammar.MorePairs key value others) = suc (nodes key + nodes value + pair_nodes others)
 
-pub array_nodes : (value : Value) (values : Values) → value ≡ shown.Array values → all_nodes (list_view (values_in values)) < nodes (value_view value)
+pub array_nodes : (value : Value) (values : Values) → value ≡ shown.Array values → all_nodes (list_view (value_list values)) < nodes (value_view value)
 array_nodes value values e =
     let same = ap nodes (ap value_view e ∙ array_view values) in
     omega arith
 
-pub map_nodes : (value : Value) (pairs : Pairs) → value ≡ shown.Map pairs → pair_nodes (pair_list_view (pairs_in pairs)) < nodes (value_view value)
+pub map_nodes : (value : Value) (pairs : Pairs) → value ≡ shown.Map pairs → pair_nodes (pair_list_view (pair_list pairs)) < nodes (value_view value)
 map_nodes value pairs e =
     let same = ap nodes (ap value_view e ∙ map_view pairs) in
     omega arith

@@ -5,7 +5,7 @@ use Rattle.mx_msgpack.specs.declared.head.Head.{Head}
 use Rattle.mx_msgpack.specs.declared.head.Head.TheVariants.{Nil, Bool as Boolean, Int, Str, Bin, Array, Map, Fixed, Extension}
 use Rattle.mx_msgpack.specs.Grammar.{Value, Values, NoValue, MoreValues, Pairs, NoPair, MorePairs, value_count, pair_count, max_nesting, Spells, SpellsAll, SpellsPairs}
 use Rattle.mx_msgpack.specs.Grammar as grammar
-use Rattle.mx_msgpack.specs.Reading.{head_at, after_value, Shown, ShownNil, ShownBool, ShownInt, ShownStr, ShownBin, ShownArray, ShownMap, ShownOpaque, shown}
+use Rattle.mx_msgpack.specs.Reading.{head_at, after_first, Shown, ShownNil, ShownBool, ShownInt, ShownStr, ShownBin, ShownArray, ShownMap, ShownOpaque, shown}
 use Rattle.mx_msgpack.proofs.Results.{ok_is}
 use Rattle.mx_msgpack.proofs.Heads.{SpellsHead, head_again}
 use Rattle.mx_msgpack.proofs.OpaqueLaws.{FixedParts, ExtensionParts, opaque_parts}
@@ -16,7 +16,7 @@ pub no_prefix_of_another : (one other : Value) (bytes more : List ℕ) → Spell
 no_prefix_of_another one other bytes more s t =
     let first = value_again 0 64 one bytes more s in
     let second = value_again 0 64 other (bytes ++ more) [] t in
-    ok_is more [] (sym first ∙ ap (after_value 0 64) (sym (append-nil (bytes ++ more))) ∙ second)
+    ok_is more [] (sym first ∙ ap (after_first 0 64) (sym (append-nil (bytes ++ more))) ∙ second)
 
 -- ---- bytes spell one value at most
 
@@ -68,7 +68,7 @@ module _ (room : ℕ) (claim : Claim room) (bytes : List ℕ) (one other : Value
   same_rest =
       let first = value_again 0 room one front rest s in
       let second = value_again 0 room other front' rest' t in
-      ok_is rest rest' (sym first ∙ ap (after_value 0 room) (sym parts ∙ parts') ∙ second)
+      ok_is rest rest' (sym first ∙ ap (after_first 0 room) (sym parts ∙ parts') ∙ second)
 
   same_front : front ≡ front'
   same_front =

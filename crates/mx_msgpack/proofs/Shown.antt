@@ -5,7 +5,7 @@ use Rattle.mx_msgpack.specs.declared.bad.Bad.{Bad}
 use Rattle.mx_msgpack.specs.declared.head.Head.{Head}
 use Rattle.mx_msgpack.specs.declared.head.Head.TheVariants.{Int}
 use Rattle.mx_msgpack.specs.Grammar.{Value, Spells, max_nesting}
-use Rattle.mx_msgpack.specs.Reading.{head_at, after_value, measured, reading_of, Shown, ShownNil, ShownBool, ShownInt, ShownStr, ShownBin, ShownArray, ShownMap, ShownOpaque, shown}
+use Rattle.mx_msgpack.specs.Reading.{head_at, after_first, measured, reading_of, Shown, ShownNil, ShownBool, ShownInt, ShownStr, ShownBin, ShownArray, ShownMap, ShownOpaque, shown}
 use Rattle.mx_msgpack.specs.View.{Shows}
 use Rattle.mx_msgpack.proofs.Results.{ok_is}
 use Rattle.mx_msgpack.proofs.ValueLaws.{value_begins, read_ok, read_err}
@@ -32,7 +32,7 @@ pub value_fails : (bytes : List ℕ) (head : Head) (after : List ℕ) (bad : Bad
 unfolding reading_of
 value_fails bytes head after bad e m = rw (e, read_err bytes bad m) refl
 
-pub reads : (bytes : List ℕ) (head : Head) (after rest : List ℕ) → head_at 0 bytes ≡ Ok (head, after) → after_value (length bytes) 64 bytes ≡ Ok rest
+pub reads : (bytes : List ℕ) (head : Head) (after rest : List ℕ) → head_at 0 bytes ≡ Ok (head, after) → after_first (length bytes) 64 bytes ≡ Ok rest
     → reading_of bytes ≡ Ok (shown head (take (length after - length rest) after) (take (length bytes - length rest) bytes), length bytes - length rest)
 unfolding reading_of
 reads bytes head after rest e v = rw (e, v) refl
@@ -47,7 +47,7 @@ pub record Seen (bytes : List ℕ) (seen : Shown) (size : ℕ) : Type 0 where
   pub spelled : (size ≤ length bytes) × (value : Value) × Spells max_nesting value (take size bytes) × Shows seen value
   pub exact : reading_of bytes ≡ Ok (seen, size)
 
-one_head : (total : ℕ) (bytes : List ℕ) (head other : Head) (after rest : List ℕ) → length bytes ≡ total → head_at 0 bytes ≡ Ok (head, after) → head_at (total - length bytes) bytes ≡ Ok (other, rest)
+pub one_head : (total : ℕ) (bytes : List ℕ) (head other : Head) (after rest : List ℕ) → length bytes ≡ total → head_at 0 bytes ≡ Ok (head, after) → head_at (total - length bytes) bytes ≡ Ok (other, rest)
     → (head ≡ other) × (after ≡ rest)
 one_head total bytes head other after rest n e f =
     let at : 0 ≡ total - length bytes = omega arith in
@@ -55,7 +55,7 @@ one_head total bytes head other after rest n e f =
     (ap (λ (x : Head × List ℕ). x.0) same, ap (λ (x : Head × List ℕ). x.1) same)
 
 module _ (bytes : List ℕ) (head : Head) (after : List ℕ) (size : ℕ) (rest : List ℕ) (le : length after ≤ length bytes) (e : head_at 0 bytes ≡ Ok (head, after))
-    (v : after_value (length bytes) 64 bytes ≡ Ok rest) (n : length bytes - length rest ≡ size) where
+    (v : after_first (length bytes) 64 bytes ≡ Ok rest) (n : length bytes - length rest ≡ size) where
   bounds : Bounds bytes after size
   bounds =
       let s = value_stands (length bytes) 64 bytes rest v in
@@ -94,6 +94,6 @@ pub int_seen : (bytes : List ℕ) (number : ℤ) (after : List ℕ) → length a
     → (s : Shown) → s ≡ ShownInt number → Seen bytes s (length bytes - length after)
 int_seen bytes number after le e s is =
     let at : length bytes - length bytes ≡ 0 = omega arith in
-    let read : after_value (length bytes) 64 bytes ≡ Ok after =
+    let read : after_first (length bytes) 64 bytes ≡ Ok after =
     value_begins (length bytes) 64 bytes (Int number) after (ap (λ (k : ℕ). head_at k bytes) at ∙ e) in
     rw is (seen bytes (Int number) after (length bytes - length after) after le e read refl)

@@ -6,7 +6,7 @@ use Rattle.std.proofs.lemmas.Bool.{lt-ltb, le-ltb}
 use Rattle.std.proofs.lemmas.Int.{ints}
 use Rattle.byteorder.specs.Endian.{big_number, twos_complement}
 use Rattle.mx_msgpack.specs.declared.head.Head.TheVariants.{Int}
-use Rattle.mx_msgpack.specs.Reading.{signed_at}
+use Rattle.mx_msgpack.specs.Reading.{signed_head}
 
 module _ (width half number : ℕ) (at : 2 ^ (8 * width - 1) ≡ half) where
   pub twos-low : number < half → pos number ≡ twos_complement width number
@@ -56,6 +56,6 @@ module _ (width number : ℕ) (limit signed z : ℤ) (l : IsLimit width limit) (
       whole ∙ twos-high width l.half number l.at l.twice le
 
 -- the head of a number with a sign, and the bytes after it
-pub signed_head : (width : ℕ) (rest back : List ℕ) (signed : ℤ) → width ≤ length rest → signed ≡ twos_complement width (big_number width (take width rest)) → back ≡ drop width rest
-    → signed_at width rest ≡ Ok (Int signed, back)
-signed_head width rest back signed long is after = rw (le-ltb (length rest) width long, is, after) refl
+pub signed_is : (width : ℕ) (rest back : List ℕ) (signed : ℤ) → width ≤ length rest → signed ≡ twos_complement width (big_number width (take width rest)) → back ≡ drop width rest
+    → signed_head width rest ≡ Ok (Int signed, back)
+signed_is width rest back signed long is after = rw (le-ltb (length rest) width long, is, after) refl

@@ -5,10 +5,10 @@ use Rattle.mx_msgpack.specs.declared.bad.Bad.{Bad}
 use Rattle.mx_msgpack.specs.declared.bad.Bad.TheVariants.{Deep, Long}
 use Rattle.mx_msgpack.specs.declared.head.Head.{Head}
 use Rattle.mx_msgpack.specs.declared.head.Head.TheVariants.{Nil, Bool as Boolean, Int, Str, Bin, Array, Map, Fixed, Extension}
-use Rattle.mx_msgpack.specs.declared.skipping.Inside.{Inside}
+use Rattle.mx_msgpack.specs.declared.size.Inside.{Inside}
 use Rattle.mx_msgpack.specs.Grammar.{max_length}
-use Rattle.mx_msgpack.specs.Reading.{◌>>=◌, head_at, after_all, after_bytes, after_inside, after_content, after_value}
-use Rattle.mx_msgpack.specs.Steps.{behind, step_behind, step_over}
+use Rattle.mx_msgpack.specs.Reading.{◌>>=◌, head_at, after_all, after_bytes, after_inside, after_content, after_first}
+use Rattle.mx_msgpack.specs.Steps.{no_container, step_behind, step_over}
 use Rattle.mx_msgpack.proofs.Results.{bind_Ok, bind_bind}
 use Rattle.mx_msgpack.proofs.ValueLaws.{inside_of, value_is}
 
@@ -23,7 +23,7 @@ abbrev pub after_step : Option (List ℕ → Result (List ℕ) Bad) → ℕ → 
 after_step one at None rest = Ok rest
 after_step one at (Some inside) rest = after_inside one at inside.announced (values_in inside) rest
 
-behind_steps : (one : Option (List ℕ → Result (List ℕ) Bad)) (at : ℕ) (r : Result (List ℕ) Bad) → r ≡ (behind r >>= λ x. after_step one at x.0 x.1)
+behind_steps : (one : Option (List ℕ → Result (List ℕ) Bad)) (at : ℕ) (r : Result (List ℕ) Bad) → r ≡ (no_container r >>= λ x. after_step one at x.0 x.1)
 behind_steps one at (Ok rest) = refl
 behind_steps one at (Err bad) = refl
 
@@ -45,7 +45,7 @@ head_steps one at (Ok x) = content_steps one at x.0 x.1
 head_steps one at (Err bad) = refl
 
 value_steps : (total room : ℕ) (bytes : List ℕ)
-    → after_value total room bytes ≡ (step_over (total - length bytes) bytes >>= λ x. after_step (inside_of total room) (total - length bytes) x.0 x.1)
+    → after_first total room bytes ≡ (step_over (total - length bytes) bytes >>= λ x. after_step (inside_of total room) (total - length bytes) x.0 x.1)
 value_steps total room bytes = value_is total room bytes ∙ head_steps (inside_of total room) (total - length bytes) (head_at (total - length bytes) bytes)
 
 -- ---- the stack
@@ -58,7 +58,7 @@ counters left (suc depth) = get_or left depth 0 ∷ counters left depth
 -- the bytes after so many values in each open container, where the innermost has this much room inside
 unfoldable pub after_stack : ℕ → ℕ → List ℕ → List ℕ → Result (List ℕ) Bad
 after_stack total room [] bytes = Ok bytes
-after_stack total room (count ∷ others) bytes = after_all (after_value total room) count bytes >>= after_stack total (suc room) others
+after_stack total room (count ∷ others) bytes = after_all (after_first total room) count bytes >>= after_stack total (suc room) others
 
 counters-set : (left : List ℕ) (depth i v : ℕ) → depth ≤ i → counters (set left i v) depth ≡ counters left depth
 unfolding counters
@@ -71,9 +71,9 @@ counters-at : (left : List ℕ) (depth v : ℕ) → depth < length left → coun
 unfolding counters
 counters-at left depth v lt = rw (get_or-set_same, counters-set left depth depth v (omega arith)) refl
 
-pub stack_begins : (total room : ℕ) (left bytes : List ℕ) → get_or left 0 0 ≡ 1 → after_stack total room (counters left 1) bytes ≡ after_value total room bytes
+pub stack_begins : (total room : ℕ) (left bytes : List ℕ) → get_or left 0 0 ≡ 1 → after_stack total room (counters left 1) bytes ≡ after_first total room bytes
 unfolding counters after_stack
-stack_begins total room left bytes e = rw e (bind_Ok (after_value total room bytes >>= λ x. Ok x) ∙ bind_Ok (after_value total room bytes))
+stack_begins total room left bytes e = rw e (bind_Ok (after_first total room bytes >>= λ x. Ok x) ∙ bind_Ok (after_first total room bytes))
 
 pub stack_ends : (total room : ℕ) (left bytes : List ℕ) → after_stack total room (counters left 0) bytes ≡ Ok bytes
 unfolding counters after_stack
@@ -88,9 +88,9 @@ stack_pops total room left depth bytes e = rw e refl
 -- ---- one value of the innermost container, over a plain stack
 
 module _ (total room count : ℕ) (others bytes : List ℕ) where
-  plain_value : after_stack total room (suc count ∷ others) bytes ≡ (after_value total room bytes >>= after_stack total room (count ∷ others))
+  plain_value : after_stack total room (suc count ∷ others) bytes ≡ (after_first total room bytes >>= after_stack total room (count ∷ others))
   unfolding after_stack
-  plain_value = bind_bind (after_value total room bytes) (after_all (after_value total room) count) (after_stack total (suc room) others)
+  plain_value = bind_bind (after_first total room bytes) (after_all (after_first total room) count) (after_stack total (suc room) others)
 
   plain_step : (step : Result (Option Inside × List ℕ) Bad) → step_over (total - length bytes) bytes ≡ step
       → after_stack total room (suc count ∷ others) bytes
@@ -111,7 +111,7 @@ module _ (total room count : ℕ) (others : List ℕ) (inside : Inside) (bytes r
   pub plain_long : max_length < inside.announced → step_over (total - length bytes) bytes ≡ Ok (Some inside, rest)
       → after_stack total (suc room) (suc count ∷ others) bytes ≡ Err (Long (total - length bytes))
   plain_long many s =
-      let stopped : after_inside (Some (after_value total room)) (total - length bytes) inside.announced (values_in inside) rest ≡ Err (Long (total - length bytes)) =
+      let stopped : after_inside (Some (after_first total room)) (total - length bytes) inside.announced (values_in inside) rest ≡ Err (Long (total - length bytes)) =
       rw (lt-ltb max_length inside.announced many) refl in
       plain_step total (suc room) count others bytes (Ok (Some inside, rest)) s
       ∙ ap (λ (r : Result (List ℕ) Bad). r >>= after_stack total (suc room) (count ∷ others)) stopped
@@ -120,7 +120,7 @@ module _ (total room count : ℕ) (others : List ℕ) (inside : Inside) (bytes r
       → after_stack total (suc room) (suc count ∷ others) bytes ≡ after_stack total room (values_in inside ∷ count ∷ others) rest
   unfolding after_stack
   plain_pushes few s =
-      let going : after_inside (Some (after_value total room)) (total - length bytes) inside.announced (values_in inside) rest ≡ after_all (after_value total room) (values_in inside) rest =
+      let going : after_inside (Some (after_first total room)) (total - length bytes) inside.announced (values_in inside) rest ≡ after_all (after_first total room) (values_in inside) rest =
       rw (le-ltb max_length inside.announced few) refl in
       plain_step total (suc room) count others bytes (Ok (Some inside, rest)) s
       ∙ ap (λ (r : Result (List ℕ) Bad). r >>= after_stack total (suc room) (count ∷ others)) going
@@ -227,33 +227,33 @@ module _ (total depth : ℕ) (left bytes : List ℕ) (below : 0 < depth) where
 -- ---- the first step
 
 pub first_step : (bytes : List ℕ) (step : Result (Option Inside × List ℕ) Bad) → step_over 0 bytes ≡ step
-    → after_value (length bytes) 64 bytes ≡ (step >>= λ x. after_step (inside_of (length bytes) 64) 0 x.0 x.1)
+    → after_first (length bytes) 64 bytes ≡ (step >>= λ x. after_step (inside_of (length bytes) 64) 0 x.0 x.1)
 first_step bytes step e =
     let at : length bytes - length bytes ≡ 0 = omega arith in
     value_steps (length bytes) 64 bytes
     ∙ ap (λ (k : ℕ). step_over k bytes >>= λ x. after_step (inside_of (length bytes) 64) k x.0 x.1) at
     ∙ ap (λ (r : Result (Option Inside × List ℕ) Bad). r >>= λ x. after_step (inside_of (length bytes) 64) 0 x.0 x.1) e
 
-pub first_fails : (bytes : List ℕ) (bad : Bad) → step_over 0 bytes ≡ Err bad → after_value (length bytes) 64 bytes ≡ Err bad
+pub first_fails : (bytes : List ℕ) (bad : Bad) → step_over 0 bytes ≡ Err bad → after_first (length bytes) 64 bytes ≡ Err bad
 first_fails bytes bad e = first_step bytes (Err bad) e
 
-pub first_ends : (bytes rest : List ℕ) → step_over 0 bytes ≡ Ok (None, rest) → after_value (length bytes) 64 bytes ≡ Ok rest
+pub first_ends : (bytes rest : List ℕ) → step_over 0 bytes ≡ Ok (None, rest) → after_first (length bytes) 64 bytes ≡ Ok rest
 first_ends bytes rest e = first_step bytes (Ok (None, rest)) e
 
 pub first_inside : (bytes : List ℕ) (inside : Inside) (rest : List ℕ) → inside.announced ≤ max_length → step_over 0 bytes ≡ Ok (Some inside, rest)
-    → after_value (length bytes) 64 bytes ≡ after_all (after_value (length bytes) 63) (values_in inside) rest
+    → after_first (length bytes) 64 bytes ≡ after_all (after_first (length bytes) 63) (values_in inside) rest
 first_inside bytes inside rest few e =
-    let going : after_inside (Some (after_value (length bytes) 63)) 0 inside.announced (values_in inside) rest ≡ after_all (after_value (length bytes) 63) (values_in inside) rest =
+    let going : after_inside (Some (after_first (length bytes) 63)) 0 inside.announced (values_in inside) rest ≡ after_all (after_first (length bytes) 63) (values_in inside) rest =
     rw (le-ltb max_length inside.announced few) refl in
     first_step bytes (Ok (Some inside, rest)) e ∙ going
 
 pub first_long : (bytes : List ℕ) (inside : Inside) (rest : List ℕ) → max_length < inside.announced → step_over 0 bytes ≡ Ok (Some inside, rest)
-    → after_value (length bytes) 64 bytes ≡ Err (Long 0)
+    → after_first (length bytes) 64 bytes ≡ Err (Long 0)
 first_long bytes inside rest many e =
-    let stopped : after_inside (Some (after_value (length bytes) 63)) 0 inside.announced (values_in inside) rest ≡ Err (Long 0) =
+    let stopped : after_inside (Some (after_first (length bytes) 63)) 0 inside.announced (values_in inside) rest ≡ Err (Long 0) =
     rw (lt-ltb max_length inside.announced many) refl in
     first_step bytes (Ok (Some inside, rest)) e ∙ stopped
 
-pub stack_of_one : (total room count : ℕ) (bytes : List ℕ) → after_stack total room (count ∷ []) bytes ≡ after_all (after_value total room) count bytes
+pub stack_of_one : (total room count : ℕ) (bytes : List ℕ) → after_stack total room (count ∷ []) bytes ≡ after_all (after_first total room) count bytes
 unfolding after_stack
-stack_of_one total room count bytes = bind_Ok (after_all (after_value total room) count bytes)
+stack_of_one total room count bytes = bind_Ok (after_all (after_first total room) count bytes)

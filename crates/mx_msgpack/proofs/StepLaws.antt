@@ -6,10 +6,10 @@ use Rattle.mx_msgpack.specs.declared.bad.Bad.{Bad}
 use Rattle.mx_msgpack.specs.declared.bad.Bad.TheVariants.{Short}
 use Rattle.mx_msgpack.specs.declared.head.Head.{Head}
 use Rattle.mx_msgpack.specs.declared.head.Head.TheVariants.{Int}
-use Rattle.mx_msgpack.specs.declared.skipping.Inside.{Inside}
+use Rattle.mx_msgpack.specs.declared.size.Inside.{Inside}
 use Rattle.mx_msgpack.specs.Grammar.{max_length}
-use Rattle.mx_msgpack.specs.Reading.{◌>>=◌, head_at, number_head, unsigned_at, signed_at}
-use Rattle.mx_msgpack.specs.Steps.{IsPlain, after_few, fixed_size, behind, step_behind, step_over}
+use Rattle.mx_msgpack.specs.Reading.{◌>>=◌, head_at, number_head, unsigned_head, signed_head}
+use Rattle.mx_msgpack.specs.Steps.{IsPlain, after_few, fixed_size, no_container, step_behind, step_over}
 use Rattle.mx_msgpack.proofs.LeadingLaws.{leads_number}
 
 -- what a head leads to
@@ -18,22 +18,22 @@ stepped at read = read >>= λ head. step_behind at head.0 head.1
 
 module _ (at : ℕ) (rest : List ℕ) where
   -- a test that both the head and the size follow
-  either : (b : Bool) (x y : Result (Head × List ℕ) Bad) (s t : ℕ) → stepped at x ≡ behind (after_few s rest) → stepped at y ≡ behind (after_few t rest)
-      → stepped at (cond b x y) ≡ behind (after_few (cond b s t) rest)
+  either : (b : Bool) (x y : Result (Head × List ℕ) Bad) (s t : ℕ) → stepped at x ≡ no_container (after_few s rest) → stepped at y ≡ no_container (after_few t rest)
+      → stepped at (cond b x y) ≡ no_container (after_few (cond b s t) rest)
   either true x y s t p q = p
   either false x y s t p q = q
 
-  number : (b : Bool) (value : ℤ) (after : List ℕ) → stepped at (cond b (Err Short) (Ok (Int value, after))) ≡ behind (cond b (Err Short) (Ok after))
+  number : (b : Bool) (value : ℤ) (after : List ℕ) → stepped at (cond b (Err Short) (Ok (Int value, after))) ≡ no_container (cond b (Err Short) (Ok after))
   number true value after = refl
   number false value after = refl
 
-  unsigned_steps : (width : ℕ) → stepped at (unsigned_at width rest) ≡ behind (after_few width rest)
+  unsigned_steps : (width : ℕ) → stepped at (unsigned_head width rest) ≡ no_container (after_few width rest)
   unsigned_steps width = number (ltb (length rest) width) _ (drop width rest)
 
-  signed_steps : (width : ℕ) → stepped at (signed_at width rest) ≡ behind (after_few width rest)
+  signed_steps : (width : ℕ) → stepped at (signed_head width rest) ≡ no_container (after_few width rest)
   signed_steps width = number (ltb (length rest) width) _ (drop width rest)
 
-  number_steps : (leading : ℕ) → stepped at (number_head leading rest) ≡ behind (after_few (fixed_size leading) rest)
+  number_steps : (leading : ℕ) → stepped at (number_head leading rest) ≡ no_container (after_few (fixed_size leading) rest)
   number_steps leading =
       either (leading == 0xca) _ _ _ _ refl
       (either (leading == 0xcb) _ _ _ _ refl
@@ -51,7 +51,7 @@ module _ (at : ℕ) (rest : List ℕ) where
       (either (leading == 0xd7) _ _ _ _ refl refl)))))))))))))
 
 -- no byte follows
-none_after : (rest : List ℕ) → behind (after_few 0 rest) ≡ Ok (None, rest)
+none_after : (rest : List ℕ) → no_container (after_few 0 rest) ≡ Ok (None, rest)
 none_after rest = rw (le-ltb (length rest) 0 (omega arith)) refl
 
 -- a number, a float or an extension of a fixed length

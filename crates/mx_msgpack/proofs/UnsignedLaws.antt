@@ -1,5 +1,5 @@
 -- Numbers of 0 or more: what is read is spelled so, and what is spelled so is read, whatever follows.
-use Rattle.std.proofs.Common.{◌≡◌, ℕ, ◌-◌, ◌^◌, ◌≤◌, suc, true, List, ◌++◌, length, take, drop, Some, None, Result, Ok, Err, refl, sym, ap, ◌∙◌, append_assoc, inl, arith}
+use Rattle.std.proofs.Common.{◌≡◌, ℕ, ◌-◌, ◌^◌, ◌≤◌, suc, true, List, ◌++◌, length, take, drop, Option, Some, None, Result, Ok, Err, refl, sym, ap, ◌∙◌, append_assoc, inl, arith}
 use Rattle.std.proofs.Common.{nat_lt, ltb, Bool, false, ◌<◌, ◌∷◌, cond}
 use Rattle.std.proofs.lemmas.Bool.{lt-ltb}
 use Rattle.std.specs.Prelude.{ℤ, pos, negsuc, if◌then◌else◌}
@@ -9,8 +9,11 @@ use Rattle.mx_msgpack.specs.declared.head.Head.{Head}
 use Rattle.mx_msgpack.specs.declared.head.Head.TheVariants.{Nil, Bool as Boolean, Int, Str, Bin, Array, Map, Fixed, Extension}
 use Rattle.mx_msgpack.specs.Grammar as grammar
 use Rattle.mx_msgpack.specs.Grammar.{SpellsNumber, SpellsUnsigned, SpellsInt}
-use Rattle.mx_msgpack.specs.Reading.{head_at, after_value, reading_of, Shown, ShownNil, ShownBool, ShownInt, ShownStr, ShownBin, ShownArray, ShownMap, ShownOpaque, shown}
-use Rattle.mx_msgpack.specs.Readers.{Advances, IsStable, number_at, unsigned_from, unsigned_at, unsigned_32_at}
+use Rattle.mx_msgpack.specs.Reading.{head_at, after_first, reading_of, Shown, ShownInt, shown}
+use Rattle.mx_msgpack.specs.Readers.{◌>>=◌, Advances, IsStable, as_unsigned, number_at, unsigned_at, unsigned_32_at}
+use Rattle.mx_msgpack.specs.Projections.{as_int, shown_first}
+use Rattle.std.specs.Result.{result_ok}
+use Rattle.mx_msgpack.proofs.ProjectionLaws.{first_read, int_is, unsigned_is}
 use Rattle.mx_msgpack.specs.Reading as reading
 use Rattle.mx_msgpack.specs.declared.bad.Bad.TheVariants.{Short}
 use Rattle.byteorder.specs.Endian.{big_number}
@@ -23,20 +26,20 @@ use Rattle.mx_msgpack.proofs.FrontLaws.{spelled_some}
 
 -- ---- what is read is spelled
 
-from_number : (bytes : List ℕ) (read : Result (Shown × ℕ) Bad) (found : ℕ × List ℕ) → unsigned_from bytes read ≡ Some found
-    → (size : ℕ) × (read ≡ Ok (ShownInt (pos found.0), size)) × (found.1 ≡ drop size bytes)
-from_number bytes (Err bad) found e = absurd cc
-from_number bytes (Ok (ShownNil, size)) found e = absurd cc
-from_number bytes (Ok (ShownBool truth, size)) found e = absurd cc
-from_number bytes (Ok (ShownInt (pos number), size)) found e =
-    let same = same_some (number, drop size bytes) found e in
-    (size, ap (λ (x : ℕ × List ℕ). Ok (ShownInt (pos x.0), size)) same, sym (ap (λ (x : ℕ × List ℕ). x.1) same))
-from_number bytes (Ok (ShownInt (negsuc number), size)) found e = absurd cc
-from_number bytes (Ok (ShownStr text, size)) found e = absurd cc
-from_number bytes (Ok (ShownBin content, size)) found e = absurd cc
-from_number bytes (Ok (ShownArray count items, size)) found e = absurd cc
-from_number bytes (Ok (ShownMap count items, size)) found e = absurd cc
-from_number bytes (Ok (ShownOpaque spelling, size)) found e = absurd cc
+from_number : (bytes : List ℕ) (found : ℕ × List ℕ) → unsigned_at bytes ≡ Some found
+    → (size : ℕ) × (reading_of bytes ≡ Ok (ShownInt (pos found.0), size)) × (found.1 ≡ drop size bytes)
+unfolding unsigned_at
+from_number bytes found e =
+    let first = bind_some (shown_first bytes) _ found e in
+    let number = bind_some (as_int first.0.0) _ found first.2 in
+    let unsigned = bind_some (as_unsigned number.0) _ found number.2 in
+    let same = same_some (unsigned.0, drop first.0.1 bytes) found unsigned.2 in
+    let what = int_is first.0.0 number.0 number.1 in
+    let value = unsigned_is number.0 unsigned.0 unsigned.1 ∙ ap (λ (x : ℕ × List ℕ). pos x.0) same in (
+      first.0.1,
+      first_read bytes first.0 first.1 ∙ (λ i. Ok (what i, first.0.1)) ∙ (λ i. Ok (ShownInt (value i), first.0.1)),
+      sym (ap (λ (x : ℕ × List ℕ). x.1) same),
+    )
 
 int_head : (head : Head) (content whole : List ℕ) (number : ℤ) → shown head content whole ≡ ShownInt number → head ≡ Int number
 int_head Nil content whole number e = absurd cc
@@ -55,7 +58,7 @@ number_begins : (bytes : List ℕ) (number : ℤ) (size : ℕ) → reading_of by
 unfolding reading_of
 number_begins bytes number size e =
     let a = bind_ok (head_at 0 bytes) _ (ShownInt number, size) e in
-    let b = bind_ok (after_value (length bytes) 64 bytes) (λ rest. Ok (shown a.0.0 (take (length a.0.1 - length rest) a.0.1) (take (length bytes - length rest) bytes), length bytes - length rest)) (ShownInt number, size) a.2 in
+    let b = bind_ok (after_first (length bytes) 64 bytes) (λ rest. Ok (shown a.0.0 (take (length a.0.1 - length rest) a.0.1) (take (length bytes - length rest) bytes), length bytes - length rest)) (ShownInt number, size) a.2 in
     let same = ok_is (shown a.0.0 (take (length a.0.1 - length b.0) a.0.1) (take (length bytes - length b.0) bytes), length bytes - length b.0) (ShownInt number, size) b.2 in
     let is = int_head a.0.0 _ _ number (ap (λ (x : Shown × ℕ). x.0) same) in
     let head : head_at 0 bytes ≡ Ok (Int number, a.0.1) = a.1 ∙ ap (λ (h : Head). Ok (h, a.0.1)) is in
@@ -66,9 +69,8 @@ number_begins bytes number size e =
 
 pub unsigned_spelled : (bytes : List ℕ) (found : ℕ × List ℕ) → unsigned_at bytes ≡ Some found
     → (front : List ℕ) × (bytes ≡ front ++ found.1) × SpellsInt (pos found.0) front
-unfolding unsigned_at
 unsigned_spelled bytes found e =
-    let p = from_number bytes (reading_of bytes) found e in
+    let p = from_number bytes found e in
     let q = number_begins bytes (pos found.0) p.0 p.1 in
     let s = head_spelled 0 bytes (Int (pos found.0)) q.0 q.1 in
     let l = ap length s.1 ∙ length-append s.0 q.0 in
@@ -80,9 +82,13 @@ unsigned_spelled bytes found e =
 -- a number below 0 is none
 pub none_below : (bytes : List ℕ) (n size : ℕ) → reading_of bytes ≡ Ok (ShownInt (negsuc n), size) → None ≡ unsigned_at bytes
 unfolding unsigned_at
-none_below bytes n size e = sym (ap (unsigned_from bytes) e)
+none_below bytes n size e = rw e refl
 
 -- ---- what is spelled is read
+
+-- the number that a reading gives
+abbrev unsigned_read_as : List ℕ → Result (Shown × ℕ) Bad → Option (ℕ × List ℕ)
+unsigned_read_as bytes read = result_ok read >>= λ first. as_int first.0 >>= λ number. as_unsigned number >>= λ unsigned. Some (unsigned, drop first.1 bytes)
 
 pub int_read : (number : ℕ) (front rest : List ℕ) → SpellsInt (pos number) front → unsigned_at (front ++ rest) ≡ Some (number, rest)
 unfolding unsigned_at
@@ -92,7 +98,7 @@ int_read number front rest s =
     let head = head_again 0 (Int (pos number)) front rest s in
     let seen = int_seen (front ++ rest) (pos number) rest short head (ShownInt (pos number)) refl in
     let size : length front ≡ length (front ++ rest) - length rest = omega arith in
-    ap (unsigned_from (front ++ rest)) seen.exact ∙ ap (λ (l : List ℕ). Some (number, l)) (drop_at front rest _ size)
+    ap (unsigned_read_as (front ++ rest)) seen.exact ∙ ap (λ (l : List ℕ). Some (number, l)) (drop_at front rest _ size)
 
 pub unsigned_read : (number : ℕ) (front rest : List ℕ) → SpellsUnsigned number front → unsigned_at (front ++ rest) ≡ Some (number, rest)
 unsigned_read number front rest s = int_read number front rest (inl (number, refl, s))
@@ -145,19 +151,19 @@ headed bytes after number e =
 
 headless : (bytes : List ℕ) (bad : Bad) → head_at 0 bytes ≡ Err bad → unsigned_at bytes ≡ None
 unfolding unsigned_at
-headless bytes bad e = ap (unsigned_from bytes) (head_fails bytes bad e)
+headless bytes bad e = ap (unsigned_read_as bytes) (head_fails bytes bad e)
 
 module _ (bytes rest : List ℕ) (leading : ℕ) (is : bytes ≡ leading ∷ rest) where
   pub small : leading < 0x80 → unsigned_at bytes ≡ Some (leading, rest)
   unfolding head_at
   small low = headed bytes rest leading (rw (is, lt-ltb leading 0x80 low) refl)
 
-  wide_by : (width : ℕ) (b : Bool) → ltb (length rest) width ≡ b → head_at 0 bytes ≡ reading.unsigned_at width rest
+  wide_by : (width : ℕ) (b : Bool) → ltb (length rest) width ≡ b → head_at 0 bytes ≡ reading.unsigned_head width rest
       → unsigned_at bytes ≡ cond b None (Some (big_number width (take width rest), drop width rest))
   wide_by width true t e = headless bytes Short (e ∙ rw t refl)
   wide_by width false t e = headed bytes (drop width rest) (big_number width (take width rest)) (e ∙ rw t refl)
 
-  wide : (width : ℕ) → head_at 0 bytes ≡ reading.unsigned_at width rest → unsigned_at bytes ≡ number_at width rest
+  wide : (width : ℕ) → head_at 0 bytes ≡ reading.unsigned_head width rest → unsigned_at bytes ≡ number_at width rest
   wide width e = wide_by width (ltb (length rest) width) refl e
 
   pub wide_1 : leading ≡ 0xcc → unsigned_at bytes ≡ number_at 1 rest

@@ -62,7 +62,7 @@ SpellsInt number bytes =
     ⊎ SpellsSigned 0xd2 4 number bytes
     ⊎ SpellsSigned 0xd3 8 number bytes
 
--- a leading byte that tells the length too, where it is this short
+-- a leading byte that holds the length too, where it is this short
 abbrev pub SpellsFew : (leading limit : ℕ) → ℕ → List ℕ → Type 0
 SpellsFew leading limit size head = (size < limit) × (head ≡ (leading + size) ∷ [])
 
@@ -83,7 +83,7 @@ MapHead count head = SpellsFew 0x80 0x10 count head ⊎ SpellsNumber 0xde 2 coun
 abbrev pub IsFixed : (leading size : ℕ) → List ℕ → Type 0
 IsFixed leading size bytes = (content : List ℕ) × (length content ≡ size) × (bytes ≡ leading ∷ content)
 
--- an extension: a length, a kind, and so many bytes
+-- an extension: a length, a type, and so many bytes
 abbrev pub IsExtension : (leading width : ℕ) → List ℕ → Type 0
 IsExtension leading width bytes =
     (size : ℕ) × (head content : List ℕ) × SpellsNumber leading width size head × (size ≤ max_length) × (length content ≡ suc size)

@@ -2,8 +2,12 @@ pub mod Grammar
 pub mod Reading
 pub mod Steps
 pub mod View
+pub mod Projections
 pub mod Readers
 pub mod Spelling
 pub mod Owned
 pub mod Writing
 pub mod Items
+pub mod Types
+pub mod Lookups
+pub mod Maps

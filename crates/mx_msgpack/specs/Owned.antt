@@ -33,18 +33,18 @@ abbrev pub pair_list_view : List (Value × Value) → grammar.Pairs
 pair_list_view [] = grammar.NoPair
 pair_list_view (pair ∷ others) = grammar.MorePairs (value_view pair.0) (value_view pair.1) (pair_list_view others)
 
-abbrev pub values_in : Values → List Value
-values_in values = values.items.items
+abbrev pub value_list : Values → List Value
+value_list values = values.items.items
 
-abbrev pub pairs_in : Pairs → List (Value × Value)
-pairs_in pairs = pairs.items.items
+abbrev pub pair_list : Pairs → List (Value × Value)
+pair_list pairs = pairs.items.items
 
 -- the bytes before the rest spell the value, or the values, or the pairs
-abbrev pub Begins : ℕ → grammar.Value → List ℕ → List ℕ → Type 0
-Begins room value bytes rest = (front : List ℕ) × (bytes ≡ front ++ rest) × grammar.Spells room value front
+abbrev pub SpelledUpTo : ℕ → grammar.Value → List ℕ → List ℕ → Type 0
+SpelledUpTo room value bytes rest = (front : List ℕ) × (bytes ≡ front ++ rest) × grammar.Spells room value front
 
-abbrev pub BeginsAll : ℕ → grammar.Values → List ℕ → List ℕ → Type 0
-BeginsAll room values bytes rest = (front : List ℕ) × (bytes ≡ front ++ rest) × grammar.SpellsAll room values front
+abbrev pub AllSpelledUpTo : ℕ → grammar.Values → List ℕ → List ℕ → Type 0
+AllSpelledUpTo room values bytes rest = (front : List ℕ) × (bytes ≡ front ++ rest) × grammar.SpellsAll room values front
 
-abbrev pub BeginsPairs : ℕ → grammar.Pairs → List ℕ → List ℕ → Type 0
-BeginsPairs room pairs bytes rest = (front : List ℕ) × (bytes ≡ front ++ rest) × grammar.SpellsPairs room pairs front
+abbrev pub PairsSpelledUpTo : ℕ → grammar.Pairs → List ℕ → List ℕ → Type 0
+PairsSpelledUpTo room pairs bytes rest = (front : List ℕ) × (bytes ≡ front ++ rest) × grammar.SpellsPairs room pairs front

@@ -1,8 +1,8 @@
 -- Reading small pieces from the left, and as many in a row as there are.
-use Rattle.std.specs.Prelude.{◌≡◌, ℕ, zero, suc, ◌^◌, ◌<◌, pos, negsuc, List, [], ◌∷◌, ◌++◌, length, take, drop, Option, Some, None, Result, Ok, Err, nat_lt, ◌==◌, if◌then◌else◌}
+use Rattle.std.specs.Prelude.{◌≡◌, ℕ, zero, suc, ◌^◌, ◌<◌, ℤ, pos, negsuc, List, [], ◌∷◌, ◌++◌, length, take, drop, Option, Some, None, nat_lt, ◌==◌, if◌then◌else◌}
+use Rattle.std.specs.Option.{option_map}
 use Rattle.byteorder.specs.Endian.{big_number}
-use Rattle.mx_msgpack.specs.declared.bad.Bad.{Bad}
-use Rattle.mx_msgpack.specs.Reading.{Shown, ShownNil, ShownBool, ShownInt, ShownStr, ShownBin, ShownArray, ShownMap, ShownOpaque, reading_of}
+use Rattle.mx_msgpack.specs.Projections.{as_int, shown_first}
 
 -- what stands first in the bytes, and the bytes after it
 abbrev pub Reader : Type 0 → Type 0
@@ -51,23 +51,24 @@ after_byte wanted (byte ∷ rest) = if byte == wanted then Some rest else None
 abbrev pub bytes_at : ℕ → Reader (List ℕ)
 bytes_at count bytes = if nat_lt (length bytes) count then None else Some (take count bytes, drop count bytes)
 
-abbrev pub unsigned_from : List ℕ → Result (Shown × ℕ) Bad → Option (ℕ × List ℕ)
-unsigned_from bytes (Err bad) = None
-unsigned_from bytes (Ok (ShownNil, size)) = None
-unsigned_from bytes (Ok (ShownBool truth, size)) = None
-unsigned_from bytes (Ok (ShownInt (pos number), size)) = Some (number, drop size bytes)
-unsigned_from bytes (Ok (ShownInt (negsuc number), size)) = None
-unsigned_from bytes (Ok (ShownStr text, size)) = None
-unsigned_from bytes (Ok (ShownBin content, size)) = None
-unsigned_from bytes (Ok (ShownArray count items, size)) = None
-unsigned_from bytes (Ok (ShownMap count items, size)) = None
-unsigned_from bytes (Ok (ShownOpaque spelling, size)) = None
+-- a number that is 0 or more
+abbrev pub as_unsigned : ℤ → Option ℕ
+as_unsigned (pos number) = Some number
+as_unsigned (negsuc _) = None
 
 -- an Int of 0 or more in any spelling
 unfoldable pub unsigned_at : Reader ℕ
-unsigned_at bytes = unsigned_from bytes (reading_of bytes)
+unsigned_at bytes = do
+  first ← shown_first bytes
+  number ← as_int first.0
+  unsigned ← as_unsigned number
+  Some (unsigned, drop first.1 bytes)
 
--- the same of at most 32 bits
+-- the same without the bytes after it
+abbrev pub unsigned_in : List ℕ → Option ℕ
+unsigned_in bytes = option_map (λ found. found.0) (unsigned_at bytes)
+
+-- an Int of 0 or more and at most 32 bits
 unfoldable pub unsigned_32_at : Reader ℕ
 unsigned_32_at bytes = do
   number ← unsigned_at bytes

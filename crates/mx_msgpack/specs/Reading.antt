@@ -10,34 +10,34 @@ use Rattle.mx_msgpack.specs.declared.head.Kind.TheVariants as kind
 use Rattle.mx_msgpack.specs.Grammar.{max_nesting, max_length}
 
 infixl 10 ◌>>=◌
-abbrev pub ◌>>=◌ : {A B : Type 0} → Result A Bad → (A → Result B Bad) → Result B Bad
+abbrev pub ◌>>=◌ : {A B E : Type 0} → Result A E → (A → Result B E) → Result B E
 (Ok x) >>= f = f x
-(Err e) >>= f = Err e
+(Err error) >>= f = Err error
 
--- what a function answered, seen by `view`, is what reading gives
-abbrev pub Gives : {X Y : Type 0} → (X → Y) → Result X Bad → Result Y Bad → Type 0
-Gives view (Ok x) read = read ≡ Ok (view x)
-Gives view (Err bad) read = read ≡ Err bad
+-- what a function returned, seen by `view`, is this
+abbrev pub Gives : {X Y E : Type 0} → (X → Y) → Result X E → Result Y E → Type 0
+Gives view (Ok x) answer = answer ≡ Ok (view x)
+Gives view (Err error) answer = answer ≡ Err error
 
--- the head of this kind and length
-abbrev pub head_of : Kind → ℕ → Head
-head_of kind.Str size = Str size
-head_of kind.Bin size = Bin size
-head_of kind.Array size = Array size
-head_of kind.Map size = Map size
-head_of kind.Extension size = Extension size
+-- the head of this type and length
+abbrev pub kind_head : Kind → ℕ → Head
+kind_head kind.Str size = Str size
+kind_head kind.Bin size = Bin size
+kind_head kind.Array size = Array size
+kind_head kind.Map size = Map size
+kind_head kind.Extension size = Extension size
 
 -- a head that goes on with a length of this many bytes, and the bytes after it
 abbrev pub sized_at : Kind → ℕ → List ℕ → Result (Head × List ℕ) Bad
 sized_at kind width rest =
-    if nat_lt (length rest) width then Err Short else Ok (head_of kind (big_number width (take width rest)), drop width rest)
+    if nat_lt (length rest) width then Err Short else Ok (kind_head kind (big_number width (take width rest)), drop width rest)
 
 -- a number of 0 or more of this many bytes, and one with a sign
-abbrev pub unsigned_at : ℕ → List ℕ → Result (Head × List ℕ) Bad
-unsigned_at width rest = if nat_lt (length rest) width then Err Short else Ok (Int (pos (big_number width (take width rest))), drop width rest)
+abbrev pub unsigned_head : ℕ → List ℕ → Result (Head × List ℕ) Bad
+unsigned_head width rest = if nat_lt (length rest) width then Err Short else Ok (Int (pos (big_number width (take width rest))), drop width rest)
 
-abbrev pub signed_at : ℕ → List ℕ → Result (Head × List ℕ) Bad
-signed_at width rest =
+abbrev pub signed_head : ℕ → List ℕ → Result (Head × List ℕ) Bad
+signed_head width rest =
     if nat_lt (length rest) width then Err Short else Ok (Int (twos_complement width (big_number width (take width rest))), drop width rest)
 
 -- the heads of the leading bytes from c0 to c9, from ca to d8, and from d9 to df; `at` is the leading byte's place
@@ -58,14 +58,14 @@ abbrev pub number_head : (leading : ℕ) → List ℕ → Result (Head × List �
 number_head leading rest =
     if leading == 0xca then Ok (Fixed 4, rest)
     else if leading == 0xcb then Ok (Fixed 8, rest)
-    else if leading == 0xcc then unsigned_at 1 rest
-    else if leading == 0xcd then unsigned_at 2 rest
-    else if leading == 0xce then unsigned_at 4 rest
-    else if leading == 0xcf then unsigned_at 8 rest
-    else if leading == 0xd0 then signed_at 1 rest
-    else if leading == 0xd1 then signed_at 2 rest
-    else if leading == 0xd2 then signed_at 4 rest
-    else if leading == 0xd3 then signed_at 8 rest
+    else if leading == 0xcc then unsigned_head 1 rest
+    else if leading == 0xcd then unsigned_head 2 rest
+    else if leading == 0xce then unsigned_head 4 rest
+    else if leading == 0xcf then unsigned_head 8 rest
+    else if leading == 0xd0 then signed_head 1 rest
+    else if leading == 0xd1 then signed_head 2 rest
+    else if leading == 0xd2 then signed_head 4 rest
+    else if leading == 0xd3 then signed_head 8 rest
     else if leading == 0xd4 then Ok (Fixed 2, rest)
     else if leading == 0xd5 then Ok (Fixed 3, rest)
     else if leading == 0xd6 then Ok (Fixed 5, rest)
@@ -115,30 +115,28 @@ after_bytes at announced size rest =
 
 -- the bytes after what a head at this place announces
 abbrev pub after_content : Option (List ℕ → Result (List ℕ) Bad) → ℕ → Head → List ℕ → Result (List ℕ) Bad
-after_content one at Nil rest = Ok rest
-after_content one at (Boolean truth) rest = Ok rest
-after_content one at (Int number) rest = Ok rest
 after_content one at (Str size) rest = after_bytes at size size rest
 after_content one at (Bin size) rest = after_bytes at size size rest
 after_content one at (Array count) rest = after_inside one at count count rest
 after_content one at (Map count) rest = after_inside one at count (2 * count) rest
 after_content one at (Fixed size) rest = after_bytes at size size rest
 after_content one at (Extension size) rest = after_bytes at size (suc size) rest
+after_content _ _ _ rest = Ok rest
 
 -- the bytes after the value that stands first, inside `total` bytes that end where these end, with room for so many
 -- containers one inside the other
-unfoldable pub after_value : ℕ → ℕ → List ℕ → Result (List ℕ) Bad
-after_value total zero bytes = do
+unfoldable pub after_first : ℕ → ℕ → List ℕ → Result (List ℕ) Bad
+after_first total zero bytes = do
   head ← head_at (total - length bytes) bytes
   after_content None (total - length bytes) head.0 head.1
-after_value total (suc room) bytes = do
+after_first total (suc room) bytes = do
   head ← head_at (total - length bytes) bytes
-  after_content (Some (after_value total room)) (total - length bytes) head.0 head.1
+  after_content (Some (after_first total room)) (total - length bytes) head.0 head.1
 
 -- how many bytes the value takes that stands first, or the first fault from the left
 unfoldable pub measured : List ℕ → Result ℕ Bad
 measured bytes = do
-  rest ← after_value (length bytes) max_nesting bytes
+  rest ← after_first (length bytes) max_nesting bytes
   Ok (length bytes - length rest)
 
 -- the first fault from the left, where no value stands first
@@ -149,7 +147,7 @@ first_fault bytes = fault_in (measured bytes)
     fault_in (Ok size) = None
     fault_in (Err bad) = Some bad
 
--- a value at the front as `ValueRef` tells it: a container as its count and the bytes of what it holds
+-- a value as `ValueRef` shows it: a container as its count and the bytes of what it holds
 pub data Shown : Type 0 where
   ShownNil : Shown
   ShownBool : Bool → Shown
@@ -160,7 +158,7 @@ pub data Shown : Type 0 where
   ShownMap : ℕ → List ℕ → Shown
   ShownOpaque : List ℕ → Shown
 
--- what a head, the bytes behind it and all of the value's bytes show
+-- what a head, the bytes after it and all of the value's bytes show
 abbrev pub shown : Head → (content whole : List ℕ) → Shown
 shown Nil content whole = ShownNil
 shown (Boolean truth) content whole = ShownBool truth
@@ -176,5 +174,5 @@ shown (Extension size) content whole = ShownOpaque whole
 unfoldable pub reading_of : List ℕ → Result (Shown × ℕ) Bad
 reading_of bytes = do
   head ← head_at 0 bytes
-  rest ← after_value (length bytes) max_nesting bytes
+  rest ← after_first (length bytes) max_nesting bytes
   Ok (shown head.0 (take (length head.1 - length rest) head.1) (take (length bytes - length rest) bytes), length bytes - length rest)

@@ -1,10 +1,11 @@
--- One step of the walk that measures a value: a head, and what stands behind it up to the next head.
+-- Only private functions and proofs need these: one step of the walk that measures a value, which is a head and what stands after it up
+-- to the next head.
 use Rattle.std.specs.Prelude.{◌≡◌, ℕ, suc, List, ◌∷◌, length, drop, Option, Some, None, Result, Ok, Err, nat_lt, ◌==◌, if◌then◌else◌}
 use Rattle.mx_msgpack.specs.declared.bad.Bad.{Bad}
 use Rattle.mx_msgpack.specs.declared.bad.Bad.TheVariants.{Short}
 use Rattle.mx_msgpack.specs.declared.head.Head.{Head}
-use Rattle.mx_msgpack.specs.declared.head.Head.TheVariants.{Nil, Bool as Boolean, Int, Str, Bin, Array, Map, Fixed, Extension}
-use Rattle.mx_msgpack.specs.declared.skipping.Inside.{Inside}
+use Rattle.mx_msgpack.specs.declared.head.Head.TheVariants.{Str, Bin, Array, Map, Fixed, Extension}
+use Rattle.mx_msgpack.specs.declared.size.Inside.{Inside}
 use Rattle.mx_msgpack.specs.Reading.{◌>>=◌, head_at, after_bytes}
 
 -- the bytes after so many
@@ -30,27 +31,25 @@ fixed_size leading =
     else if leading == 0xd7 then 9
     else 17
 
-abbrev pub behind : Result (List ℕ) Bad → Result (Option Inside × List ℕ) Bad
-behind (Ok rest) = Ok (None, rest)
-behind (Err bad) = Err bad
+abbrev pub no_container : Result (List ℕ) Bad → Result (Option Inside × List ℕ) Bad
+no_container (Ok rest) = Ok (None, rest)
+no_container (Err bad) = Err bad
 
 -- what a container announces, where the head is one's, and the bytes after the head and after what isn't values
 abbrev pub step_behind : (at : ℕ) → Head → List ℕ → Result (Option Inside × List ℕ) Bad
-step_behind at Nil rest = Ok (None, rest)
-step_behind at (Boolean truth) rest = Ok (None, rest)
-step_behind at (Int number) rest = Ok (None, rest)
-step_behind at (Str size) rest = behind (after_bytes at size size rest)
-step_behind at (Bin size) rest = behind (after_bytes at size size rest)
+step_behind at (Str size) rest = no_container (after_bytes at size size rest)
+step_behind at (Bin size) rest = no_container (after_bytes at size size rest)
 step_behind at (Array count) rest = Ok (Some (record { announced = count; each = 1 }), rest)
 step_behind at (Map count) rest = Ok (Some (record { announced = count; each = 2 }), rest)
-step_behind at (Fixed size) rest = behind (after_bytes at size size rest)
-step_behind at (Extension size) rest = behind (after_bytes at size (suc size) rest)
+step_behind at (Fixed size) rest = no_container (after_bytes at size size rest)
+step_behind at (Extension size) rest = no_container (after_bytes at size (suc size) rest)
+step_behind _ _ rest = Ok (None, rest)
 
 abbrev pub step_over : ℕ → List ℕ → Result (Option Inside × List ℕ) Bad
 step_over at bytes = do
   head ← head_at at bytes
   step_behind at head.0 head.1
 
--- the leading byte alone tells that so many bytes follow, and that no values stand in them
+-- after this leading byte follow so many bytes, in which no values stand
 abbrev pub IsPlain : (leading size : ℕ) → Type 0
-IsPlain leading size = (at : ℕ) (rest : List ℕ) → step_over at (leading ∷ rest) ≡ behind (after_few size rest)
+IsPlain leading size = (at : ℕ) (rest : List ℕ) → step_over at (leading ∷ rest) ≡ no_container (after_few size rest)

@@ -48,7 +48,7 @@ impl PartialOrd for Bytes {
     }
 }
 
-/// By the first byte that differs; a front of other bytes comes before them.
+/// By the first byte that differs; a proper prefix comes first.
 impl Ord for Bytes {
     ghost cmp = { slice_cmp nat_cmp };
 
@@ -88,9 +88,6 @@ impl Bytes {
     }
 
     /// A copy of the bytes.
-    ///
-    /// # Errors
-    /// Where memory runs out.
     pub fn from_slice(alloc: Global, bytes: &[u8]) -> Result<Bytes, AllocError>
         ensures { IfOk result (λ copy. copy ≡ bytes.now) }
     {
@@ -107,9 +104,6 @@ impl Bytes {
     }
 
     /// Makes room for so many further bytes, which are then added without growing again.
-    ///
-    /// # Errors
-    /// Memory ran out.
     pub fn reserve(&mut self, additional: usize) -> Result<(), AllocError>
         ensures { self.new ≡ self.old }
     {
@@ -119,7 +113,7 @@ impl Bytes {
     /// Adds these bytes at the end.
     ///
     /// # Errors
-    /// Memory ran out; nothing was added.
+    /// Out of memory; nothing is added.
     pub fn extend_from_slice(&mut self, bytes: &[u8]) -> Result<(), AllocError>
         ensures { MatchResult result (λ _. self.new ≡ self.old ++ bytes.now) (λ _. self.new ≡ self.old) }
     {

@@ -2,12 +2,12 @@
 
 ghost use Rattle.std.specs.Prelude.{◌≡◌, ◌⊎◌, ◌≤◌, ◌<◌, length, Ok, Err, IfOk, IfSome};
 ghost use Rattle.byteorder.specs.Endian.{big_number};
-ghost use Rattle.mx_msgpack.specs.Reading.{Gives, head_at, head_of, low_head, number_head, signed_at, sized_at, sized_head, unsigned_at};
+ghost use Rattle.mx_msgpack.specs.Reading.{Gives, head_at, kind_head, low_head, number_head, signed_head, sized_at, sized_head, unsigned_head};
 
 use crate::bad::Bad;
 use byteorder::{BigEndian, ByteOrder};
 
-/// The kind of a value, and its number or how much follows.
+/// The type of a value, and its number or how much follows.
 #[derive(Clone, Copy, Debug, PartialEq, Eq)]
 pub(crate) enum Head {
     Nil,
@@ -24,7 +24,7 @@ pub(crate) enum Head {
     Map(u32),
     /// A float or an extension, of which so many bytes follow.
     Fixed(u8),
-    /// An extension: its kind, and so many bytes.
+    /// An extension: its type, and so many bytes.
     Extension(u32),
 }
 
@@ -61,7 +61,7 @@ pub(crate) fn head_at(at: usize, bytes: &[u8]) -> Result<(Head, &[u8]), Bad>
     }
 }
 
-/// The head that stands first, where it is a leading byte alone that tells a number or a length.
+/// The head that stands first, where the leading byte alone has its number or length.
 #[inline(always)]
 #[tactic(auto, unfolding(crate::specs::Reading::head_at))]
 pub(crate) fn short_head(bytes: &[u8]) -> Option<(Head, &[u8])>
@@ -109,14 +109,14 @@ fn number_head(leading: u8, rest: &[u8]) -> Result<(Head, &[u8]), Bad>
     match leading {
         0xca => Ok((Head::Fixed(4), rest)),
         0xcb => Ok((Head::Fixed(8), rest)),
-        0xcc => unsigned_at(1, rest),
-        0xcd => unsigned_at(2, rest),
-        0xce => unsigned_at(4, rest),
-        0xcf => unsigned_at(8, rest),
-        0xd0 => signed_at(1, rest),
-        0xd1 => signed_at(2, rest),
-        0xd2 => signed_at(4, rest),
-        0xd3 => signed_at(8, rest),
+        0xcc => unsigned_head(1, rest),
+        0xcd => unsigned_head(2, rest),
+        0xce => unsigned_head(4, rest),
+        0xcf => unsigned_head(8, rest),
+        0xd0 => signed_head(1, rest),
+        0xd1 => signed_head(2, rest),
+        0xd2 => signed_head(4, rest),
+        0xd3 => signed_head(8, rest),
         0xd4 => Ok((Head::Fixed(2), rest)),
         0xd5 => Ok((Head::Fixed(3), rest)),
         0xd6 => Ok((Head::Fixed(5), rest)),
@@ -158,13 +158,13 @@ fn sized_at(kind: Kind, width: usize, rest: &[u8]) -> Result<(Head, &[u8]), Bad>
         2 => u32::from(BigEndian::read_u16(digits)),
         _ => BigEndian::read_u32(digits),
     };
-    Ok((head_of(kind, size), rest))
+    Ok((kind_head(kind, size), rest))
 }
 
-/// The head of this kind and length.
+/// The head of this type and length.
 #[inline]
-fn head_of(kind: Kind, size: u32) -> Head
-    ensures { result ≡ head_of kind size }
+fn kind_head(kind: Kind, size: u32) -> Head
+    ensures { result ≡ kind_head kind size }
 {
     match kind {
         Kind::Str => Head::Str(size),
@@ -177,9 +177,9 @@ fn head_of(kind: Kind, size: u32) -> Head
 
 /// A number of 0 or more, of so many bytes.
 #[inline]
-fn unsigned_at(width: usize, rest: &[u8]) -> Result<(Head, &[u8]), Bad>
+fn unsigned_head(width: usize, rest: &[u8]) -> Result<(Head, &[u8]), Bad>
     requires width { (width ≡ 1) ⊎ (width ≡ 2) ⊎ (width ≡ 4) ⊎ (width ≡ 8) }
-    ensures exact { Gives (λ x. (x.0, x.1.now)) result (unsigned_at width rest.now) }
+    ensures exact { Gives (λ x. (x.0, x.1.now)) result (unsigned_head width rest.now) }
     ensures shorter { IfOk result (λ x. length x.1.now ≤ length rest.now) }
 {
     if rest.len() < width {
@@ -190,9 +190,9 @@ fn unsigned_at(width: usize, rest: &[u8]) -> Result<(Head, &[u8]), Bad>
 }
 
 /// A number with a sign, of so many bytes.
-fn signed_at(width: usize, rest: &[u8]) -> Result<(Head, &[u8]), Bad>
+fn signed_head(width: usize, rest: &[u8]) -> Result<(Head, &[u8]), Bad>
     requires width { (width ≡ 1) ⊎ (width ≡ 2) ⊎ (width ≡ 4) ⊎ (width ≡ 8) }
-    ensures exact { Gives (λ x. (x.0, x.1.now)) result (signed_at width rest.now) }
+    ensures exact { Gives (λ x. (x.0, x.1.now)) result (signed_head width rest.now) }
     ensures shorter { IfOk result (λ x. length x.1.now ≤ length rest.now) }
 {
     if rest.len() < width {

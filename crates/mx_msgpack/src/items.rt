@@ -4,7 +4,7 @@ ghost use Rattle.std.specs.Prelude.{◌≡◌};
 ghost use Rattle.std.specs.Option.{option_map};
 ghost use Rattle.mx_msgpack.specs.Items.{array_of, first_value, after_value};
 
-use crate::skipping::skip;
+use crate::size::skip;
 use crate::value_ref::{ValueRef, read_ref};
 
 /// So many values, and the bytes in which they stand in a row.

@@ -1,4 +1,4 @@
-//! What the definitions say together.
+//! Theorems that other crates may use.
 
 ghost use Rattle.std.specs.Prelude.{◌≡◌, ◌≤◌, ◌++◌, [], List, ℕ, length, Ok, Some};
 ghost use Rattle.std.specs.List.{concat};
@@ -7,14 +7,14 @@ ghost use Rattle.mx_msgpack.specs.Items.{SpellEach, items_of};
 ghost use Rattle.mx_msgpack.specs.Reading.{measured};
 ghost use Rattle.mx_msgpack.specs.Spelling.{AreBytes, IsSpellable, shortest};
 
-/// A law, which does nothing when it is called: bytes spell one value at most, and no spelling
+/// A theorem, which does nothing when it is called: bytes spell one value at most, and no spelling
 /// begins another.
 pub fn no_spelling_begins_another()
     ensures { (one other : Value) (bytes more : List ℕ) → Spells max_nesting one bytes
         → Spells max_nesting other (bytes ++ more) → (more ≡ []) × (one ≡ other) }
 {}
 
-/// A law, which does nothing when it is called: what is written spells the value, and is read to its
+/// A theorem, which does nothing when it is called: what is written spells the value, and is read to its
 /// end, whatever follows.
 pub fn what_is_written_is_read_again()
     ensures { (value : Value) (rest : List ℕ) → IsSpellable value
@@ -22,14 +22,14 @@ pub fn what_is_written_is_read_again()
         × (measured (shortest value ++ rest) ≡ Ok (length (shortest value))) }
 {}
 
-/// A law, which does nothing when it is called: no spelling of a value in bytes is shorter than the
+/// A theorem, which does nothing when it is called: no spelling of a value in bytes is shorter than the
 /// one that is written.
 pub fn what_is_written_is_shortest()
     ensures { (value : Value) (bytes : List ℕ) → AreBytes bytes → Spells max_nesting value bytes
         → length (shortest value) ≤ length bytes }
 {}
 
-/// A law, which does nothing when it is called: bytes that spell an array are its head and then its
+/// A theorem, which does nothing when it is called: bytes that spell an array are its head and then its
 /// items, and each item is the spelling of the value in its place.
 pub fn array_items_are_spelled()
     ensures { (bytes : List ℕ) (values : Values) → Spells max_nesting (Array values) bytes

@@ -3,35 +3,34 @@
 
 mod bad;
 mod bytes;
+mod decode;
+mod encode;
 mod head;
 mod items;
 mod laws;
+mod maps;
 mod readers;
-mod reading;
-mod skipping;
+mod size;
 mod tuples;
 mod value;
 mod value_ref;
-mod writing;
+mod value_type;
 
 pub use bad::Bad;
 pub use bytes::Bytes;
+pub use decode::{ReadBad, read_value};
+pub use encode::{write_map_head, write_str_head, write_unsigned, write_value};
 pub use items::{Items, array_of, parted};
 pub use laws::{
     array_items_are_spelled, no_spelling_begins_another, what_is_written_is_read_again,
     what_is_written_is_shortest,
 };
-pub use readers::{after_byte, bytes_at, number_at, unsigned_32_at, unsigned_at};
-pub use reading::{ReadBad, read_value};
-pub use skipping::skip;
+pub use maps::{
+    PairRef, PairsRef, first_pair, map_at, pairs_at, pairs_in, value_under, values_under,
+};
+pub use readers::{after_byte, bytes_at, number_at, unsigned_32_at, unsigned_at, unsigned_in};
+pub use size::skip;
 pub use tuples::Tuples;
 pub use value::{Pairs, Value, Values};
 pub use value_ref::{ValueRef, read_ref};
-pub use writing::{write_map_head, write_str_head, write_unsigned, write_value};
-
-#[cfg(test)]
-mod outside_cases;
-#[cfg(test)]
-mod tests;
-#[cfg(test)]
-mod value_tests;
+pub use value_type::ValueType;

@@ -2,7 +2,7 @@
 
 ghost use Rattle.std.specs.Prelude.{◌≡◌, ◌⊎◌};
 ghost use Rattle.std.specs.Option.{option_map, option_copied};
-ghost use Rattle.mx_msgpack.specs.Readers.{after_byte, number_at, bytes_at, unsigned_at, unsigned_32_at};
+ghost use Rattle.mx_msgpack.specs.Readers.{after_byte, number_at, bytes_at, unsigned_at, unsigned_in, unsigned_32_at};
 
 use crate::head::number_of;
 use crate::value_ref::{ValueRef, read_ref};
@@ -83,6 +83,14 @@ fn unsigned_read(bytes: &[u8]) -> Option<(u64, &[u8])>
         },
         _ => None,
     }
+}
+
+/// As `unsigned_at`, without the bytes after it.
+pub fn unsigned_in(bytes: &[u8]) -> Option<u64>
+    ensures { result ≡ unsigned_in bytes.now }
+{
+    let (number, _) = unsigned_at(bytes)?;
+    Some(number)
 }
 
 /// As `unsigned_at`, from 0 to `u32::MAX`; `None` where a greater number stands first.

@@ -54,7 +54,7 @@ impl Tuples {
     /// Adds a tuple at the end.
     ///
     /// # Errors
-    /// Where memory runs out. The tuples are then as they were.
+    /// Out of memory; the tuples are as they were.
     pub fn push(&mut self, tuple: Bytes) -> Result<(), AllocError>
         ensures ok { OnOk result (self.new ≡ self.old ++ tuple ∷ []) }
         ensures err { OnErr result (self.new ≡ self.old) }

@@ -1,7 +1,7 @@
 //! Values that are owned.
 
 ghost use Rattle.std.specs.Prelude.{◌≡◌, [], ◌∷◌, ◌++◌, length, OnOk, OnErr, IsTrue, ◌↔◌};
-ghost use Rattle.mx_msgpack.specs.Owned.{pairs_in, values_in};
+ghost use Rattle.mx_msgpack.specs.Owned.{pair_list, value_list};
 
 use crate::bytes::Bytes;
 use std::alloc::{AllocError, Global};
@@ -40,7 +40,7 @@ pub struct Pairs {
 impl Values {
     /// No value.
     pub fn new(alloc: Global) -> Values
-        ensures { values_in result ≡ [] }
+        ensures { value_list result ≡ [] }
     {
         Values {
             items: Vec::new(alloc),
@@ -49,21 +49,21 @@ impl Values {
 
     /// The values of the vector.
     pub fn from_vec(items: Vec<Value>) -> Values
-        ensures { values_in result ≡ items.items }
+        ensures { value_list result ≡ items.items }
     {
         Values { items }
     }
 
     /// The values as a vector.
     pub fn into_vec(self) -> Vec<Value>
-        ensures { result.items ≡ values_in self }
+        ensures { result.items ≡ value_list self }
     {
         self.items
     }
 
     /// The values in place.
     pub fn as_slice(&self) -> &[Value]
-        ensures { result.now ≡ values_in self.now }
+        ensures { result.now ≡ value_list self.now }
     {
         self.items.as_slice()
     }
@@ -71,10 +71,10 @@ impl Values {
     /// Adds a value at the end.
     ///
     /// # Errors
-    /// Where memory runs out. The values are then as they were.
+    /// Out of memory; the values are as they were.
     pub fn push(&mut self, value: Value) -> Result<(), AllocError>
-        ensures ok { OnOk result (values_in self.new ≡ values_in self.old ++ value ∷ []) }
-        ensures err { OnErr result (values_in self.new ≡ values_in self.old) }
+        ensures ok { OnOk result (value_list self.new ≡ value_list self.old ++ value ∷ []) }
+        ensures err { OnErr result (value_list self.new ≡ value_list self.old) }
     {
         self.items.push(value)?;
         Ok(())
@@ -82,14 +82,14 @@ impl Values {
 
     /// How many values there are.
     pub fn len(&self) -> usize
-        ensures { result ≡ length (values_in self.now) }
+        ensures { result ≡ length (value_list self.now) }
     {
         self.items.len()
     }
 
     /// Whether there is no value.
     pub fn is_empty(&self) -> bool
-        ensures { IsTrue result ↔ (values_in self.now ≡ []) }
+        ensures { IsTrue result ↔ (value_list self.now ≡ []) }
     {
         self.items.is_empty()
     }
@@ -98,7 +98,7 @@ impl Values {
 impl Pairs {
     /// No pair.
     pub fn new(alloc: Global) -> Pairs
-        ensures { pairs_in result ≡ [] }
+        ensures { pair_list result ≡ [] }
     {
         Pairs {
             items: Vec::new(alloc),
@@ -107,21 +107,21 @@ impl Pairs {
 
     /// The pairs of the vector.
     pub fn from_vec(items: Vec<(Value, Value)>) -> Pairs
-        ensures { pairs_in result ≡ items.items }
+        ensures { pair_list result ≡ items.items }
     {
         Pairs { items }
     }
 
     /// The pairs as a vector.
     pub fn into_vec(self) -> Vec<(Value, Value)>
-        ensures { result.items ≡ pairs_in self }
+        ensures { result.items ≡ pair_list self }
     {
         self.items
     }
 
     /// The pairs in place.
     pub fn as_slice(&self) -> &[(Value, Value)]
-        ensures { result.now ≡ pairs_in self.now }
+        ensures { result.now ≡ pair_list self.now }
     {
         self.items.as_slice()
     }
@@ -129,10 +129,10 @@ impl Pairs {
     /// Adds a pair at the end.
     ///
     /// # Errors
-    /// Where memory runs out. The pairs are then as they were.
+    /// Out of memory; the pairs are as they were.
     pub fn push(&mut self, pair: (Value, Value)) -> Result<(), AllocError>
-        ensures ok { OnOk result (pairs_in self.new ≡ pairs_in self.old ++ pair ∷ []) }
-        ensures err { OnErr result (pairs_in self.new ≡ pairs_in self.old) }
+        ensures ok { OnOk result (pair_list self.new ≡ pair_list self.old ++ pair ∷ []) }
+        ensures err { OnErr result (pair_list self.new ≡ pair_list self.old) }
     {
         self.items.push(pair)?;
         Ok(())
@@ -140,14 +140,14 @@ impl Pairs {
 
     /// How many pairs there are.
     pub fn len(&self) -> usize
-        ensures { result ≡ length (pairs_in self.now) }
+        ensures { result ≡ length (pair_list self.now) }
     {
         self.items.len()
     }
 
     /// Whether there is no pair.
     pub fn is_empty(&self) -> bool
-        ensures { IsTrue result ↔ (pairs_in self.now ≡ []) }
+        ensures { IsTrue result ↔ (pair_list self.now ≡ []) }
     {
         self.items.is_empty()
     }

@@ -7,7 +7,7 @@ ghost use Rattle.mx_msgpack.specs.View.{view, Shows};
 
 use crate::bad::Bad;
 use crate::head::{Head, head_at, short_head};
-use crate::skipping::measure_behind;
+use crate::size::measure_behind;
 
 /// A value in place. A container is its count and the bytes of all that it holds.
 #[derive(Clone, Copy, Debug)]
