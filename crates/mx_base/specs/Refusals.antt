@@ -81,7 +81,7 @@ quoted name = codes "\"" ++ name ++ codes "\""
 -- which vclock isn't between which
 abbrev pub outside_text : Reach → List ℕ
 outside_text reached =
-    codes "Vclock " ++ vclock.text_of reached.asked ++ codes " is not between " ++ vclock.text_of reached.first ++ codes " and " ++ vclock.text_of reached.last
+    codes "Vclock " ++ vclock.vclock_text reached.asked ++ codes " is not between " ++ vclock.vclock_text reached.first ++ codes " and " ++ vclock.vclock_text reached.last
 
 abbrev pub text_of : Refusal → List ℕ
 text_of (refusal.IllegalValue key) = codes "Illegal value of key " ++ key_text key

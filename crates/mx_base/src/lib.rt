@@ -2,17 +2,15 @@
 #![tactic(auto)]
 
 mod ids;
+pub mod keys;
 mod kinds;
 mod name;
 mod refusal;
+mod refusal_text;
 mod text;
-mod wording;
 
 pub use ids::{ConnId, IndexId, Lsn, ReplicaId, SpaceId, StreamId, SyncId, TxnName};
 pub use kinds::{TypeName, Unsupported};
 pub use name::Name;
 pub use refusal::{Reach, Refusal, code_of};
-pub use wording::text_of;
-
-#[cfg(test)]
-mod tests;
+pub use refusal_text::text_of;

@@ -45,9 +45,6 @@ impl Name {
     }
 
     /// The name of these bytes.
-    ///
-    /// # Errors
-    /// Memory ran out.
     pub fn from_slice(alloc: Global, bytes: &[u8]) -> Result<Name, AllocError>
         ensures { IfOk result (λ name. name ≡ bytes.now) }
     {

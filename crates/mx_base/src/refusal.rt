@@ -11,9 +11,9 @@ use mx_vclock::Vclock;
 /// A refusal. Fields, key parts and operations count from 0.
 #[derive(Debug, Drop)]
 pub enum Refusal {
-    /// The value under this key of a header or body is of the wrong kind.
+    /// The value under this key of a header or body is of the wrong type or out of range.
     IllegalValue { key: u8 },
-    /// No memory was found.
+    /// An allocation failed.
     OutOfMemory,
     /// Another tuple has the same key in this index.
     DuplicateKey { index: Name, space: Name },

@@ -81,7 +81,7 @@ impl Text {
 
     /// Adds a vclock.
     pub(crate) fn clock(mut self, clock: &Vclock) -> Result<Text, AllocError>
-        ensures { IfOk result (λ text. text ≡ self ++ vclock.text_of clock.now) }
+        ensures { IfOk result (λ text. text ≡ self ++ vclock.vclock_text clock.now) }
     {
         let spelled = clock.text(self.alloc)?;
         self.bytes.extend_from_slice(spelled.as_slice())?;

@@ -12,10 +12,7 @@ use crate::text::Text;
 use mx_msgpack::Bytes;
 use std::alloc::{AllocError, Global};
 
-/// The refusal's text, as the client is told it.
-///
-/// # Errors
-/// Memory ran out.
+/// The refusal's text, as the client gets it.
 pub fn text_of(alloc: Global, refusal: &Refusal) -> Result<Bytes, AllocError>
     ensures { IfOk result (λ text. text ≡ text_of refusal.now) }
 {
