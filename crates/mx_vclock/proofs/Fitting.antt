@@ -8,8 +8,8 @@ use Rattle.std.proofs.lemmas.List.Elements.{All-append, All-cons, All-head, All-
 use Rattle.mx_vclock.specs.declared.place.Place.{Place}
 use Rattle.mx_vclock.specs.declared.place.Place.TheVariants.{Start, Open, Comma, Next, Id, Colon, Named, Lsn, Done}
 use Rattle.mx_vclock.specs.Vclocks.{IsVclock, max_lsn}
-use Rattle.mx_vclock.specs.Places.{greatest_begun}
-use Rattle.mx_vclock.specs.Text.{text_of}
+use Rattle.mx_vclock.specs.Places.{greatest_id_from}
+use Rattle.mx_vclock.specs.Text.{vclock_text}
 use Rattle.mx_vclock.proofs.Decimals.{GoesOn}
 use Rattle.mx_vclock.proofs.Tails.{named, more, first}
 
@@ -102,7 +102,7 @@ Stands Start front = Unit {0}
 Stands Open front = Unit {0}
 Stands (Comma least) front = Before least front
 Stands (Next least) front = Before least front
-Stands (Id least id) front = Before least front × (id ≤ 31) × (least ≤ greatest_begun id)
+Stands (Id least id) front = Before least front × (id ≤ 31) × (least ≤ greatest_id_from id)
 Stands (Colon id) front = Before id front
 Stands (Named id) front = Before id front
 Stands (Lsn id lsn) front = Before id front × (0 < lsn) × (lsn ≤ max_lsn)
@@ -148,7 +148,7 @@ AfterBlank F text = (rest : List ℕ) × (32 ∷ rest ≡ text) × F rest
 
 -- from this place the clock's text goes on with this one to its end
 abbrev pub Fits : Place → List ℕ → List ℕ → List ℕ → Type 0
-Fits Start front clock text = IsVclock clock × (text_of clock ≡ text)
+Fits Start front clock text = IsVclock clock × (vclock_text clock ≡ text)
 Fits Open front clock text = IsVclock clock × (first 0 clock ≡ text)
 Fits (Comma least) front clock text = AfterBlank (FitsNext least front clock) text
 Fits (Next least) front clock text = FitsNext least front clock text

@@ -8,13 +8,14 @@ use Rattle.std.proofs.lemmas.List.Elements.{All-append, All-replicate}
 use Rattle.mx_vclock.specs.declared.place.Place.{Place}
 use Rattle.mx_vclock.specs.declared.place.Place.TheVariants.{Id, Colon}
 use Rattle.mx_vclock.specs.Vclocks.{max_lsn}
-use Rattle.mx_vclock.specs.Places.{after_id, begun_id, digit, greatest_begun, ◌>>=◌}
+use Rattle.mx_msgpack.specs.Readers.{◌>>=◌}
+use Rattle.mx_vclock.specs.Places.{after_id, id_place, digit, greatest_id_from}
 use Rattle.mx_vclock.proofs.Decimals.{IsDigit, GoesOn, begins, ends_or_goes_on, some_before, with_digit, not_below, two_digits}
 use Rattle.mx_vclock.proofs.Tails.{more}
 use Rattle.mx_vclock.proofs.Steps.{Texts, Taking, by_test, by_digit, one_more}
 use Rattle.mx_vclock.proofs.Fitting.{part_bounds, Before, Stands, FitsId, FitsNext, FitsNamed, AfterBlank, Outcome}
 
-pub greatest : (id : ℕ) → (id ≤ greatest_begun id) × (1 ≤ id → id ≤ 3 → greatest_begun id ≡ 10 * id + 9) × (3 < id → greatest_begun id ≡ id) × (greatest_begun 0 ≡ 0)
+pub greatest : (id : ℕ) → (id ≤ greatest_id_from id) × (1 ≤ id → id ≤ 3 → greatest_id_from id ≡ 10 * id + 9) × (3 < id → greatest_id_from id ≡ id) × (greatest_id_from 0 ≡ 0)
 greatest id = (
   by_test (λ n. id ≤ n) (ltb id 1) id (cond (ltb 3 id) id (10 * id + 9)) (λ t. omega arith) (λ t. by_test (λ n. id ≤ n) (ltb 3 id) id (10 * id + 9) (λ u. omega arith) (λ u. omega arith)),
   λ l h.
@@ -26,20 +27,20 @@ greatest id = (
   refl,
 )
 
-within_greatest : (id : ℕ) (digits : List ℕ) (whole : ℕ) → id ≤ 31 → whole ≤ 31 → GoesOn id digits whole → whole ≤ greatest_begun id
+within_greatest : (id : ℕ) (digits : List ℕ) (whole : ℕ) → id ≤ 31 → whole ≤ 31 → GoesOn id digits whole → whole ≤ greatest_id_from id
 within_greatest id digits whole small high e = by_digits (two_digits id digits whole (omega arith) (omega arith) e)
   where
-    g : (id ≤ greatest_begun id) × (1 ≤ id → id ≤ 3 → greatest_begun id ≡ 10 * id + 9) × (3 < id → greatest_begun id ≡ id) × (greatest_begun 0 ≡ 0)
+    g : (id ≤ greatest_id_from id) × (1 ≤ id → id ≤ 3 → greatest_id_from id ≡ 10 * id + 9) × (3 < id → greatest_id_from id ≡ id) × (greatest_id_from 0 ≡ 0)
     g = greatest id
 
-    by_digits : (whole ≡ id) ⊎ ((10 ≤ whole) × (whole / 10 ≡ id)) → whole ≤ greatest_begun id
+    by_digits : (whole ≡ id) ⊎ ((10 ≤ whole) × (whole / 10 ≡ id)) → whole ≤ greatest_id_from id
     by_digits (inl same) = omega (arith, g.0)
     by_digits (inr (ten, front)) = omega (arith, g.1 (omega arith) (omega arith))
 
 begun_law : (G : Texts) (lsns front : List ℕ) (least id : ℕ) → Before least front → front ++ replicate (32 - least) 0 ≡ lsns → id < 100
     → ((clock text : List ℕ) → G clock text → FitsId least id front clock text) → ((clock text : List ℕ) → FitsId least id front clock text → G clock text)
-    → Outcome G lsns (begun_id least id)
-begun_law G lsns front least id before same small to from = by_test (Outcome G lsns) (ltb 31 id) None (cond (ltb (greatest_begun id) least) None (Some (Id least id)))
+    → Outcome G lsns (id_place least id)
+begun_law G lsns front least id before same small to from = by_test (Outcome G lsns) (ltb 31 id) None (cond (ltb (greatest_id_from id) least) None (Some (Id least id)))
     (λ t clock text g.
     let f = to clock text g in
     let p = part_bounds front f.zeros f.lsn f.others clock f.part in
@@ -47,16 +48,16 @@ begun_law G lsns front least id before same small to from = by_test (Outcome G l
     let l = before.long in
     let whole : least + f.zeros ≤ 31 = omega (arith, p.id) in
     omega (arith, not_below id f.digits (least + f.zeros) (omega arith) (omega arith) f.goes_on))
-    (λ t. by_test (Outcome G lsns) (ltb (greatest_begun id) least) None (Some (Id least id))
+    (λ t. by_test (Outcome G lsns) (ltb (greatest_id_from id) least) None (Some (Id least id))
     (λ u clock text g.
     let f = to clock text g in
     let p = part_bounds front f.zeros f.lsn f.others clock f.part in
     let h = ltb-false 31 id t in
     let l = before.long in
-    let v = ltb-true (greatest_begun id) least u in
+    let v = ltb-true (greatest_id_from id) least u in
     let whole : least + f.zeros ≤ 31 = omega (arith, p.id) in
     omega (arith, within_greatest id f.digits (least + f.zeros) h whole f.goes_on))
-    (λ u. (front, same, (before, ltb-false 31 id t, ltb-false (greatest_begun id) least u), to, from)))
+    (λ u. (front, same, (before, ltb-false 31 id t, ltb-false (greatest_id_from id) least u), to, from)))
 
 -- the first digit of an id
 pub first_to : (least byte : ℕ) (front clock text : List ℕ) → Before least front → FitsNext least front clock (byte ∷ text) → IsDigit byte × FitsId least (byte - 48) front clock text
@@ -97,8 +98,8 @@ first_from least byte front clock text digit f =
 
 pub next_law : (G : Texts) (lsns front : List ℕ) (least byte : ℕ) → Before least front → front ++ replicate (32 - least) 0 ≡ lsns
     → ((clock text : List ℕ) → G clock text → FitsNext least front clock (byte ∷ text)) → ((clock text : List ℕ) → FitsNext least front clock (byte ∷ text) → G clock text)
-    → Outcome G lsns (digit byte >>= begun_id least)
-next_law G lsns front least byte before same to from = by_digit (Outcome G lsns) byte (begun_id least)
+    → Outcome G lsns (digit byte >>= id_place least)
+next_law G lsns front least byte before same to from = by_digit (Outcome G lsns) byte (id_place least)
     (λ d.
     let small : byte - 48 < 100 = omega (arith, d.1) in
     begun_law G lsns front least (byte - 48) before same small
@@ -226,7 +227,7 @@ zeros_later least id front le high =
     ∙ ap (λ l. front ++ l) (replicate-append-replicate (id - least) (32 - id) 0 ∙ ap (λ k. replicate k 0) (zeros_left least id le high))
 
 pub id_law : (least id byte : ℕ) (front : List ℕ) → Stands (Id least id) front → Outcome (Taking (Id least id) front byte) (front ++ replicate (32 - least) 0) (after_id least id byte)
-id_law least id byte front (before, high, begun) = by_test O (eqb byte 58) (cond (ltb id least) None (Some (Colon id))) (cond (ltb id 1) None (cond (ltb 3 id) None (digit byte >>= λ d. begun_id least (10 * id + d))))
+id_law least id byte front (before, high, begun) = by_test O (eqb byte 58) (cond (ltb id least) None (Some (Colon id))) (cond (ltb id 1) None (cond (ltb 3 id) None (digit byte >>= λ d. id_place least (10 * id + d))))
     (λ t.
     let is = eqb-true byte 58 t in
     by_test O (ltb id least) None (Some (Colon id))
@@ -243,14 +244,14 @@ id_law least id byte front (before, high, begun) = by_test O (eqb byte 58) (cond
     )))
     (λ t.
     let other = eqb-false byte 58 t in
-    by_test O (ltb id 1) None (cond (ltb 3 id) None (digit byte >>= λ d. begun_id least (10 * id + d)))
+    by_test O (ltb id 1) None (cond (ltb 3 id) None (digit byte >>= λ d. id_place least (10 * id + d)))
     (λ u clock text g. let v = ltb-true id 1 u in omega (arith, (digit_to least id byte front clock text before high other g).1))
-    (λ u. by_test O (ltb 3 id) None (digit byte >>= λ d. begun_id least (10 * id + d))
+    (λ u. by_test O (ltb 3 id) None (digit byte >>= λ d. id_place least (10 * id + d))
     (λ v clock text g. let w = ltb-true 3 id v in omega (arith, (digit_to least id byte front clock text before high other g).2))
     (λ v.
     let some : 0 < id = ltb-false id 1 u in
     let three : id ≤ 3 = ltb-false 3 id v in
-    by_digit O byte (λ d. begun_id least (10 * id + d))
+    by_digit O byte (λ d. id_place least (10 * id + d))
     (λ d. begun_law (Taking (Id least id) front byte) (front ++ replicate (32 - least) 0) front least (10 * id + (byte - 48)) before refl (omega (arith, d.1))
     (λ clock text g. (digit_to least id byte front clock text before high other g).3)
     (λ clock text f. digit_from least id byte front clock text some three d f))

@@ -10,7 +10,8 @@ use Rattle.std.proofs.lemmas.List.Elements.{All-append, All-cons, All-nil}
 use Rattle.mx_vclock.specs.declared.place.Place.{Place}
 use Rattle.mx_vclock.specs.declared.place.Place.TheVariants.{Comma, Named, Lsn, Done}
 use Rattle.mx_vclock.specs.Vclocks.{IsVclock, max_lsn}
-use Rattle.mx_vclock.specs.Places.{after_lsn, digit, ◌>>=◌}
+use Rattle.mx_msgpack.specs.Readers.{◌>>=◌}
+use Rattle.mx_vclock.specs.Places.{after_lsn, digit}
 use Rattle.mx_vclock.proofs.Decimals.{IsDigit, GoesOn, begins, ends_or_goes_on, some_before, with_digit, not_below}
 use Rattle.mx_vclock.proofs.Tails.{named, more, split, Blank, Split, more-zeros}
 use Rattle.mx_vclock.proofs.Steps.{Taking, by_test, by_digit, one_more}

@@ -10,7 +10,7 @@ use Rattle.std.proofs.lemmas.List.Elements.{All-head, All-tail}
 use Rattle.std.proofs.lemmas.Fmt.{decimal_is_IsNumeral, decimal_injective}
 use Rattle.std.proofs.lemmas.Str.Parse.{tells_digits}
 use Rattle.mx_vclock.specs.Vclocks.{IsVclock, max_lsn}
-use Rattle.mx_vclock.specs.Text.{components, text_of}
+use Rattle.mx_vclock.specs.Text.{component_texts, vclock_text}
 use Rattle.mx_vclock.proofs.TextLaws.{goes_on, goes_on-separated, components-more}
 
 in_range : (b c : ℕ) → b ≡ c → IsInRange 48 57 c → IsInRange 48 57 b
@@ -32,7 +32,7 @@ number_ends m n b c r s hm hn nb nc e =
 
 -- the text from this replica id on
 abbrev text_from : List ℕ → ℕ → List ℕ → List ℕ
-text_from before id lsns = goes_on before (components id lsns) ++ codes "}"
+text_from before id lsns = goes_on before (component_texts id lsns) ++ codes "}"
 
 text_from-zero : (before : List ℕ) (id lsn : ℕ) (lsns : List ℕ) → eqb lsn 0 ≡ true → text_from before id (lsn ∷ lsns) ≡ text_from before (id + 1) lsns
 text_from-zero before id lsn lsns e = ap (λ parts. goes_on before parts ++ codes "}") (components-more id lsn lsns true e)
@@ -89,8 +89,8 @@ one_more before id x y xs ys true false begins hx hy high same ex ey again e =
 one_more before id x y xs ys false true begins hx hy high same ex ey again e =
     absurd (apart before id ys _ begins (omega arith) (sym (text_from-some before id x xs ex) ∙ e ∙ text_from-zero before id y ys ey))
 one_more before id x y xs ys false false begins hx hy high same ex ey again e =
-    let a = ends_number (components (id + 1) xs) in
-    let b = ends_number (components (id + 1) ys) in
+    let a = ends_number (component_texts (id + 1) xs) in
+    let b = ends_number (component_texts (id + 1) ys) in
     let there = append_cancel_left (decimal id) _ _ (append_cancel_left before _ _ (sym (text_from-some before id x xs ex) ∙ e ∙ text_from-some before id y ys ey)) in
     let lsns = append_cancel_left (58 ∷ 32 ∷ []) (decimal x ++ text_from (codes ", ") (id + 1) xs) (decimal y ++ text_from (codes ", ") (id + 1) ys) there in
     let p = number_ends x y a.0 b.0 a.1 b.1 hx hy a.3 b.3 (ap (λ rest. decimal x ++ rest) (sym a.2) ∙ lsns ∙ ap (λ rest. decimal y ++ rest) b.2) in
@@ -109,9 +109,9 @@ same_from before id (x ∷ xs) (y ∷ ys) begins small_x small_y high same e =
     one_more before id x y xs ys (eqb x 0) (eqb y 0) begins (omega (arith, All-head IsLsn x xs small_x)) (omega (arith, All-head IsLsn y ys small_y)) (omega arith) (omega arith) refl refl (λ after b. same_from after (id + 1) xs ys b (All-tail IsLsn x xs small_x) (All-tail IsLsn y ys small_y) (omega arith) (omega arith)) e
 
 -- the text tells the vclock
-pub text_tells : (clock other : List ℕ) → IsVclock clock → IsVclock other → text_of clock ≡ text_of other → clock ≡ other
+pub text_tells : (clock other : List ℕ) → IsVclock clock → IsVclock other → vclock_text clock ≡ vclock_text other → clock ≡ other
 text_tells clock other v w e =
     let whole = v.whole in
-    let shown = ap (λ text. text ++ codes "}") (goes_on-separated (components 0 clock)) in
-    let other_shown = ap (λ text. text ++ codes "}") (goes_on-separated (components 0 other)) in
+    let shown = ap (λ text. text ++ codes "}") (goes_on-separated (component_texts 0 clock)) in
+    let other_shown = ap (λ text. text ++ codes "}") (goes_on-separated (component_texts 0 other)) in
     same_from [] 0 clock other begins-none v.bounded w.bounded (omega (arith, whole)) (v.whole ∙ sym w.whole) (shown ∙ append_cancel_left (codes "{") _ _ e ∙ sym other_shown)

@@ -2,19 +2,19 @@
 use Rattle.std.proofs.Common.{◌≡◌, ℕ, suc, ◌+◌, ◌<◌, List, [], ◌∷◌, ◌++◌, length, map, take, get_or, Bool, true, false, not, eqb, refl, sym, ap, ◌∙◌, append_assoc, arith}
 use Rattle.std.proofs.lemmas.List.{length-take, take_more}
 use Rattle.std.specs.List.{concat, filter}
-use Rattle.mx_vclock.specs.Spelling.{pair_text, pairs_from}
+use Rattle.mx_vclock.specs.Spelling.{component_bytes, components_from}
 
 -- what is written of the pairs of these lsns
 abbrev pub pairs_text : ℕ → List ℕ → List ℕ
-pairs_text id lsns = concat (map pair_text (pairs_from id lsns))
+pairs_text id lsns = concat (map component_bytes (components_from id lsns))
 
 -- the pairs are as many as the lsns that aren't 0
-pub pairs_counted : (id : ℕ) (lsns : List ℕ) → length (filter (λ lsn. not (eqb lsn 0)) lsns) ≡ length (pairs_from id lsns)
+pub pairs_counted : (id : ℕ) (lsns : List ℕ) → length (filter (λ lsn. not (eqb lsn 0)) lsns) ≡ length (components_from id lsns)
 pairs_counted id [] = refl
 pairs_counted id (lsn ∷ lsns) = by_test (eqb lsn 0) refl (pairs_counted (suc id) lsns)
   where
-    by_test : (test : Bool) → eqb lsn 0 ≡ test → length (filter (λ lsn. not (eqb lsn 0)) lsns) ≡ length (pairs_from (suc id) lsns)
-        → length (filter (λ lsn. not (eqb lsn 0)) (lsn ∷ lsns)) ≡ length (pairs_from id (lsn ∷ lsns))
+    by_test : (test : Bool) → eqb lsn 0 ≡ test → length (filter (λ lsn. not (eqb lsn 0)) lsns) ≡ length (components_from (suc id) lsns)
+        → length (filter (λ lsn. not (eqb lsn 0)) (lsn ∷ lsns)) ≡ length (components_from id (lsn ∷ lsns))
     by_test true e rest = rw e rest
     by_test false e rest = rw e (ap suc rest)
 
@@ -35,8 +35,8 @@ pairs_text-append id (lsn ∷ lsns) others = by_test (eqb lsn 0) refl (pairs_tex
         → pairs_text id (lsn ∷ (lsns ++ others)) ≡ pairs_text id (lsn ∷ lsns) ++ later
     by_test true e rest = rw e rest
     by_test false e rest = rw e (
-        ap (λ (l : List ℕ). pair_text (id, lsn) ++ l) rest
-        ∙ sym (append_assoc (pair_text (id, lsn)) (pairs_text (suc id) lsns) later)
+        ap (λ (l : List ℕ). component_bytes (id, lsn) ++ l) rest
+        ∙ sym (append_assoc (component_bytes (id, lsn)) (pairs_text (suc id) lsns) later)
         )
 
 -- one lsn more, behind what was there before

@@ -7,8 +7,8 @@ use Rattle.std.proofs.lemmas.List.{append-nil, length-append, take_all}
 use Rattle.mx_vclock.specs.declared.place.Place.{Place}
 use Rattle.mx_vclock.specs.declared.place.Place.TheVariants.{Start, Open, Comma, Next, Id, Colon, Named, Lsn, Done}
 use Rattle.mx_vclock.specs.Vclocks.{IsVclock}
-use Rattle.mx_vclock.specs.Places.{after}
-use Rattle.mx_vclock.specs.Text.{text_of, BeginsText, IsFaultAt}
+use Rattle.mx_vclock.specs.Places.{next_place}
+use Rattle.mx_vclock.specs.Text.{vclock_text, BeginsText, IsFaultAt}
 use Rattle.mx_vclock.proofs.Tails.{named, more, first, split, Blank, Split, text_is_first}
 use Rattle.mx_vclock.proofs.Fitting.{lsns_at, noted, Stands, Fits, Outcome}
 use Rattle.mx_vclock.proofs.Steps.{Taking}
@@ -19,8 +19,8 @@ pub record Leads (bytes : List ℕ) (index : ℕ) (place : Place) (lsns : List �
   pub front : List ℕ
   pub same : lsns_at place front ≡ lsns
   pub stands : Stands place front
-  pub goes_on : (clock text : List ℕ) → IsVclock clock → text_of clock ≡ take index bytes ++ text → Fits place front clock text
-  pub comes : (clock text : List ℕ) → Fits place front clock text → IsVclock clock × (text_of clock ≡ take index bytes ++ text)
+  pub goes_on : (clock text : List ℕ) → IsVclock clock → vclock_text clock ≡ take index bytes ++ text → Fits place front clock text
+  pub comes : (clock text : List ℕ) → Fits place front clock text → IsVclock clock × (vclock_text clock ≡ take index bytes ++ text)
 
 pub nothing_leads : (bytes : List ℕ) → Leads bytes 0 Start (replicate 32 0)
 nothing_leads bytes = record {
@@ -38,10 +38,10 @@ one_longer bytes index byte text within is =
     ∙ ap (λ l. l ++ text) (take-suc bytes index 0 within ∙ ap (λ b. take index bytes ++ b ∷ []) (sym is))
     ∙ append_assoc (take index bytes) (byte ∷ []) text
 
-outcome : (bytes : List ℕ) (index : ℕ) (place : Place) (lsns : List ℕ) (byte : ℕ) (step : Option Place) (l : Leads bytes index place lsns) → after place byte ≡ step → Outcome (Taking place l.front byte) lsns step
+outcome : (bytes : List ℕ) (index : ℕ) (place : Place) (lsns : List ℕ) (byte : ℕ) (step : Option Place) (l : Leads bytes index place lsns) → next_place place byte ≡ step → Outcome (Taking place l.front byte) lsns step
 outcome bytes index place lsns byte step l e = subst (λ a. Outcome (Taking place l.front byte) a step) l.same (subst (λ s. Outcome (Taking place l.front byte) (lsns_at place l.front) s) e (law place l.front byte l.stands))
 
-pub step_leads : (bytes : List ℕ) (index : ℕ) (place : Place) (lsns : List ℕ) (byte : ℕ) (next : Place) → Leads bytes index place lsns → index < length bytes → byte ≡ get_or bytes index 0 → after place byte ≡ Some next
+pub step_leads : (bytes : List ℕ) (index : ℕ) (place : Place) (lsns : List ℕ) (byte : ℕ) (next : Place) → Leads bytes index place lsns → index < length bytes → byte ≡ get_or bytes index 0 → next_place place byte ≡ Some next
     → Leads bytes (index + 1) next (noted next lsns)
 step_leads bytes index place lsns byte next l within is e =
     let o = outcome bytes index place lsns byte (Some next) l e in
@@ -84,14 +84,14 @@ begins_text bytes index place lsns l =
     let c = l.comes v.0 v.1 v.2 in
     (v.0, v.1, c.0, c.1)
 
-pub fault_inside : (bytes : List ℕ) (index : ℕ) (place : Place) (lsns : List ℕ) (byte : ℕ) → Leads bytes index place lsns → index < length bytes → byte ≡ get_or bytes index 0 → after place byte ≡ None → IsFaultAt bytes index
+pub fault_inside : (bytes : List ℕ) (index : ℕ) (place : Place) (lsns : List ℕ) (byte : ℕ) → Leads bytes index place lsns → index < length bytes → byte ≡ get_or bytes index 0 → next_place place byte ≡ None → IsFaultAt bytes index
 fault_inside bytes index place lsns byte l within is e =
     let o = outcome bytes index place lsns byte None l e in
     let n : suc index ≡ index + 1 = omega arith in
     record {
       within = omega arith;
       before = begins_text bytes index place lsns l;
-      after = λ _ b. o b.0 b.1 (l.goes_on b.0 (byte ∷ b.1) b.2 (b.3 ∙ ap (λ n. take n bytes ++ b.1) n ∙ one_longer bytes index byte b.1 within is));
+      stops = λ _ b. o b.0 b.1 (l.goes_on b.0 (byte ∷ b.1) b.2 (b.3 ∙ ap (λ n. take n bytes ++ b.1) n ∙ one_longer bytes index byte b.1 within is));
       unfinished = λ same. absurd (omega arith);
     }
 
@@ -101,11 +101,11 @@ all_taken bytes = append-nil (take (length bytes) bytes) ∙ take_all (length by
 to_end : (bytes : List ℕ) (index : ℕ) (place : Place) (lsns : List ℕ) → Leads bytes index place lsns → length bytes ≤ index → index ≤ length bytes → Leads bytes (length bytes) place lsns
 to_end bytes index place lsns l low high = subst (λ n. Leads bytes n place lsns) (omega arith) l
 
-pub read_whole : (bytes : List ℕ) (index : ℕ) (place : Place) (lsns : List ℕ) → Leads bytes index place lsns → length bytes ≤ index → index ≤ length bytes → place ≡ Done → IsVclock lsns × (bytes ≡ text_of lsns)
+pub read_whole : (bytes : List ℕ) (index : ℕ) (place : Place) (lsns : List ℕ) → Leads bytes index place lsns → length bytes ≤ index → index ≤ length bytes → place ≡ Done → IsVclock lsns × (bytes ≡ vclock_text lsns)
 read_whole bytes index place lsns leads low high done =
     let l = subst (λ p. Leads bytes (length bytes) p lsns) done (to_end bytes index place lsns leads low high) in
     let c = l.comes l.front [] (l.stands, refl, refl) in
-    subst (λ k. IsVclock k × (bytes ≡ text_of k)) l.same (c.0, sym (c.1 ∙ all_taken bytes))
+    subst (λ k. IsVclock k × (bytes ≡ vclock_text k)) l.same (c.0, sym (c.1 ∙ all_taken bytes))
 
 -- ---- no text ends before its bracket
 
@@ -143,6 +143,6 @@ fault_at_end bytes index place lsns leads low high other =
     record {
       within = omega arith;
       before = begins_text bytes (length bytes) place lsns l;
-      after = λ below. absurd (omega arith);
+      stops = λ below. absurd (omega arith);
       unfinished = λ _ t. other (only_done place l.front t.0 (l.goes_on t.0 [] t.1 (sym t.2 ∙ sym (all_taken bytes))));
     }

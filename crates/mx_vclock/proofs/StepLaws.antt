@@ -7,8 +7,9 @@ use Rattle.std.proofs.lemmas.List.Elements.{All-nil, All-replicate}
 use Rattle.mx_vclock.specs.declared.place.Place.{Place}
 use Rattle.mx_vclock.specs.declared.place.Place.TheVariants.{Start, Open, Comma, Next, Id, Colon, Named, Lsn, Done}
 use Rattle.mx_vclock.specs.Vclocks.{IsVclock, max_lsn}
-use Rattle.mx_vclock.specs.Places.{after, begun_id, digit, greatest_begun, ◌>>=◌}
-use Rattle.mx_vclock.specs.Text.{text_of}
+use Rattle.mx_msgpack.specs.Readers.{◌>>=◌}
+use Rattle.mx_vclock.specs.Places.{next_place, id_place, digit, greatest_id_from}
+use Rattle.mx_vclock.specs.Text.{vclock_text}
 use Rattle.mx_vclock.proofs.Decimals.{GoesOn, digit_more}
 use Rattle.mx_vclock.proofs.Tails.{named, more, first, split, Blank, Split, first-zeros, text_is_first}
 use Rattle.mx_vclock.proofs.Fitting.{Part, padded, lsns_at, Before, Stands, FitsId, FitsNext, FitsNamed, FitsLsn, Fits, Outcome}
@@ -24,8 +25,8 @@ none_before = record { long = refl; high = omega arith; bounded = All-nil (λ n.
 
 -- ---- the brackets
 
-start_law : (byte : ℕ) (front : List ℕ) → Outcome (Taking Start front byte) (replicate 32 0) (after Start byte)
-unfolding after
+start_law : (byte : ℕ) (front : List ℕ) → Outcome (Taking Start front byte) (replicate 32 0) (next_place Start byte)
+unfolding next_place
 start_law byte front = by_test (Outcome (Taking Start front byte) (replicate 32 0)) (eqb byte 123) (Some Open) None
     (λ t. (
       front,
@@ -61,9 +62,9 @@ open_from clock text f = by_lsn f.lsn f.part f.spelled
     by_lsn zero part spelled = let s = part.some in absurd (omega arith)
     by_lsn (suc lsn) part spelled = (part.sound, ap (first 0) part.is ∙ first-zeros f.zeros 0 (suc lsn ∷ f.others) ∙ spelled)
 
-open_law : (byte : ℕ) (front : List ℕ) → Outcome (Taking Open front byte) (replicate 32 0) (after Open byte)
-unfolding after
-open_law byte front = by_test (Outcome (Taking Open front byte) (replicate 32 0)) (eqb byte 125) (Some Done) (digit byte >>= begun_id 0)
+open_law : (byte : ℕ) (front : List ℕ) → Outcome (Taking Open front byte) (replicate 32 0) (next_place Open byte)
+unfolding next_place
+open_law byte front = by_test (Outcome (Taking Open front byte) (replicate 32 0)) (eqb byte 125) (Some Done) (digit byte >>= id_place 0)
     (λ t.
     let is = eqb-true byte 125 t in (
       replicate 32 0,
@@ -86,8 +87,8 @@ open_law byte front = by_test (Outcome (Taking Open front byte) (replicate 32 0)
 
 -- ---- every place
 
-pub law : (place : Place) (front : List ℕ) (byte : ℕ) → Stands place front → Outcome (Taking place front byte) (lsns_at place front) (after place byte)
-unfolding after
+pub law : (place : Place) (front : List ℕ) (byte : ℕ) → Stands place front → Outcome (Taking place front byte) (lsns_at place front) (next_place place byte)
+unfolding next_place
 law Start front byte s = start_law byte front
 law Open front byte s = open_law byte front
 law (Comma least) front byte s =
@@ -159,10 +160,10 @@ id_viable least id front digits whole before low high e =
       },
     )
 
-begun_viable : (least id : ℕ) (front : List ℕ) → Before least front → id ≤ 31 → least ≤ greatest_begun id → (clock text : List ℕ) × FitsId least id front clock text
+begun_viable : (least id : ℕ) (front : List ℕ) → Before least front → id ≤ 31 → least ≤ greatest_id_from id → (clock text : List ℕ) × FitsId least id front clock text
 begun_viable least id front before high begun = by_order (cases_lt id least)
   where
-    g : (id ≤ greatest_begun id) × (1 ≤ id → id ≤ 3 → greatest_begun id ≡ 10 * id + 9) × (3 < id → greatest_begun id ≡ id) × (greatest_begun 0 ≡ 0)
+    g : (id ≤ greatest_id_from id) × (1 ≤ id → id ≤ 3 → greatest_id_from id ≡ 10 * id + 9) × (3 < id → greatest_id_from id ≡ id) × (greatest_id_from 0 ≡ 0)
     g = greatest id
 
     low : id < least → 3 < id → ⊥
@@ -173,7 +174,7 @@ begun_viable least id front before high begun = by_order (cases_lt id least)
       where
         by_zero : (n : ℕ) → id ≡ n → 0 < id
         by_zero (suc n) e = omega arith
-        by_zero zero e = let z : greatest_begun id ≡ 0 = ap greatest_begun e ∙ g.3 in absurd (omega (arith, begun, below))
+        by_zero zero e = let z : greatest_id_from id ≡ 0 = ap greatest_id_from e ∙ g.3 in absurd (omega (arith, begun, below))
 
     by_order : (id < least) ⊎ (least ≤ id) → (clock text : List ℕ) × FitsId least id front clock text
     by_order (inr le) = id_viable least id front [] id before le high (sym (append-nil (decimal id)))
@@ -198,7 +199,7 @@ begun_viable least id front before high begun = by_order (cases_lt id least)
             id_viable least id front (49 ∷ []) (10 * id + 1) before (omega arith) (omega arith) (digit_more id 1 s (omega arith) (omega arith))
 
 pub viable : (place : Place) (front : List ℕ) → Stands place front → (clock text : List ℕ) × Fits place front clock text
-viable Start front s = (replicate 32 0, text_of (replicate 32 0), (empty_clock, refl))
+viable Start front s = (replicate 32 0, vclock_text (replicate 32 0), (empty_clock, refl))
 viable Open front s = (replicate 32 0, first 0 (replicate 32 0), (empty_clock, refl))
 viable (Comma least) front s = let v = next_viable least front s in (v.0, 32 ∷ v.1, (v.1, refl, v.2))
 viable (Next least) front s = next_viable least front s

@@ -2,7 +2,8 @@
 use Rattle.std.proofs.Common.{◌≡◌, ℕ, ◌-◌, ◌≤◌, Bool, true, false, cond, eqb, ltb, Option, Some, None, List, ◌∷◌, refl, sym, ap, subst, arith}
 use Rattle.std.proofs.lemmas.Bool.{eqb-true, eqb-false, ltb-true, ltb-false}
 use Rattle.mx_vclock.specs.declared.place.Place.{Place}
-use Rattle.mx_vclock.specs.Places.{digit, given, ◌>>=◌}
+use Rattle.mx_msgpack.specs.Readers.{◌>>=◌}
+use Rattle.mx_vclock.specs.Places.{digit, place_if}
 use Rattle.mx_vclock.proofs.Decimals.{IsDigit}
 use Rattle.mx_vclock.proofs.Fitting.{lsns_at, noted, Stands, AfterBlank, Fits, Outcome}
 
@@ -36,7 +37,7 @@ pub blank_law : (place : Place) (F : List ℕ → List ℕ → Type 0) (G : Text
     → ((clock text : List ℕ) → G clock text → AfterBlank (F clock) (byte ∷ text)) → ((clock text : List ℕ) → AfterBlank (F clock) (byte ∷ text) → G clock text)
     → lsns_at place front ≡ noted place lsns → Stands place front
     → ((clock text : List ℕ) → F clock text → Fits place front clock text) → ((clock text : List ℕ) → Fits place front clock text → F clock text)
-    → Outcome G lsns (given 32 byte place)
+    → Outcome G lsns (place_if 32 byte place)
 blank_law place F G lsns front byte to from same stands there back = by_test (Outcome G lsns) (eqb byte 32) (Some place) None
     (λ t. (
       front,

@@ -3,7 +3,7 @@ use Rattle.std.proofs.Common.{◌≡◌, ℕ, zero, suc, ◌+◌, cond, List, []
 use Rattle.std.specs.Prelude.{codes}
 use Rattle.std.specs.Fmt.{decimal}
 use Rattle.std.proofs.Math.Dec.{eqb-suc-zero}
-use Rattle.mx_vclock.specs.Text.{components, separated, text_of}
+use Rattle.mx_vclock.specs.Text.{component_texts, join_with, vclock_text}
 
 -- a component, the end of its id, a blank, its lsn, and then these bytes
 abbrev pub named : ℕ → ℕ → List ℕ → List ℕ
@@ -26,11 +26,11 @@ behind : List (List ℕ) → List ℕ
 behind [] = 125 ∷ []
 behind (part ∷ parts) = 44 ∷ 32 ∷ (part ++ behind parts)
 
-separated-behind : (part : List ℕ) (parts : List (List ℕ)) → separated (codes ", ") (part ∷ parts) ++ 125 ∷ [] ≡ part ++ behind parts
+separated-behind : (part : List ℕ) (parts : List (List ℕ)) → join_with (codes ", ") (part ∷ parts) ++ 125 ∷ [] ≡ part ++ behind parts
 unfolding behind
 separated-behind part [] = refl
 separated-behind part (next ∷ parts) =
-    let others = separated (codes ", ") (next ∷ parts) in
+    let others = join_with (codes ", ") (next ∷ parts) in
     append_assoc (part ++ codes ", ") others (125 ∷ [])
     ∙ append_assoc part (codes ", ") (others ++ 125 ∷ [])
     ∙ ap (λ l. part ++ 44 ∷ 32 ∷ l) (separated-behind next parts)
@@ -42,25 +42,25 @@ component_then : (id lsn : ℕ) (rest : List ℕ) → component id lsn ++ rest �
 unfolding component
 component_then id lsn rest = append_assoc (decimal id ++ codes ": ") (decimal lsn) rest ∙ append_assoc (decimal id) (codes ": ") (decimal lsn ++ rest)
 
-behind_is_more : (id : ℕ) (lsns : List ℕ) → behind (components id lsns) ≡ more id lsns
+behind_is_more : (id : ℕ) (lsns : List ℕ) → behind (component_texts id lsns) ≡ more id lsns
 unfolding behind component
 behind_is_more id [] = refl
 behind_is_more id (zero ∷ lsns) = behind_is_more (suc id) lsns
 behind_is_more id (suc lsn ∷ lsns) =
-    ap (λ t. behind (cond t (components (suc id) lsns) (component id (suc lsn) ∷ components (suc id) lsns))) (eqb-suc-zero lsn)
+    ap (λ t. behind (cond t (component_texts (suc id) lsns) (component id (suc lsn) ∷ component_texts (suc id) lsns))) (eqb-suc-zero lsn)
     ∙ ap (λ l. 44 ∷ 32 ∷ l) (ap (λ l. component id (suc lsn) ++ l) (behind_is_more (suc id) lsns) ∙ component_then id (suc lsn) (more (suc id) lsns))
 
-separated_is_first : (id : ℕ) (lsns : List ℕ) → separated (codes ", ") (components id lsns) ++ 125 ∷ [] ≡ first id lsns
+separated_is_first : (id : ℕ) (lsns : List ℕ) → join_with (codes ", ") (component_texts id lsns) ++ 125 ∷ [] ≡ first id lsns
 unfolding behind component
 separated_is_first id [] = refl
 separated_is_first id (zero ∷ lsns) = separated_is_first (suc id) lsns
 separated_is_first id (suc lsn ∷ lsns) =
-    ap (λ t. separated (codes ", ") (cond t (components (suc id) lsns) (component id (suc lsn) ∷ components (suc id) lsns)) ++ 125 ∷ []) (eqb-suc-zero lsn)
-    ∙ separated-behind (component id (suc lsn)) (components (suc id) lsns)
+    ap (λ t. join_with (codes ", ") (cond t (component_texts (suc id) lsns) (component id (suc lsn) ∷ component_texts (suc id) lsns)) ++ 125 ∷ []) (eqb-suc-zero lsn)
+    ∙ separated-behind (component id (suc lsn)) (component_texts (suc id) lsns)
     ∙ ap (λ l. component id (suc lsn) ++ l) (behind_is_more (suc id) lsns)
     ∙ component_then id (suc lsn) (more (suc id) lsns)
 
-pub text_is_first : (clock : List ℕ) → text_of clock ≡ 123 ∷ first 0 clock
+pub text_is_first : (clock : List ℕ) → vclock_text clock ≡ 123 ∷ first 0 clock
 text_is_first clock = ap (λ l. 123 ∷ l) (separated_is_first 0 clock)
 
 -- the zeros and the first component of these lsns, from this id on

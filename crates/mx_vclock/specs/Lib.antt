@@ -1,4 +1,4 @@
 pub mod Places
+pub mod Spelling
 pub mod Text
 pub mod Vclocks
-pub mod Spelling

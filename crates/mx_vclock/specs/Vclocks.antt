@@ -11,11 +11,12 @@ replicas = 32
 abbrev pub max_lsn : ℕ
 max_lsn = 2 ^ 58
 
+-- an lsn for each replica id, none above the limit
 pub record IsVclock (clock : List ℕ) : Type 0 where
   pub whole : length clock ≡ replicas
   pub bounded : All (λ lsn. lsn ≤ max_lsn) clock
 
--- nowhere less
+-- for no replica id less than the other clock
 abbrev pub Covers : List ℕ → List ℕ → Type 0
 Covers clock other = (id : ℕ) → id < replicas → slice_index other id ≤ slice_index clock id
 
@@ -24,7 +25,7 @@ pub record IsNext (clock : List ℕ) (id lsn : ℕ) : Type 0 where
   pub follows : lsn ≡ suc (slice_index clock id)
   pub allowed : lsn ≤ max_lsn
 
--- how the clock stands to the other one; no answer where neither covers the other
+-- how the clock compares to the other one; no answer where neither covers the other
 abbrev pub Compares : List ℕ → List ℕ → Option Ordering → Type 0
 Compares clock other None = ¬ Covers clock other × ¬ Covers other clock
 Compares clock other (Some Less) = ¬ Covers clock other × Covers other clock

@@ -1,8 +1,8 @@
-//! An lsn that isn't the next one.
+//! The error of an lsn that isn't the next one.
 
 use thiserror::Error;
 
-/// The lsn that a replica id has, and the one that was to follow it.
+/// The lsn that a replica id has, and the one that doesn't follow it.
 #[derive(Clone, Copy, Debug, Drop, PartialEq, Eq, Error)]
 #[error("lsn {got} does not follow {has}")]
 pub struct Gap {

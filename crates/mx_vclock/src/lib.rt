@@ -1,4 +1,4 @@
-//! Vclocks: how far each replica's journal has come.
+//! Vclocks: for each replica the lsn that its journal has reached.
 #![tactic(auto)]
 
 mod gap;
@@ -10,7 +10,4 @@ mod vclock;
 
 pub use gap::Gap;
 pub use reading::BadText;
-pub use vclock::Vclock;
-
-#[cfg(test)]
-mod tests;
+pub use vclock::{MAX_LSN, REPLICAS, Vclock};

@@ -1,7 +1,7 @@
-//! Where a reader of a vclock's text stands, and where each byte takes it.
+//! The places of a reader of a vclock's text, and the steps between them.
 
 ghost use Rattle.std.specs.Prelude.{◌≡◌};
-ghost use Rattle.mx_vclock.specs.Places.{after, after_id, after_lsn, begun_id, digit, given, greatest_begun};
+ghost use Rattle.mx_vclock.specs.Places.{next_place, after_id, after_lsn, id_place, digit, place_if, greatest_id_from};
 
 use crate::vclock::{MAX_LSN, REPLICAS};
 
@@ -19,35 +19,35 @@ pub(crate) enum Place {
     Comma(usize),
     /// The blank behind a comma. The next id is this one at least.
     Next(usize),
-    /// The first digits of an id of `least` at least. They say `id`.
+    /// The first digits of an id of `least` at least. Their value is `id`.
     Id { least: usize, id: usize },
     /// The colon behind this id.
     Colon(usize),
     /// The blank behind this id's colon.
     Named(usize),
-    /// The first digits of the id's lsn, which say `lsn`.
+    /// The first digits of the id's lsn. Their value is `lsn`.
     Lsn { id: usize, lsn: u64 },
     /// The `}`.
     Done,
 }
 
-/// Where the byte takes the reader; nowhere where no text goes on with it.
-#[tactic(auto, unfolding(crate::specs::Places::after))]
-pub(crate) fn after(place: Place, byte: u8) -> Option<Place>
-    ensures { result ≡ after place byte }
+/// The place after a byte; none where no text goes on with it.
+#[tactic(auto, unfolding(crate::specs::Places::next_place))]
+pub(crate) fn next_place(place: Place, byte: u8) -> Option<Place>
+    ensures { result ≡ next_place place byte }
 {
     match place {
-        Place::Start => given(b'{', byte, Place::Open),
+        Place::Start => place_if(b'{', byte, Place::Open),
         Place::Open => {
             if byte == b'}' {
                 return Some(Place::Done);
             }
-            begun_id(0, usize::from(digit(byte)?))
+            id_place(0, usize::from(digit(byte)?))
         }
-        Place::Comma(least) => given(b' ', byte, Place::Next(least)),
-        Place::Next(least) => begun_id(least, usize::from(digit(byte)?)),
+        Place::Comma(least) => place_if(b' ', byte, Place::Next(least)),
+        Place::Next(least) => id_place(least, usize::from(digit(byte)?)),
         Place::Id { least, id } => after_id(least, id, byte),
-        Place::Colon(id) => given(b' ', byte, Place::Named(id)),
+        Place::Colon(id) => place_if(b' ', byte, Place::Named(id)),
         Place::Named(id) => {
             if byte == b'0' {
                 return None;
@@ -63,13 +63,13 @@ pub(crate) fn after(place: Place, byte: u8) -> Option<Place>
 }
 
 /// The next place, where the byte is the one that is wanted.
-fn given(wanted: u8, byte: u8, next: Place) -> Option<Place>
-    ensures { result ≡ given wanted byte next }
+fn place_if(wanted: u8, byte: u8, next: Place) -> Option<Place>
+    ensures { result ≡ place_if wanted byte next }
 {
     if byte == wanted { Some(next) } else { None }
 }
 
-/// What a decimal digit says.
+/// The value of a decimal digit.
 fn digit(byte: u8) -> Option<u8>
     ensures { result ≡ digit byte }
 {
@@ -79,19 +79,19 @@ fn digit(byte: u8) -> Option<u8>
     }
 }
 
-/// The place after an id's first digits, which say `id`, where an allowed id begins with them.
-fn begun_id(least: usize, id: usize) -> Option<Place>
-    ensures { result ≡ begun_id least id }
+/// The place after an id's first digits, whose value is `id`, where an allowed id begins with them.
+fn id_place(least: usize, id: usize) -> Option<Place>
+    ensures { result ≡ id_place least id }
 {
-    if id > MAX_ID || greatest_begun(id) < least {
+    if id > MAX_ID || greatest_id_from(id) < least {
         return None;
     }
     Some(Place::Id { least, id })
 }
 
 /// The greatest id that begins with the digits of `id`, or a number above the greatest of all.
-fn greatest_begun(id: usize) -> usize
-    ensures { result ≡ greatest_begun id }
+fn greatest_id_from(id: usize) -> usize
+    ensures { result ≡ greatest_id_from id }
 {
     match id {
         1..=3 => 10 * id + 9,
@@ -105,7 +105,7 @@ fn after_id(least: usize, id: usize, byte: u8) -> Option<Place>
 {
     match id {
         _ if byte == b':' && id >= least => Some(Place::Colon(id)),
-        1..=3 => begun_id(least, 10 * id + usize::from(digit(byte)?)),
+        1..=3 => id_place(least, 10 * id + usize::from(digit(byte)?)),
         _ => None,
     }
 }

@@ -1,9 +1,9 @@
 //! Reading the text of a vclock.
 
 ghost use Rattle.std.specs.Prelude.{◌≡◌, MatchResult};
-ghost use Rattle.mx_vclock.specs.Text.{text_of, IsFaultAt};
+ghost use Rattle.mx_vclock.specs.Text.{vclock_text, IsFaultAt};
 
-use crate::place::{Place, after};
+use crate::place::{Place, next_place};
 use crate::vclock::{REPLICAS, Vclock};
 use thiserror::Error;
 
@@ -21,12 +21,12 @@ impl Vclock {
     /// # Errors
     /// The bytes are no vclock's text.
     pub fn read_text(bytes: &[u8]) -> Result<Vclock, BadText>
-        ensures { MatchResult result (λ clock. bytes.now ≡ text_of clock) (λ bad. IsFaultAt bytes.now bad.at) }
+        ensures { MatchResult result (λ clock. bytes.now ≡ vclock_text clock) (λ bad. IsFaultAt bytes.now bad.at) }
     {
         let mut lsns = [0; REPLICAS];
         let mut place = Place::Start;
         for (at, byte) in bytes.iter().enumerate() {
-            let Some(next) = after(place, *byte) else {
+            let Some(next) = next_place(place, *byte) else {
                 return Err(BadText { at });
             };
             if let Place::Lsn { id, lsn } = next {

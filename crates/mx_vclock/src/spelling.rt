@@ -2,18 +2,18 @@
 
 ghost use Rattle.std.specs.Prelude.{◌≡◌, [], ◌∷◌, ◌++◌, ◌≤◌, ℕ, length, map, take, MatchResult};
 ghost use Rattle.std.specs.List.{concat};
-ghost use Rattle.mx_vclock.specs.Spelling.{clock_map, pair_text, pairs_from};
+ghost use Rattle.mx_vclock.specs.Spelling.{clock_map, component_bytes, components_from};
 
 use crate::vclock::Vclock;
 use mx_msgpack::{Bytes, write_map_head, write_unsigned};
 use std::alloc::AllocError;
 
 impl Vclock {
-    /// Adds the vclock as a map of replica ids to lsns, in the fewest bytes: its components that
-    /// aren't 0, by rising replica id, without that of the replica id 0.
+    /// Appends the vclock as a map of replica ids to lsns, in the fewest bytes: its components that
+    /// aren't 0, in ascending order of replica id, without replica id 0.
     ///
     /// # Errors
-    /// Memory ran out; nothing was added.
+    /// Nothing was appended.
     pub fn write(&self, out: &mut Bytes) -> Result<(), AllocError>
         ensures { MatchResult result (λ _. out.new ≡ out.old ++ clock_map self.now) (λ _. out.new ≡ out.old) }
     {
@@ -26,7 +26,7 @@ impl Vclock {
     }
 }
 
-/// As `Vclock::write`, but where memory ran out the front of the map may have been added.
+/// As `Vclock::write`, but out of memory a prefix of the map may have been appended.
 fn write_map(clock: &Vclock, out: &mut Bytes) -> Result<(), AllocError>
     ensures { MatchResult result (λ _. out.new ≡ out.old ++ clock_map clock.now) (λ _. take (length out.old) out.new ≡ out.old) }
 {
@@ -38,15 +38,15 @@ fn write_map(clock: &Vclock, out: &mut Bytes) -> Result<(), AllocError>
 
 /// How many of the lsns have a pair in a map.
 fn pair_count(lsns: &[u64]) -> usize
-    ensures exact { (id : ℕ) → result ≡ length (pairs_from id lsns.now) }
+    ensures exact { (id : ℕ) → result ≡ length (components_from id lsns.now) }
     ensures most { result ≤ length lsns.now }
 {
     lsns.iter().filter(|lsn| **lsn != 0).count()
 }
 
-/// Adds the pairs of these lsns, which are those of the replica ids from 1 on.
+/// Appends the pairs of these lsns, which are those of the replica ids from 1 on.
 fn write_pairs(lsns: &[u64], out: &mut Bytes) -> Result<(), AllocError>
-    ensures { MatchResult result (λ _. out.new ≡ out.old ++ concat (map pair_text (pairs_from 1 lsns.now))) (λ _. take (length out.old) out.new ≡ out.old) }
+    ensures { MatchResult result (λ _. out.new ≡ out.old ++ concat (map component_bytes (components_from 1 lsns.now))) (λ _. take (length out.old) out.new ≡ out.old) }
 {
     for (place, lsn) in lsns.iter().enumerate() {
         write_component(place as u64 + 1, *lsn, out)?;
@@ -54,9 +54,9 @@ fn write_pairs(lsns: &[u64], out: &mut Bytes) -> Result<(), AllocError>
     Ok(())
 }
 
-/// Adds the pair of a replica id and its lsn, which is none where the lsn is 0.
+/// Appends the pair of a replica id and its lsn, or nothing where the lsn is 0.
 fn write_component(id: u64, lsn: u64, out: &mut Bytes) -> Result<(), AllocError>
-    ensures { MatchResult result (λ _. out.new ≡ out.old ++ concat (map pair_text (pairs_from id (lsn ∷ [])))) (λ _. take (length out.old) out.new ≡ out.old) }
+    ensures { MatchResult result (λ _. out.new ≡ out.old ++ concat (map component_bytes (components_from id (lsn ∷ [])))) (λ _. take (length out.old) out.new ≡ out.old) }
 {
     if lsn != 0 {
         write_unsigned(id, out)?;

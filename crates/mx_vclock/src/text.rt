@@ -1,7 +1,7 @@
-//! The text of a vclock: `{}` or `{1: 5, 2: 7}`, the components that aren't 0, by rising replica id.
+//! The text of a vclock: `{}` or `{1: 5, 2: 7}`, the components that aren't 0, in ascending order of replica id.
 
 ghost use Rattle.std.specs.Prelude.{◌≡◌, IfOk};
-ghost use Rattle.mx_vclock.specs.Text.{text_of};
+ghost use Rattle.mx_vclock.specs.Text.{vclock_text};
 
 use crate::vclock::Vclock;
 use mx_msgpack::Bytes;
@@ -13,11 +13,8 @@ const MAX_TEXT: usize = 2 + 32 * (4 + 18 + 2);
 
 impl Vclock {
     /// The vclock's text.
-    ///
-    /// # Errors
-    /// Memory ran out.
     pub fn text(&self, alloc: Global) -> Result<Bytes, AllocError>
-        ensures { IfOk result (λ text. text ≡ text_of self.now) }
+        ensures { IfOk result (λ text. text ≡ vclock_text self.now) }
     {
         let mut text = String::with_capacity(alloc, MAX_TEXT)?;
         text.push('{')?;

@@ -1,4 +1,4 @@
-//! The vclock, which a contract sees as the list of its 32 lsns.
+//! The vclock, whose model is the list of its 32 lsns.
 
 ghost use Rattle.std.specs.Prelude.{◌≡◌, ◌<◌, ◌≤◌, length, IsTrue, ◌↔◌, MatchResult, sum, replicate, slice_index, slice_set};
 ghost use Rattle.mx_vclock.specs.Vclocks.{replicas, max_lsn, Covers, IsNext, Compares};
@@ -8,10 +8,10 @@ use std::cmp::Ordering;
 use std::marker::Model;
 
 /// How many replica ids there are.
-pub(crate) const REPLICAS: usize = 32;
+pub const REPLICAS: usize = 32;
 
 /// The greatest lsn.
-pub(crate) const MAX_LSN: u64 = 1 << 58;
+pub const MAX_LSN: u64 = 1 << 58;
 
 /// For each replica id from 0 to 31 the lsn that it has reached, at most 2^58; 0 where it has none.
 #[derive(Clone, Copy, Debug, Drop)]
@@ -59,7 +59,7 @@ impl Vclock {
         self.lsns[usize::from(id)] = lsn;
     }
 
-    /// The lsns in place, by replica id.
+    /// The lsns, by replica id.
     pub(crate) fn lsns(&self) -> &[u64; REPLICAS]
         ensures value { result.now ≡ self.now }
         ensures whole { length self.now ≡ replicas }
@@ -67,10 +67,10 @@ impl Vclock {
         &self.lsns
     }
 
-    /// Goes on to the replica id's next lsn.
+    /// Advances a replica id to its next lsn.
     ///
     /// # Errors
-    /// The lsn isn't the next one, or is above 2^58. The vclock is then unchanged.
+    /// The lsn isn't the next one, or is above 2^58. The vclock is unchanged.
     pub fn follow(&mut self, id: u8, lsn: u64) -> Result<(), Gap>
         requires { id < replicas }
         ensures { MatchResult result
@@ -88,7 +88,7 @@ impl Vclock {
         Ok(())
     }
 
-    /// Whether this vclock is nowhere less than the other one.
+    /// Whether for no replica id this vclock is less than the other one.
     pub fn covers(&self, other: &Vclock) -> bool
         ensures { IsTrue result ↔ Covers self.now other.now }
     {
@@ -98,7 +98,7 @@ impl Vclock {
             .all(|(lsn, least)| least <= lsn)
     }
 
-    /// How this vclock stands to the other one. There is no answer where neither covers the other.
+    /// How this vclock compares to the other one; `None` where neither covers the other.
     pub fn compare(&self, other: &Vclock) -> Option<Ordering>
         ensures { Compares self.now other.now result }
     {

@@ -1,6 +1,6 @@
 use Rattle.std.proofs.Common.{rules, arith, ◌++◌, ap, sym, ◌∙◌, ◌∷◌, [], get_or}
 use Rattle.std.specs.String.{string_bytes}
-use Rattle.mx_vclock.specs.Text.{components}
+use Rattle.mx_vclock.specs.Text.{component_texts}
 use Rattle.mx_vclock.proofs.TextLaws.{goes_on, goes_on-separated, components-skipped, goes_on-shown, goes_on-end}
 use Rattle.mx_vclock.proofs.vclock.Vclock.text.Goals as goal
 use Rattle.mx_vclock.proofs.vclock.Vclock.text.Goals.{then-lsn-ne0+in_ok-write, else-lsn-ne0}
@@ -9,7 +9,7 @@ pub loop-id-init : goal.loop-id-init
 unfolding lib.Utf8.encode
 loop-id-init c = record {
   utf8 = search rules;
-  written = rw (c.in_ok-push.ensures.bytes, c.in_ok-text.ensures.bytes) (ap (λ rest. 123 ∷ rest) (goes_on-separated (components 0 c.args.self.now)));
+  written = rw (c.in_ok-push.ensures.bytes, c.in_ok-text.ensures.bytes) (ap (λ rest. 123 ∷ rest) (goes_on-separated (component_texts 0 c.args.self.now)));
 }
 
 pub loop-id-preserved : goal.loop-id-preserved
