@@ -1,5 +1,5 @@
 -- What is read can be asked: its numbers are in their ranges, its arrays are whole, its operations have their shape.
-use Rattle.std.proofs.Common.{◌≡◌, ℕ, ◌-◌, ◌*◌, ◌+◌, ◌^◌, ◌<◌, ◌≤◌, List, [], ◌∷◌, length, get_or, Option, Some, None, Result, Ok, Err, refl, sym, ap, ◌∙◌, subst, inl, inr, length-set, arith}
+use Rattle.std.proofs.Common.{◌≡◌, ℕ, ◌-◌, ◌*◌, ◌+◌, ◌^◌, ◌<◌, ◌≤◌, List, [], ◌∷◌, length, get_or, Option, Some, None, Result, Ok, refl, sym, ap, ◌∙◌, subst, inl, inr, length-set, arith}
 use Rattle.std.specs.Prelude.{true, nat_lt, nat_le, ◌==◌, ◌&&◌, if◌then◌else◌, replicate, slice_set, slice_index}
 use Rattle.std.specs.List.{list_all}
 use Rattle.std.proofs.lemmas.Bool.{and_parts, cases_lt, cond_both, eqb-true, leb-true}
@@ -10,25 +10,26 @@ use Rattle.std.proofs.lemmas.List.Sums.{AllPass-from_list_all}
 use Rattle.uuid.specs.Text.{by_index, parsed_simple, parsed_hyphenated, digits_of, has_hyphens, is_hex_digit, value_of, byte_of_digits}
 use Rattle.uuid.proofs.TextLemmas.{by_index_length, by_index_at}
 use Rattle.mx_base.specs.declared.refusal.Refusal.{Refusal}
-use Rattle.mx_msgpack.specs.declared.bad.Bad.{Bad}
-use Rattle.mx_msgpack.specs.Reading.{reading_of, Shown, ShownNil, ShownBool, ShownInt, ShownStr, ShownBin, ShownArray, ShownMap, ShownOpaque}
-use Rattle.mx_msgpack.proofs.Options.{bind_some, allowed, same_some}
+use Rattle.mx_msgpack.specs.Reading.{reading_of, ShownArray}
+use Rattle.mx_msgpack.specs.Projections.{as_text, as_array, as_map, first_as}
+use Rattle.mx_msgpack.proofs.ProjectionLaws.{first_as_read, array_is}
+use Rattle.mx_msgpack.proofs.Results.{bind_ok}
+use Rattle.mx_msgpack.proofs.Options.{bind_some, allowed, mapped_some, same_some}
 use Rattle.mx_vclock.specs.Vclocks.{replicas, max_lsn, IsVclock}
 use Rattle.mx_request.specs.declared.request.Head3.{Head3}
 use Rattle.mx_request.specs.declared.request.Request.{Request}
 use Rattle.mx_request.specs.declared.request.Request.TheVariants.{Nop, Ping, Commit, Rollback, Id}
-use Rattle.mx_request.specs.Maps.{Pair, pairs_from, pairs_in, value_under}
-use Rattle.mx_request.specs.Kinds.{unsigned_in, number_to, number_32, array_shown, array_in, uuid_shown, uuid_in, clock_from, clock_shown, clock_in}
+use Rattle.mx_msgpack.specs.Maps.{Pair, pairs_from, pairs_in, value_under}
+use Rattle.mx_request.specs.Values.{number_to, number_32, array_in, uuid_in, vclock_from, vclock_in}
+use Rattle.mx_msgpack.specs.Readers.{unsigned_in}
 use Rattle.mx_request.specs.Operators.{shape_fault}
-use Rattle.mx_request.specs.Requests.{◌>>=◌, right_kind, required_value, optional_value, required, optional, shaped, operations_in, select_in, insert_in, replace_in, update_in, delete_in, upsert_in, begin_in, join_in, subscribe_in, ack_in, Kind, AckKind, SelectKind, InsertKind, ReplaceKind, UpdateKind, DeleteKind, UpsertKind, NopKind, BeginKind, CommitKind, RollbackKind, PingKind, JoinKind, SubscribeKind, IdKind, zero_kind, kind_of, body_ask, asked_in}
-use Rattle.mx_request.specs.Spelling.{IsInnerArray, IsUuid, AreOperations, IsAskable, kind_number}
+use Rattle.mx_request.specs.Requests.{legal_value, required_value, optional_value, required, optional, shaped, operations_in, select_in, insert_in, replace_in, update_in, delete_in, upsert_in, begin_in, join_in, subscribe_in, ack_in, zero_type, request_type_of, body_request, request_in}
+use Rattle.mx_request.specs.declared.request_type.RequestType.{RequestType}
+use Rattle.mx_request.specs.declared.request_type.RequestType.TheVariants as type
+use Rattle.mx_request.specs.Spelling.{IsInnerArray, IsUuid, AreOperations, IsAskable, type_number}
 use Rattle.mx_request.proofs.InnerLaws.{IsInner, AreInner, under_inner, array_inner, body_inner}
 
 -- ---- steps that may refuse
-
-bind_ok : {A B : Type 0} (r : Result A Refusal) (f : A → Result B Refusal) (y : B) → (r >>= f) ≡ Ok y → (x : A) × (r ≡ Ok x) × (f x ≡ Ok y)
-bind_ok (Ok x) f y e = (x, refl, e)
-bind_ok (Err refusal) f y e = absurd cc
 
 abbrev done : {A : Type 0} → A → Result A Refusal
 done x = Ok x
@@ -36,7 +37,7 @@ done x = Ok x
 ok_is : {A : Type 0} (x y : A) → done x ≡ done y → x ≡ y
 ok_is x y e = cc
 
-right_is : {X : Type 0} (key : ℕ) (o : Option X) (x : X) → right_kind key o ≡ Ok x → o ≡ Some x
+right_is : {X : Type 0} (key : ℕ) (o : Option X) (x : X) → legal_value key o ≡ Ok x → o ≡ Some x
 right_is key None x e = absurd cc
 right_is key (Some y) x e = cc
 
@@ -67,21 +68,18 @@ optional_number : (most key default : ℕ) (pairs : List Pair) (x : ℕ) → def
 optional_number most key default pairs x given e =
     optional_is (λ (n : ℕ). n ≤ most) key default (number_to most) (value_under key pairs) x given (λ value k. number_most most value x k) e
 
-array_is : (value : List ℕ) (read : Result (Shown × ℕ) Bad) (x : List ℕ) → IsInner value → reading_of value ≡ read → array_shown value read ≡ Some x → IsInnerArray x
-array_is value (Err bad) x inner r e = absurd cc
-array_is value (Ok (ShownNil, size)) x inner r e = absurd cc
-array_is value (Ok (ShownBool truth, size)) x inner r e = absurd cc
-array_is value (Ok (ShownInt number, size)) x inner r e = absurd cc
-array_is value (Ok (ShownStr text, size)) x inner r e = absurd cc
-array_is value (Ok (ShownBin content, size)) x inner r e = absurd cc
-array_is value (Ok (ShownArray count items, size)) x inner r e = subst IsInnerArray (same_some value x e) (array_inner value count items size inner r)
-array_is value (Ok (ShownMap count items, size)) x inner r e = absurd cc
-array_is value (Ok (ShownOpaque spelling, size)) x inner r e = absurd cc
+array_inside : (value x : List ℕ) → IsInner value → array_in value ≡ Some x → IsInnerArray x
+array_inside value x inner e =
+    let array = mapped_some (λ (array : ℕ × List ℕ). value) (first_as as_array value) x e in
+    let first = first_as_read as_array value array.0 array.1 in
+    let what = array_is first.0 array.0 first.3 in
+    let read : reading_of value ≡ Ok (ShownArray array.0.0 array.0.1, first.1) = first.2 ∙ (λ i. Ok (what i, first.1)) in
+    subst IsInnerArray array.2 (array_inner value array.0.0 array.0.1 first.1 inner read)
 
 required_array : (key : ℕ) (pairs : List Pair) (x : List ℕ) → AreInner pairs → required key array_in pairs ≡ Ok x → IsInnerArray x
 required_array key pairs x inner e =
     required_is IsInnerArray key array_in (value_under key pairs) x
-    (λ value u k. array_is value (reading_of value) x (under_inner key pairs value inner u) refl k) e
+    (λ value u k. array_inside value x (under_inner key pairs value inner u) k) e
 
 shaped_is : (operations x : List ℕ) → operations_in operations ≡ Ok x → (shape_fault operations ≡ None) × (operations ≡ x)
 shaped_is operations x e = by_fault (shape_fault operations) refl e
@@ -124,19 +122,11 @@ simple_is text x e =
 hyphenated_is : (text x : List ℕ) → parsed_hyphenated text ≡ Some x → IsUuid x
 hyphenated_is text x e = simple_is (digits_of text) x (allowed ((length text == 36) && has_hyphens text) (parsed_simple (digits_of text)) x e).1
 
-uuid_is : (read : Result (Shown × ℕ) Bad) (x : List ℕ) → uuid_shown read ≡ Some x → IsUuid x
-uuid_is (Err bad) x e = absurd cc
-uuid_is (Ok (ShownNil, size)) x e = absurd cc
-uuid_is (Ok (ShownBool truth, size)) x e = absurd cc
-uuid_is (Ok (ShownInt number, size)) x e = absurd cc
-uuid_is (Ok (ShownStr text, size)) x e = hyphenated_is text x e
-uuid_is (Ok (ShownBin content, size)) x e = absurd cc
-uuid_is (Ok (ShownArray count items, size)) x e = absurd cc
-uuid_is (Ok (ShownMap count items, size)) x e = absurd cc
-uuid_is (Ok (ShownOpaque spelling, size)) x e = absurd cc
+uuid_is : (value x : List ℕ) → uuid_in value ≡ Some x → IsUuid x
+uuid_is value x e = let text = bind_some (first_as as_text value) parsed_hyphenated x e in hyphenated_is text.0 x text.2
 
 required_uuid : (key : ℕ) (pairs : List Pair) (x : List ℕ) → required key uuid_in pairs ≡ Ok x → IsUuid x
-required_uuid key pairs x e = required_is IsUuid key uuid_in (value_under key pairs) x (λ value _ k. uuid_is (reading_of value) x k) e
+required_uuid key pairs x e = required_is IsUuid key uuid_in (value_under key pairs) x (λ value _ k. uuid_is value x k) e
 
 clock_set : (clock : List ℕ) (id lsn : ℕ) → IsVclock clock → lsn ≤ max_lsn → IsVclock (slice_set clock id lsn)
 clock_set clock id lsn c most = record {
@@ -144,37 +134,31 @@ clock_set clock id lsn c most = record {
   bounded = All-set (λ n. n ≤ max_lsn) clock id lsn most c.bounded;
 }
 
-clock_more : (clock : List ℕ) (pairs : List Pair) (x : List ℕ) → IsVclock clock → clock_from clock pairs ≡ Some x → IsVclock x
+clock_more : (clock : List ℕ) (pairs : List Pair) (x : List ℕ) → IsVclock clock → vclock_from clock pairs ≡ Some x → IsVclock x
 clock_more clock [] x c e = subst (λ (l : List ℕ). IsVclock l) (same_some clock x e) c
 clock_more clock (pair ∷ others) x c e =
     let id = bind_some pair.key _ x e in
-    let lsn = bind_some (number_to max_lsn pair.value) (λ lsn. if nat_lt id.0 replicas then clock_from (slice_set clock id.0 lsn) others else None) x id.2 in
-    let t = allowed (nat_lt id.0 replicas) (clock_from (slice_set clock id.0 lsn.0) others) x lsn.2 in
+    let lsn = bind_some (number_to max_lsn pair.value) (λ lsn. if nat_lt id.0 replicas then vclock_from (slice_set clock id.0 lsn) others else None) x id.2 in
+    let t = allowed (nat_lt id.0 replicas) (vclock_from (slice_set clock id.0 lsn.0) others) x lsn.2 in
     clock_more (slice_set clock id.0 lsn.0) others x (clock_set clock id.0 lsn.0 c (number_most max_lsn pair.value lsn.0 lsn.1)) t.1
 
 clock_empty : IsVclock (replicate replicas 0)
 clock_empty = record { whole = refl; bounded = All-replicate (λ n. n ≤ max_lsn) replicas 0 (omega arith) }
 
-clock_is : (read : Result (Shown × ℕ) Bad) (x : List ℕ) → clock_shown read ≡ Some x → IsVclock x
-clock_is (Err bad) x e = absurd cc
-clock_is (Ok (ShownNil, size)) x e = absurd cc
-clock_is (Ok (ShownBool truth, size)) x e = absurd cc
-clock_is (Ok (ShownInt number, size)) x e = absurd cc
-clock_is (Ok (ShownStr text, size)) x e = absurd cc
-clock_is (Ok (ShownBin content, size)) x e = absurd cc
-clock_is (Ok (ShownArray count items, size)) x e = absurd cc
-clock_is (Ok (ShownMap count items, size)) x e = clock_more (replicate replicas 0) (pairs_from count items) x clock_empty e
-clock_is (Ok (ShownOpaque spelling, size)) x e = absurd cc
+clock_is : (value x : List ℕ) → vclock_in value ≡ Some x → IsVclock x
+clock_is value x e =
+    let pairs = bind_some (first_as as_map value) _ x e in
+    clock_more (replicate replicas 0) (pairs_from pairs.0.0 pairs.0.1) x clock_empty pairs.2
 
-required_clock : (key : ℕ) (pairs : List Pair) (x : List ℕ) → required key clock_in pairs ≡ Ok x → IsVclock x
+required_clock : (key : ℕ) (pairs : List Pair) (x : List ℕ) → required key vclock_in pairs ≡ Ok x → IsVclock x
 required_clock key pairs x e =
-    required_is (λ (l : List ℕ). IsVclock l) key clock_in (value_under key pairs) x (λ value _ k. clock_is (reading_of value) x k) e
+    required_is (λ (l : List ℕ). IsVclock l) key vclock_in (value_under key pairs) x (λ value _ k. clock_is value x k) e
 
 -- ---- the requests
 
 -- it can be asked, and has this number
 abbrev Asks : ℕ → Request → Type 0
-Asks number request = IsAskable request × (number ≡ kind_number request)
+Asks number request = IsAskable request × (number ≡ type_number request)
 
 -- so is what is read, where it is this request
 asks : (number : ℕ) (one request : Request) → done one ≡ done request → Asks number one → Asks number request
@@ -286,7 +270,7 @@ module _ (body : List Pair) (request : Request) (inner : AreInner body) where
   subscribe_askable e =
       let instance = bind_ok (required 0x24 uuid_in body) _ request e in
       let set = bind_ok (required 0x25 uuid_in body) _ request instance.2 in
-      let clock = bind_ok (required 0x26 clock_in body) _ request set.2 in
+      let clock = bind_ok (required 0x26 vclock_in body) _ request set.2 in
       asks 66 _ request clock.2 (
         (
           required_uuid 0x24 body instance.0 instance.1,
@@ -299,92 +283,92 @@ module _ (body : List Pair) (request : Request) (inner : AreInner body) where
   ack_askable : ack_in body ≡ Ok request → Asks 0 request
   unfolding ack_in
   ack_askable e =
-      let clock = bind_ok (required 0x26 clock_in body) _ request e in
+      let clock = bind_ok (required 0x26 vclock_in body) _ request e in
       asks 0 _ request clock.2 (required_clock 0x26 body clock.0 clock.1, refl)
 
 -- the number of a kind
-abbrev type_of : Kind → ℕ
-type_of AckKind = 0
-type_of SelectKind = 1
-type_of InsertKind = 2
-type_of ReplaceKind = 3
-type_of UpdateKind = 4
-type_of DeleteKind = 5
-type_of UpsertKind = 9
-type_of NopKind = 12
-type_of BeginKind = 14
-type_of CommitKind = 15
-type_of RollbackKind = 16
-type_of PingKind = 64
-type_of JoinKind = 65
-type_of SubscribeKind = 66
-type_of IdKind = 73
+abbrev number_of_type : RequestType → ℕ
+number_of_type type.Ack = 0
+number_of_type type.Select = 1
+number_of_type type.Insert = 2
+number_of_type type.Replace = 3
+number_of_type type.Update = 4
+number_of_type type.Delete = 5
+number_of_type type.Upsert = 9
+number_of_type type.Nop = 12
+number_of_type type.Begin = 14
+number_of_type type.Commit = 15
+number_of_type type.Rollback = 16
+number_of_type type.Ping = 64
+number_of_type type.Join = 65
+number_of_type type.Subscribe = 66
+number_of_type type.Id = 73
 
-ask_askable : (kind : Kind) (body : List Pair) (request : Request) → AreInner body → body_ask kind body ≡ Ok request → Asks (type_of kind) request
-ask_askable AckKind body request inner e = ack_askable body request inner e
-ask_askable SelectKind body request inner e = select_askable body request inner e
-ask_askable InsertKind body request inner e = insert_askable body request inner e
-ask_askable ReplaceKind body request inner e = replace_askable body request inner e
-ask_askable UpdateKind body request inner e = update_askable body request inner e
-ask_askable DeleteKind body request inner e = delete_askable body request inner e
-ask_askable UpsertKind body request inner e = upsert_askable body request inner e
-ask_askable NopKind body request inner e = asks 12 Nop request e (tt, refl)
-ask_askable BeginKind body request inner e = begin_askable body request inner e
-ask_askable CommitKind body request inner e = asks 15 Commit request e (tt, refl)
-ask_askable RollbackKind body request inner e = asks 16 Rollback request e (tt, refl)
-ask_askable PingKind body request inner e = asks 64 Ping request e (tt, refl)
-ask_askable JoinKind body request inner e = join_askable body request inner e
-ask_askable SubscribeKind body request inner e = subscribe_askable body request inner e
-ask_askable IdKind body request inner e = asks 73 Id request e (tt, refl)
+ask_askable : (kind : RequestType) (body : List Pair) (request : Request) → AreInner body → body_request kind body ≡ Ok request → Asks (number_of_type kind) request
+ask_askable type.Ack body request inner e = ack_askable body request inner e
+ask_askable type.Select body request inner e = select_askable body request inner e
+ask_askable type.Insert body request inner e = insert_askable body request inner e
+ask_askable type.Replace body request inner e = replace_askable body request inner e
+ask_askable type.Update body request inner e = update_askable body request inner e
+ask_askable type.Delete body request inner e = delete_askable body request inner e
+ask_askable type.Upsert body request inner e = upsert_askable body request inner e
+ask_askable type.Nop body request inner e = asks 12 Nop request e (tt, refl)
+ask_askable type.Begin body request inner e = begin_askable body request inner e
+ask_askable type.Commit body request inner e = asks 15 Commit request e (tt, refl)
+ask_askable type.Rollback body request inner e = asks 16 Rollback request e (tt, refl)
+ask_askable type.Ping body request inner e = asks 64 Ping request e (tt, refl)
+ask_askable type.Join body request inner e = join_askable body request inner e
+ask_askable type.Subscribe body request inner e = subscribe_askable body request inner e
+ask_askable type.Id body request inner e = asks 73 Id request e (tt, refl)
 
 -- ---- the type
 
-zero_is : (found : Option (List ℕ)) (kind : Kind) → zero_kind found ≡ Ok kind → type_of kind ≡ 0
+zero_is : (found : Option (List ℕ)) (kind : RequestType) → zero_type found ≡ Ok kind → number_of_type kind ≡ 0
 zero_is None kind e = absurd cc
-zero_is (Some clock) kind e = ap type_of (sym (ok_is AckKind kind e))
+zero_is (Some clock) kind e = ap number_of_type (sym (ok_is type.Ack kind e))
 
 -- the number that was tested is this kind's
-picked : (number : ℕ) (one kind : Kind) → (number == type_of one) ≡ true → done one ≡ done kind → number ≡ type_of kind
-picked number one kind t e = eqb-true number (type_of one) t ∙ ap type_of (ok_is one kind e)
+picked : (number : ℕ) (one kind : RequestType) → (number == number_of_type one) ≡ true → done one ≡ done kind → number ≡ number_of_type kind
+picked number one kind t e = eqb-true number (number_of_type one) t ∙ ap number_of_type (ok_is one kind e)
 
-kind_is : (number : ℕ) (body : List Pair) (kind : Kind) → kind_of number body ≡ Ok kind → number ≡ type_of kind
-unfolding kind_of
+kind_is : (number : ℕ) (body : List Pair) (kind : RequestType) → request_type_of number body ≡ Ok kind → number ≡ number_of_type kind
+unfolding request_type_of
 kind_is number body kind e =
-    let P = λ (r : Result Kind Refusal). r ≡ Ok kind → number ≡ type_of kind in
+    let P = λ (r : Result RequestType Refusal). r ≡ Ok kind → number ≡ number_of_type kind in
     (cond_both (number == 0) _ _ P (λ t k. eqb-true number 0 t ∙ sym (zero_is (value_under 0x26 body) kind k)) (λ _.
-    cond_both (number == 1) _ _ P (picked number SelectKind kind) (λ _.
-    cond_both (number == 2) _ _ P (picked number InsertKind kind) (λ _.
-    cond_both (number == 3) _ _ P (picked number ReplaceKind kind) (λ _.
-    cond_both (number == 4) _ _ P (picked number UpdateKind kind) (λ _.
-    cond_both (number == 5) _ _ P (picked number DeleteKind kind) (λ _.
+    cond_both (number == 1) _ _ P (picked number type.Select kind) (λ _.
+    cond_both (number == 2) _ _ P (picked number type.Insert kind) (λ _.
+    cond_both (number == 3) _ _ P (picked number type.Replace kind) (λ _.
+    cond_both (number == 4) _ _ P (picked number type.Update kind) (λ _.
+    cond_both (number == 5) _ _ P (picked number type.Delete kind) (λ _.
     cond_both (number == 7) _ _ P (λ _ k. absurd cc) (λ _.
-    cond_both (number == 9) _ _ P (picked number UpsertKind kind) (λ _.
-    cond_both (number == 12) _ _ P (picked number NopKind kind) (λ _.
-    cond_both (number == 14) _ _ P (picked number BeginKind kind) (λ _.
-    cond_both (number == 15) _ _ P (picked number CommitKind kind) (λ _.
-    cond_both (number == 16) _ _ P (picked number RollbackKind kind) (λ _.
-    cond_both (number == 64) _ _ P (picked number PingKind kind) (λ _.
-    cond_both (number == 65) _ _ P (picked number JoinKind kind) (λ _.
-    cond_both (number == 66) _ _ P (picked number SubscribeKind kind) (λ _.
-    cond_both (number == 73) _ _ P (picked number IdKind kind) (λ _ k. absurd cc))))))))))))))))) e
+    cond_both (number == 9) _ _ P (picked number type.Upsert kind) (λ _.
+    cond_both (number == 12) _ _ P (picked number type.Nop kind) (λ _.
+    cond_both (number == 14) _ _ P (picked number type.Begin kind) (λ _.
+    cond_both (number == 15) _ _ P (picked number type.Commit kind) (λ _.
+    cond_both (number == 16) _ _ P (picked number type.Rollback kind) (λ _.
+    cond_both (number == 64) _ _ P (picked number type.Ping kind) (λ _.
+    cond_both (number == 65) _ _ P (picked number type.Join kind) (λ _.
+    cond_both (number == 66) _ _ P (picked number type.Subscribe kind) (λ _.
+    cond_both (number == 73) _ _ P (picked number type.Id kind) (λ _ k. absurd cc))))))))))))))))) e
 
 -- ---- the law
 
-pub pairs_askable : (header body : List Pair) (head : Head3) (request : Request) → AreInner body → asked_in header body ≡ Ok (head, request)
-    → IsAskable request × (head.kind ≡ kind_number request)
-unfolding asked_in
+pub pairs_askable : (header body : List Pair) (head : Head3) (request : Request) → AreInner body → request_in header body ≡ Ok (head, request)
+    → IsAskable request × (head.kind ≡ type_number request)
+unfolding request_in
 pairs_askable header body head request inner e =
     let number = bind_ok (optional 0x00 0 unsigned_in header) _ (head, request) e in
-    let kind = bind_ok (kind_of number.0 body) _ (head, request) number.2 in
+    let kind = bind_ok (request_type_of number.0 body) _ (head, request) number.2 in
     let sync = bind_ok (optional 0x01 0 unsigned_in header) _ (head, request) kind.2 in
     let stream = bind_ok (optional 0x0a 0 unsigned_in header) _ (head, request) sync.2 in
-    let asked = bind_ok (body_ask kind.0 body) _ (head, request) stream.2 in
+    let asked = bind_ok (body_request kind.0 body) _ (head, request) stream.2 in
     let same = ok_is _ (head, request) asked.2 in
     let a = ask_askable kind.0 body asked.0 inner asked.1 in
     let is = ap (λ (x : Head3 × Request). x.1) same in
     let number-is : head.kind ≡ number.0 = sym (ap (λ (x : Head3 × Request). x.0.kind) same) in
-    (subst (λ (r : Request). IsAskable r) is a.0, number-is ∙ kind_is number.0 body kind.0 kind.1 ∙ a.1 ∙ ap (λ (r : Request). kind_number r) is)
+    (subst (λ (r : Request). IsAskable r) is a.0, number-is ∙ kind_is number.0 body kind.0 kind.1 ∙ a.1 ∙ ap (λ (r : Request). type_number r) is)
 
-pub asked_is_askable : (header body : List ℕ) (head : Head3) (request : Request) → asked_in (pairs_in header) (pairs_in body) ≡ Ok (head, request)
-    → IsAskable request × (head.kind ≡ kind_number request)
+pub asked_is_askable : (header body : List ℕ) (head : Head3) (request : Request) → request_in (pairs_in header) (pairs_in body) ≡ Ok (head, request)
+    → IsAskable request × (head.kind ≡ type_number request)
 asked_is_askable header body head request e = pairs_askable (pairs_in header) (pairs_in body) head request (body_inner body) e

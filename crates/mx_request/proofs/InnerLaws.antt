@@ -1,24 +1,24 @@
 -- The values that stand in a map: each is spelled whole, with room for one container less than the map.
-use Rattle.std.proofs.Common.{◌≡◌, ℕ, ◌-◌, ◌≤◌, List, [], ◌∷◌, ◌++◌, length, take, Option, Some, None, Result, Ok, Err, refl, sym, ap, ◌∙◌, subst, append_assoc, arith}
-use Rattle.std.specs.Prelude.{pos, ⊤, Bool, true, false, if◌then◌else◌}
-use Rattle.std.proofs.lemmas.List.{append-nil, take_at, drop_at, length-append}
-use Rattle.mx_msgpack.specs.declared.bad.Bad.{Bad}
+use Rattle.std.proofs.Common.{◌≡◌, ℕ, ◌-◌, ◌≤◌, List, [], ◌∷◌, ◌++◌, length, take, Option, Some, None, Ok, refl, sym, ap, ◌∙◌, subst, append_assoc, arith}
+use Rattle.std.specs.Prelude.{⊤, Bool, true, false, if◌then◌else◌}
+use Rattle.std.proofs.lemmas.List.{append-nil, length-append}
 use Rattle.mx_msgpack.specs.Grammar.{Value, Pairs, NoPair, MorePairs, pair_count, Spells, SpellsPairs}
-use Rattle.mx_msgpack.specs.Reading.{head_at, after_value, reading_of, Shown, ShownNil, ShownBool, ShownInt, ShownStr, ShownBin, ShownArray, ShownMap, ShownOpaque, shown}
+use Rattle.mx_msgpack.specs.Reading.{head_at, after_first, reading_of, Shown, ShownArray, ShownMap, shown}
 use Rattle.mx_msgpack.specs.View.{Shows}
 use Rattle.mx_msgpack.proofs.Results.{bind_ok, ok_is}
 use Rattle.mx_msgpack.proofs.ValueLaws.{measured_ok}
 use Rattle.mx_msgpack.proofs.Heads.{head_spelled}
 use Rattle.mx_msgpack.proofs.GrammarLaws.{value_again}
 use Rattle.mx_msgpack.proofs.ContainerLaws.{array_spelled}
-use Rattle.mx_msgpack.specs.Grammar as grammar
-use Rattle.mx_msgpack.specs.Readers.{unsigned_at}
-use Rattle.mx_msgpack.proofs.UnsignedLaws.{unsigned_spelled}
-use Rattle.mx_msgpack.proofs.FrontLaws.{roomier, measured_again}
 use Rattle.mx_msgpack.proofs.Options.{same_some}
 use Rattle.mx_msgpack.proofs.Shown.{Seen, value_seen}
-use Rattle.mx_request.specs.Maps as maps
-use Rattle.mx_request.specs.Maps.{Pair, parted, first_value, is_key, later, pairs_from, pairs_shown, pairs_in, value_under}
+use Rattle.mx_msgpack.specs.Maps.{Pair, is_key, pairs_from, pairs_in, value_under}
+use Rattle.mx_msgpack.proofs.LookupLaws.{later}
+use Rattle.mx_msgpack.proofs.ItemLaws.{first_is}
+use Rattle.mx_msgpack.proofs.ProjectionLaws.{first_read}
+use Rattle.mx_msgpack.specs.Projections.{as_map, shown_first}
+use Rattle.std.specs.Option.{option_map_or, option_and_then}
+use Rattle.mx_msgpack.specs.Items.{after_value}
 use Rattle.mx_request.specs.Spelling.{IsInnerArray}
 
 -- one value that stands in a map
@@ -32,20 +32,6 @@ AreInner (pair ∷ others) = IsInner pair.value × AreInner others
 
 -- ---- what stands first
 
--- a value that stands first, and the bytes after it
-pub first_is : (value : Value) (front rest : List ℕ) → Spells 63 value front → (first_value (front ++ rest) ≡ front) × (maps.after_value (front ++ rest) ≡ rest)
-first_is value front rest s =
-    let size = measured_again value front rest (roomier 63 value front s) in (
-      ap (λ r. (parted (front ++ rest) r).0) size ∙ take_at front rest (length front) refl,
-      ap (λ r. (parted (front ++ rest) r).1) size ∙ drop_at front rest (length front) refl,
-    )
-
--- a number of 0 or more, and the bytes after it
-pub key_passed : (bytes : List ℕ) (found : ℕ × List ℕ) → unsigned_at bytes ≡ Some found → maps.after_value bytes ≡ found.1
-key_passed bytes found e =
-    let s = unsigned_spelled bytes found e in
-    ap maps.after_value s.1 ∙ (first_is (grammar.Int (pos found.0)) s.0 found.1 s.2).1
-
 seen_value : (bytes : List ℕ) (seen what : Shown) (n size : ℕ) → Seen bytes seen n → reading_of bytes ≡ Ok (what, size) → (value : Value) × Shows what value
 seen_value bytes seen what n size s e =
     let same = ap (λ (x : Shown × ℕ). x.0) (ok_is (seen, n) (what, size) (sym s.exact ∙ e)) in
@@ -56,7 +42,7 @@ pub shown_value : (bytes : List ℕ) (what : Shown) (size : ℕ) → reading_of 
 unfolding reading_of
 shown_value bytes what size e =
     let a = bind_ok (head_at 0 bytes) _ (what, size) e in
-    let b = bind_ok (after_value (length bytes) 64 bytes) (λ rest. Ok (shown a.0.0 (take (length a.0.1 - length rest) a.0.1) (take (length bytes - length rest) bytes), length bytes - length rest)) (what, size) a.2 in
+    let b = bind_ok (after_first (length bytes) 64 bytes) (λ rest. Ok (shown a.0.0 (take (length a.0.1 - length rest) a.0.1) (take (length bytes - length rest) bytes), length bytes - length rest)) (what, size) a.2 in
     let h = head_spelled 0 bytes a.0.0 a.0.1 a.1 in
     let l = ap length h.1 ∙ length-append h.0 a.0.1 in
     let short : length a.0.1 ≤ length bytes = omega arith in
@@ -69,25 +55,20 @@ pub pairs_inner : (pairs : Pairs) (items : List ℕ) → SpellsPairs 63 pairs it
 pairs_inner NoPair items e = tt
 pairs_inner (MorePairs key value others) items (front, middle, rest, e, s, t, ss) =
     let whole = e ∙ append_assoc front middle rest in
-    let behind = ap maps.after_value whole ∙ (first_is key front (middle ++ rest) s).1 in
+    let behind = ap after_value whole ∙ (first_is key front (middle ++ rest) s).1 in
     let here = first_is value middle rest t in
     rw (behind, here.0, here.1) ((value, t), pairs_inner others rest ss)
 
-map_inner : (bytes : List ℕ) (read : Result (Shown × ℕ) Bad) → reading_of bytes ≡ read → AreInner (pairs_shown read)
-map_inner bytes (Err bad) e = tt
-map_inner bytes (Ok (ShownNil, size)) e = tt
-map_inner bytes (Ok (ShownBool truth, size)) e = tt
-map_inner bytes (Ok (ShownInt number, size)) e = tt
-map_inner bytes (Ok (ShownStr text, size)) e = tt
-map_inner bytes (Ok (ShownBin content, size)) e = tt
-map_inner bytes (Ok (ShownArray count items, size)) e = tt
-map_inner bytes (Ok (ShownMap count items, size)) e =
-    let v = shown_value bytes (ShownMap count items) size e in
+map_inner : (bytes : List ℕ) (first : Option (Shown × ℕ)) → shown_first bytes ≡ first
+    → AreInner (option_map_or (λ (map : ℕ × List ℕ). pairs_from map.0 map.1) (option_and_then (λ (f : Shown × ℕ). as_map f.0) first) [])
+map_inner bytes None e = tt
+map_inner bytes (Some (ShownMap count items, size)) e =
+    let v = shown_value bytes (ShownMap count items) size (first_read bytes (ShownMap count items, size) e) in
     rw v.1.2 (pairs_inner v.1.0 items v.1.3)
-map_inner bytes (Ok (ShownOpaque spelling, size)) e = tt
+map_inner bytes (Some _) e = tt
 
 pub body_inner : (bytes : List ℕ) → AreInner (pairs_in bytes)
-body_inner bytes = map_inner bytes (reading_of bytes) refl
+body_inner bytes = map_inner bytes (shown_first bytes) refl
 
 -- ---- the value of a key
 
@@ -106,5 +87,5 @@ under_inner key (pair ∷ others) value (here, rest) e =
 -- one that shows an array
 pub array_inner : (bytes : List ℕ) (count : ℕ) (items : List ℕ) (size : ℕ) → IsInner bytes → reading_of bytes ≡ Ok (ShownArray count items, size) → IsInnerArray bytes
 array_inner bytes count items size (value, s) e =
-    let alone : after_value 0 63 bytes ≡ Ok [] = ap (after_value 0 63) (sym (append-nil bytes)) ∙ value_again 0 63 value bytes [] s in
+    let alone : after_first 0 63 bytes ≡ Ok [] = ap (after_first 0 63) (sym (append-nil bytes)) ∙ value_again 0 63 value bytes [] s in
     array_spelled 0 62 bytes count items size alone e

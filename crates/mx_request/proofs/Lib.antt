@@ -1,6 +1,5 @@
-mod KindLaws
+mod ValueLaws
 mod OperatorLaws
-mod PairLaws
 pub mod AskableLaws
 pub mod InnerLaws
 pub mod WriterLaws

@@ -6,16 +6,17 @@ use Rattle.std.proofs.lemmas.List.{append-nil, take_all, take_at, drop_at, lengt
 use Rattle.byteorder.specs.Endian.{big_number, big_bytes}
 use Rattle.byteorder.specs.Numbers.{big_number-reads_back, length-bytes_high_first}
 use Rattle.mx_msgpack.specs.Grammar.{Value, Int, Map, Pairs, NoPair, MorePairs, pair_count, max_length, MapHead, Spells, SpellsPairs}
-use Rattle.mx_msgpack.specs.Reading.{head_at, after_value, reading_of, ShownMap}
+use Rattle.mx_msgpack.specs.Reading.{head_at, after_first, reading_of, ShownMap}
 use Rattle.mx_msgpack.specs.Spelling.{map_head}
 use Rattle.mx_msgpack.proofs.FrontLaws.{map_read}
 use Rattle.mx_msgpack.proofs.GrammarLaws.{value_again}
 use Rattle.mx_msgpack.proofs.NumberSpellings.{map_head_spelled}
 use Rattle.mx_msgpack.proofs.SpellingLaws.{wide_spelled}
 use Rattle.mx_msgpack.proofs.UnsignedLaws.{unsigned_read}
-use Rattle.mx_request.specs.Maps.{Pair, pairs_from, pairs_shown, pairs_in}
-use Rattle.mx_request.specs.Spelling.{Written, map_text, body_text}
-use Rattle.mx_request.proofs.InnerLaws.{IsInner, first_is}
+use Rattle.mx_msgpack.specs.Maps.{Pair, pairs_from, pairs_in}
+use Rattle.mx_request.specs.Spelling.{Written, map_text, request_body_text}
+use Rattle.mx_request.proofs.InnerLaws.{IsInner}
+use Rattle.mx_msgpack.proofs.ItemLaws.{first_is}
 use Rattle.mx_request.proofs.WriterLaws.{pairs_text}
 
 -- ---- the pairs of a map
@@ -34,12 +35,12 @@ abbrev pub as_read : Written → Pair
 as_read pair = record { key = Some pair.0; value = pair.1 }
 
 -- the pairs of the grammar that the text spells
-record Spelled (room : ℕ) (pairs : List Written) : Type 0 where
-  all : Pairs
-  many : pair_count all ≡ length pairs
-  spelled : SpellsPairs room all (pairs_text pairs)
+pub record Spelled (room : ℕ) (pairs : List Written) : Type 0 where
+  pub all : Pairs
+  pub many : pair_count all ≡ length pairs
+  pub spelled : SpellsPairs room all (pairs_text pairs)
 
-spelled_so : (room : ℕ) (pairs : List Written) → AreWithin room pairs → Spelled room pairs
+pub spelled_so : (room : ℕ) (pairs : List Written) → AreWithin room pairs → Spelled room pairs
 spelled_so room [] whole = record { all = NoPair; many = refl; spelled = refl }
 spelled_so room (pair ∷ others) (low, (value, s), rest) =
     let r = spelled_so room others rest in
@@ -64,7 +65,7 @@ nothing_after : (xs : List ℕ) → take (length xs - length {A = ℕ} []) xs �
 nothing_after xs = take_all (length xs - length {A = ℕ} []) xs (omega arith)
 
 -- a head of three bytes
-wide_reads : (rest : List ℕ) → 2 ≤ length rest → after_value (length (0xde ∷ rest)) 64 (0xde ∷ rest) ≡ Ok []
+wide_reads : (rest : List ℕ) → 2 ≤ length rest → after_first (length (0xde ∷ rest)) 64 (0xde ∷ rest) ≡ Ok []
     → reading_of (0xde ∷ rest) ≡ Ok (ShownMap (big_number 2 (take 2 rest)) (take (length (drop 2 rest) - length {A = ℕ} []) (drop 2 rest)), length (0xde ∷ rest) - length {A = ℕ} [])
 unfolding reading_of head_at
 wide_reads rest two alone = rw (alone, le-ltb (length rest) 2 two) refl
@@ -76,8 +77,8 @@ wide_shown count pairs content many fits few s =
     let two : length digits ≡ 2 = length-bytes_high_first 2 count in
     let bytes = (0xde ∷ digits) ++ content in
     let head : MapHead (pair_count pairs) (0xde ∷ digits) = rw (← many) (inr (inl (wide_spelled 0xde 2 count (omega arith)))) in
-    let alone : after_value (length bytes) 64 bytes ≡ Ok [] =
-    ap (after_value (length bytes) 64) (sym (append-nil bytes))
+    let alone : after_first (length bytes) 64 bytes ≡ Ok [] =
+    ap (after_first (length bytes) 64) (sym (append-nil bytes))
     ∙ value_again (length bytes) 64 (Map pairs) bytes [] (0xde ∷ digits, content, head, rw (← many) few, refl, s) in
     let l = length-append digits content in
     let read = wide_reads (digits ++ content) (omega arith) alone in
@@ -113,12 +114,12 @@ map_inner pairs within few =
     (Map s.all, (map_head (length pairs), pairs_text pairs, rw s.many (map_head_spelled (length pairs) few), rw s.many few, refl, s.spelled))
 
 pub map_again : (pairs : List Written) → AreWhole pairs → length pairs < 2 ^ 16 → pairs_in (map_text pairs) ≡ map as_read pairs
-map_again pairs whole few = ap pairs_shown (map_shown pairs whole few).1 ∙ pairs_again pairs whole
+map_again pairs whole few = rw (map_shown pairs whole few).1 (pairs_again pairs whole)
 
 no_map : pairs_in [] ≡ []
 unfolding reading_of head_at
 no_map = refl
 
-pub body_again : (pairs : List Written) → AreWhole pairs → length pairs < 2 ^ 16 → pairs_in (body_text pairs) ≡ map as_read pairs
+pub body_again : (pairs : List Written) → AreWhole pairs → length pairs < 2 ^ 16 → pairs_in (request_body_text pairs) ≡ map as_read pairs
 body_again [] whole few = no_map
 body_again (pair ∷ others) whole few = map_again (pair ∷ others) whole few

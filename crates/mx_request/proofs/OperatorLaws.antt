@@ -3,9 +3,12 @@ use Rattle.std.proofs.Common.{◌≡◌, ℕ, zero, suc, ◌+◌, ◌-◌, ◌<�
 use Rattle.std.specs.Prelude.{◌&&◌}
 use Rattle.mx_base.specs.declared.refusal.Refusal.{Refusal}
 use Rattle.mx_base.specs.declared.refusal.Refusal.TheVariants.{BadArgument}
-use Rattle.mx_msgpack.specs.Reading.{reading_of}
-use Rattle.mx_request.specs.Maps.{first_value, after_value, values_from}
-use Rattle.mx_request.specs.Operators.{Arguments, AnyValue, Count, OneInt, OneUnsigned, Splice, are_arguments, are_operands, arguments_of, elements_in, first_fault_from, is_int, max_operations, operands_fault, operation_fault, operator_fault, or_else, text_shown}
+use Rattle.std.specs.Option.{option_or}
+use Rattle.mx_msgpack.specs.Projections.{as_text, first_as}
+use Rattle.mx_request.specs.declared.operators.Arguments.{Arguments}
+use Rattle.mx_request.specs.declared.operators.Arguments.TheVariants.{AnyValue, Count, OneInt, OneUnsigned, Splice}
+use Rattle.mx_msgpack.specs.Items.{first_value, after_value, values_from}
+use Rattle.mx_request.specs.Operators.{are_arguments, are_operands, arguments_of, elements_in, first_fault_from, is_int, max_operations, operands_fault, operation_fault, operator_fault}
 use Rattle.mx_request.specs.Views.{argument_count}
 
 -- another number of values
@@ -47,7 +50,7 @@ operands_right arguments count bytes field values int right first after told =
 -- the operation that stands first, and the others
 operations_more : (place count : ℕ) (bytes : List ℕ) → place < count
     → first_fault_from place (values_from (count - place) bytes)
-    ≡ or_else (cond (ltb place max_operations) (operation_fault place (first_value bytes)) (Some (BadArgument place))) (first_fault_from (place + 1) (values_from (count - (place + 1)) (after_value bytes)))
+    ≡ option_or (cond (ltb place max_operations) (operation_fault place (first_value bytes)) (Some (BadArgument place))) (first_fault_from (place + 1) (values_from (count - (place + 1)) (after_value bytes)))
 operations_more place count bytes below =
     let more : count - place ≡ suc (count - (place + 1)) = omega arith in
     let next : suc place ≡ place + 1 = omega arith in
@@ -81,10 +84,10 @@ one_letter place (letter ∷ next ∷ others) operands some few = absurd (omega 
 
 -- an operation whose operator is a text of one byte
 pub operator_stands : (place count : ℕ) (operation items operator operands text : List ℕ) → Some (values_from count items) ≡ elements_in operation → 0 < count
-    → operator ≡ first_value items → operands ≡ after_value items → Some text ≡ text_shown (reading_of operator) → 1 ≤ length text → length text < 2
+    → operator ≡ first_value items → operands ≡ after_value items → Some text ≡ first_as as_text operator → 1 ≤ length text → length text < 2
     → operation_fault place operation ≡ operands_fault place (arguments_of (get_or text 0 0)) (values_from (count - 1) operands)
 operator_stands place count operation items operator operands text elements some first after told one few =
     let more : count ≡ suc (count - 1) = omega arith in
     let values : values_from count items ≡ first_value items ∷ values_from (count - 1) (after_value items) = ap (λ (n : ℕ). values_from n items) more in
-    let shown : text_shown (reading_of (first_value items)) ≡ Some text = ap (λ (x : List ℕ). text_shown (reading_of x)) (sym first) ∙ sym told in
+    let shown : first_as as_text (first_value items) ≡ Some text = ap (λ (x : List ℕ). first_as as_text x) (sym first) ∙ sym told in
     rw (← elements, values, shown, after) (one_letter place text (values_from (count - 1) (after_value items)) one few)

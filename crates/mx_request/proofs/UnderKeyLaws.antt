@@ -3,7 +3,8 @@ use Rattle.std.proofs.Common.{◌≡◌, ℕ, List, [], ◌∷◌, ◌++◌, Opt
 use Rattle.std.specs.Prelude.{false, map, ◌==◌}
 use Rattle.std.proofs.lemmas.Bool.{cond_both, eqb-true, eq-eqb}
 use Rattle.mx_msgpack.specs.Spelling.{shortest_unsigned}
-use Rattle.mx_request.specs.Maps.{later, value_under}
+use Rattle.mx_msgpack.specs.Maps.{value_under}
+use Rattle.mx_msgpack.proofs.LookupLaws.{later, later_none, later_assoc}
 use Rattle.mx_request.specs.Requests.{optional_value, required, optional}
 use Rattle.mx_request.specs.Spelling.{Written, unless_default}
 use Rattle.mx_request.proofs.MapTextLaws.{as_read}
@@ -12,17 +13,9 @@ use Rattle.mx_request.proofs.MapTextLaws.{as_read}
 abbrev pub found : ℕ → List Written → Option (List ℕ)
 found key pairs = value_under key (map as_read pairs)
 
-later_none : {X : Type 0} (o : Option X) → later None o ≡ o
-later_none None = refl
-later_none (Some x) = refl
-
-later_later : {X : Type 0} (a b c : Option X) → later a (later b c) ≡ later (later a b) c
-later_later a b None = refl
-later_later a b (Some x) = refl
-
 found-append : (key : ℕ) (a b : List Written) → found key (a ++ b) ≡ later (found key a) (found key b)
 found-append key [] b = sym (later_none (found key b))
-found-append key (pair ∷ others) b = rw (found-append key others b) (later_later _ (found key others) (found key b))
+found-append key (pair ∷ others) b = rw (found-append key others b) (later_assoc _ (found key others) (found key b))
 
 -- no pair has another key
 abbrev pub OnlyKey : ℕ → List Written → Type 0

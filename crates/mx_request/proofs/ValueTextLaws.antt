@@ -3,11 +3,13 @@ use Rattle.std.proofs.Common.{◌≡◌, ℕ, ◌-◌, ◌^◌, ◌<◌, ◌≤�
 use Rattle.std.specs.Prelude.{pos}
 use Rattle.std.proofs.lemmas.Bool.{le-leb}
 use Rattle.std.proofs.lemmas.List.{append-nil, take_all, length-append, get_or_default}
-use Rattle.uuid.specs.Text.{hyphenated_text, lower, parsed_hyphenated}
+use Rattle.uuid.specs.Text.{hyphenated_text, lower}
 use Rattle.uuid.proofs.RoundTrips.{parses_hyphenated_text}
 use Rattle.mx_msgpack.specs.Grammar.{Value, Int, Str, Array, Values, Spells}
-use Rattle.mx_msgpack.specs.Reading.{head_at, after_value, reading_of, Shown, ShownNil, ShownBool, ShownInt, ShownStr, ShownBin, ShownArray, ShownMap, ShownOpaque}
+use Rattle.mx_msgpack.specs.Reading.{head_at, after_first, reading_of, Shown, ShownStr, ShownArray, ShownMap}
 use Rattle.mx_msgpack.specs.Spelling.{shortest_unsigned, str_head}
+use Rattle.std.specs.Option.{option_map}
+use Rattle.mx_msgpack.specs.Projections.{as_text, as_array}
 use Rattle.mx_msgpack.specs.View.{Shows}
 use Rattle.mx_msgpack.proofs.FrontLaws.{roomier}
 use Rattle.mx_msgpack.proofs.GrammarLaws.{value_again, value_stands}
@@ -17,8 +19,8 @@ use Rattle.mx_msgpack.proofs.PrefixLaws.{one_value}
 use Rattle.mx_msgpack.proofs.Shown.{Seen, value_seen}
 use Rattle.mx_msgpack.proofs.SpellingLaws.{shortest_spelled, unsigned_again}
 use Rattle.mx_msgpack.proofs.ValueLaws.{measured_ok}
-use Rattle.mx_request.specs.Maps.{number_of}
-use Rattle.mx_request.specs.Kinds.{unsigned_in, number_to, array_shown, array_in, uuid_shown, uuid_in}
+use Rattle.mx_request.specs.Values.{number_to, array_in, uuid_in}
+use Rattle.mx_msgpack.specs.Readers.{unsigned_in}
 use Rattle.mx_request.specs.Spelling.{IsInnerArray, IsUuid, uuid_str}
 use Rattle.mx_request.proofs.InnerLaws.{IsInner}
 use Rattle.mx_request.proofs.WriterLaws.{uuid_length}
@@ -42,8 +44,8 @@ seen_alone value bytes what s seen =
 alone : (value : Value) (bytes : List ℕ) → Spells 63 value bytes → Alone value bytes
 alone value bytes inner =
     let s = roomier 63 value bytes inner in
-    let after : after_value (length bytes) 64 bytes ≡ Ok [] =
-    ap (after_value (length bytes) 64) (sym (append-nil bytes)) ∙ value_again (length bytes) 64 value bytes [] s in
+    let after : after_first (length bytes) 64 bytes ≡ Ok [] =
+    ap (after_first (length bytes) 64) (sym (append-nil bytes)) ∙ value_again (length bytes) 64 value bytes [] s in
     let v = value_stands (length bytes) 64 bytes [] after in
     let at : length bytes - length bytes ≡ 0 = omega arith in
     let size : length bytes - length {A = ℕ} [] ≡ length bytes = omega arith in
@@ -61,7 +63,7 @@ number_inner number fits = (Int (pos number), inl (number, refl, shortest_spelle
 
 pub unsigned_read_again : (number : ℕ) → number < 2 ^ 64 → unsigned_in (shortest_unsigned number) ≡ Some number
 unsigned_read_again number fits =
-    ap unsigned_in (sym (append-nil (shortest_unsigned number))) ∙ ap number_of (unsigned_again number [] fits)
+    ap unsigned_in (sym (append-nil (shortest_unsigned number))) ∙ ap (option_map (λ (x : ℕ × List ℕ). x.0)) (unsigned_again number [] fits)
 
 pub number_read_again : (most number : ℕ) → number ≤ most → number < 2 ^ 64 → number_to most (shortest_unsigned number) ≡ Some number
 number_read_again most number within fits = rw (unsigned_read_again number fits, le-leb number most within) refl
@@ -71,20 +73,15 @@ number_read_again most number within fits = rw (unsigned_read_again number fits,
 pub array_inner_value : (bytes : List ℕ) → IsInnerArray bytes → IsInner bytes
 array_inner_value bytes (values, s) = (Array values, s)
 
-array_read : (values : Values) (bytes : List ℕ) (what : Shown) (size : ℕ) → Shows what (Array values) → array_shown bytes (Ok (what, size)) ≡ Some bytes
-array_read values bytes ShownNil size s = absurd cc
-array_read values bytes (ShownBool truth) size s = absurd cc
-array_read values bytes (ShownInt number) size s = absurd cc
-array_read values bytes (ShownStr text) size s = absurd cc
-array_read values bytes (ShownBin content) size s = absurd cc
-array_read values bytes (ShownArray count items) size s = refl
-array_read values bytes (ShownMap count items) size (pairs, e, n, s) = absurd cc
-array_read values bytes (ShownOpaque spelling) size s = absurd cc
+array_shown : (values : Values) (what : Shown) → Shows what (Array values) → (array : ℕ × List ℕ) × (as_array what ≡ Some array)
+array_shown values (ShownArray count items) s = ((count, items), refl)
+array_shown values (ShownMap count items) (pairs, e, n, s) = absurd cc
+array_shown values _ s = absurd cc
 
 pub array_read_again : (bytes : List ℕ) → IsInnerArray bytes → array_in bytes ≡ Some bytes
 array_read_again bytes (values, s) =
     let a = alone (Array values) bytes s in
-    ap (array_shown bytes) a.read ∙ array_read values bytes a.what a.size a.shows
+    rw (a.read, (array_shown values a.what a.shows).1) refl
 
 -- ---- UUIDs
 
@@ -97,18 +94,14 @@ uuid_spelled id =
 pub uuid_inner : (id : List ℕ) → IsInner (uuid_str id)
 uuid_inner id = (Str (hyphenated_text lower id), uuid_spelled id)
 
-uuid_read : (text : List ℕ) (what : Shown) (size : ℕ) → Shows what (Str text) → uuid_shown (Ok (what, size)) ≡ parsed_hyphenated text
-uuid_read text ShownNil size s = absurd cc
-uuid_read text (ShownBool truth) size s = absurd cc
-uuid_read text (ShownInt number) size s = absurd cc
-uuid_read text (ShownStr other) size s = let same : other ≡ text = cc in ap parsed_hyphenated same
-uuid_read text (ShownBin content) size s = absurd cc
-uuid_read text (ShownArray count items) size (values, e, n, s) = absurd cc
-uuid_read text (ShownMap count items) size (pairs, e, n, s) = absurd cc
-uuid_read text (ShownOpaque spelling) size s = absurd cc
+text_shown : (text : List ℕ) (what : Shown) → Shows what (Str text) → as_text what ≡ Some text
+text_shown text (ShownStr other) s = let same : other ≡ text = cc in ap Some same
+text_shown text (ShownArray count items) (values, e, n, s) = absurd cc
+text_shown text (ShownMap count items) (pairs, e, n, s) = absurd cc
+text_shown text _ s = absurd cc
 
 pub uuid_read_again : (id : List ℕ) → IsUuid id → uuid_in (uuid_str id) ≡ Some id
 uuid_read_again id (len, each) =
     let a = alone (Str (hyphenated_text lower id)) (uuid_str id) (uuid_spelled id) in
     let bytes : All (λ b. b < 256) id = λ i d within. rw (get_or_default id i d 0 within) (omega (arith, each i)) in
-    ap uuid_shown a.read ∙ uuid_read (hyphenated_text lower id) a.what a.size a.shows ∙ sym (parses_hyphenated_text lower id (inl refl) len bytes)
+    rw (a.read, text_shown (hyphenated_text lower id) a.what a.shows) (sym (parses_hyphenated_text lower id (inl refl) len bytes))

@@ -6,7 +6,7 @@ use Rattle.mx_vclock.specs.Spelling.{clock_map}
 use Rattle.mx_request.specs.declared.request.Head3.{Head3}
 use Rattle.mx_request.specs.declared.request.Request.{Request}
 use Rattle.mx_request.specs.declared.request.Request.TheVariants.{Select, Insert, Replace, Update, Delete, Upsert, Nop, Ping, Begin, Commit, Rollback, Id, Join, Subscribe, Ack}
-use Rattle.mx_request.specs.Spelling.{Written, unless_default, uuid_str, body_of, header_of, IsHead, IsAskable, IsShared}
+use Rattle.mx_request.specs.Spelling.{Written, unless_default, uuid_str, body_pairs, header_pairs, IsRequestHead, IsAskable, IsShared}
 use Rattle.mx_request.proofs.InnerLaws.{IsInner}
 use Rattle.mx_request.proofs.MapTextLaws.{AreWhole}
 use Rattle.mx_request.proofs.ValueTextLaws.{number_inner, array_inner_value, uuid_inner}
@@ -25,7 +25,7 @@ unless_few key default number = cond_both (number == default) _ _ (λ (pairs : L
 one_whole : (key : ℕ) (value : List ℕ) → key < 0x80 → IsInner value → AreWhole ((key, value) ∷ [])
 one_whole key value low inner = (low, inner, tt)
 
-pub body_whole : (request : Request) → IsAskable request → IsShared request → AreWhole (body_of request)
+pub body_whole : (request : Request) → IsAskable request → IsShared request → AreWhole (body_pairs request)
 body_whole (Select space index limit offset iterator key) (s, i, l, o, t, k) shared =
     let a = unless_whole 0x11 0 index.0 (omega arith) (omega arith) in
     let b = unless_whole 0x12 (2 ^ 32 - 1) limit (omega arith) (omega arith) in
@@ -60,7 +60,7 @@ body_whole (Subscribe instance set clock) (i, s, c) shared =
     (omega arith, uuid_inner instance, (omega arith, uuid_inner set, one_whole 0x26 (clock_map clock) (omega arith) (clock_inner clock c shared)))
 body_whole (Ack clock) ask shared = one_whole 0x26 (clock_map clock) (omega arith) (clock_inner clock ask shared)
 
-pub body_few : (request : Request) → length (body_of request) < 2 ^ 16
+pub body_few : (request : Request) → length (body_pairs request) < 2 ^ 16
 body_few (Select space index limit offset iterator key) =
     let a = unless_default 0x11 0 index.0 in
     let b = unless_default 0x12 (2 ^ 32 - 1) limit in
@@ -95,13 +95,13 @@ body_few (Join instance) = omega arith
 body_few (Subscribe instance set clock) = omega arith
 body_few (Ack clock) = omega arith
 
-pub header_whole : (head : Head3) → IsHead head → head.kind < 0x80 → AreWhole (header_of head)
+pub header_whole : (head : Head3) → IsRequestHead head → head.kind < 0x80 → AreWhole (header_pairs head)
 header_whole head h low =
     let sync = unless_whole 0x01 0 head.sync.0 (omega arith) h.sync in
     let stream = unless_whole 0x0a 0 head.stream.0 (omega arith) h.stream in
     (omega arith, number_inner head.kind (omega arith), whole-append _ _ sync stream)
 
-pub header_few : (head : Head3) → length (header_of head) < 2 ^ 16
+pub header_few : (head : Head3) → length (header_pairs head) < 2 ^ 16
 header_few head =
     let both = length-append (unless_default 0x01 0 head.sync.0) (unless_default 0x0a 0 head.stream.0) in
     omega (arith, unless_few 0x01 0 head.sync.0, unless_few 0x0a 0 head.stream.0)

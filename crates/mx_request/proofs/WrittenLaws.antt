@@ -7,10 +7,13 @@ use Rattle.mx_msgpack.specs.Spelling.{shortest_unsigned}
 use Rattle.mx_request.specs.declared.request.Head3.{Head3}
 use Rattle.mx_request.specs.declared.request.Request.{Request}
 use Rattle.mx_request.specs.declared.request.Request.TheVariants.{Select, Insert, Replace, Update, Delete, Upsert, Nop, Ping, Begin, Commit, Rollback, Id, Join, Subscribe, Ack}
-use Rattle.mx_request.specs.Maps.{Pair, pairs_in}
-use Rattle.mx_request.specs.Kinds.{unsigned_in, number_to, number_32, array_in}
-use Rattle.mx_request.specs.Requests.{required, optional, operations_in, shaped, select_in, insert_in, replace_in, update_in, delete_in, upsert_in, begin_in, join_in, subscribe_in, ack_in, Kind, AckKind, SelectKind, InsertKind, ReplaceKind, UpdateKind, DeleteKind, UpsertKind, NopKind, BeginKind, CommitKind, RollbackKind, PingKind, JoinKind, SubscribeKind, IdKind, kind_of, body_ask, asked_in}
-use Rattle.mx_request.specs.Spelling.{Written, unless_default, body_of, header_of, map_text, body_text, kind_number, IsInnerArray, AreOperations, IsHead, IsAskable, IsShared}
+use Rattle.mx_msgpack.specs.Maps.{Pair, pairs_in}
+use Rattle.mx_request.specs.Values.{number_to, number_32, array_in}
+use Rattle.mx_msgpack.specs.Readers.{unsigned_in}
+use Rattle.mx_request.specs.Requests.{required, optional, operations_in, shaped, select_in, insert_in, replace_in, update_in, delete_in, upsert_in, begin_in, join_in, subscribe_in, ack_in, request_type_of, body_request, request_in}
+use Rattle.mx_request.specs.declared.request_type.RequestType.{RequestType}
+use Rattle.mx_request.specs.declared.request_type.RequestType.TheVariants as type
+use Rattle.mx_request.specs.Spelling.{Written, unless_default, body_pairs, header_pairs, map_text, request_body_text, type_number, IsInnerArray, AreOperations, IsRequestHead, IsAskable, IsShared}
 use Rattle.mx_request.proofs.MapTextLaws.{as_read, map_again, body_again}
 use Rattle.mx_request.proofs.ValueTextLaws.{unsigned_read_again, number_read_again, array_read_again, uuid_read_again}
 use Rattle.mx_request.proofs.ClockTextLaws.{clock_read_again}
@@ -19,9 +22,9 @@ use Rattle.mx_request.proofs.WholeLaws.{body_few, body_whole, header_few, header
 
 -- the body is of this request's kind, and asks it
 record Reads (request : Request) (body : List Pair) : Type 0 where
-  kind : Kind
-  told : kind_of (kind_number request) body ≡ Ok kind
-  asked : body_ask kind body ≡ Ok request
+  kind : RequestType
+  told : request_type_of (type_number request) body ≡ Ok kind
+  asked : body_request kind body ≡ Ok request
 
 -- numbers of at most 32 bits
 required_32 : (key number : ℕ) (pairs : List Written) → found key pairs ≡ Some (shortest_unsigned number) → number < 2 ^ 32
@@ -82,13 +85,13 @@ upsert_from body space base tuple operations s b t o shape = rw (s, b, t, o, sha
 
 -- the body of a request, as it is read
 abbrev body_read : Request → List Pair
-body_read request = map as_read (body_of request)
+body_read request = map as_read (body_pairs request)
 
 select_reads : (space : SpaceId) (index : IndexId) (limit offset iterator : ℕ) (key : List ℕ)
     → IsAskable (Select space index limit offset iterator key) → Reads (Select space index limit offset iterator key) (body_read (Select space index limit offset iterator key))
-unfolding kind_of
+unfolding request_type_of
 select_reads space index limit offset iterator key (s, i, l, o, t, k) =
-    let pairs = body_of (Select space index limit offset iterator key) in
+    let pairs = body_pairs (Select space index limit offset iterator key) in
     let a = unless_default 0x11 0 index.0 in
     let b = unless_default 0x12 (2 ^ 32 - 1) limit in
     let c = unless_default 0x13 0 offset in
@@ -99,7 +102,7 @@ select_reads space index limit offset iterator key (s, i, l, o, t, k) =
     let kd = only_key 0x14 0 iterator in
     let first = shortest_unsigned space.0 in
     record {
-      kind = SelectKind;
+      kind = type.Select;
       told = refl;
       asked =
           select_from (map as_read pairs) space.0 index.0 limit offset iterator key
@@ -113,16 +116,16 @@ select_reads space index limit offset iterator key (s, i, l, o, t, k) =
 
 update_reads : (space : SpaceId) (index : IndexId) (base : ℕ) (key operations : List ℕ)
     → IsAskable (Update space index base key operations) → Reads (Update space index base key operations) (body_read (Update space index base key operations))
-unfolding kind_of
+unfolding request_type_of
 update_reads space index base key operations (s, i, o, k, each) =
-    let pairs = body_of (Update space index base key operations) in
+    let pairs = body_pairs (Update space index base key operations) in
     let a = unless_default 0x11 0 index.0 in
     let b = unless_default 0x15 0 base in
     let ka = only_key 0x11 0 index.0 in
     let kb = only_key 0x15 0 base in
     let first = shortest_unsigned space.0 in
     record {
-      kind = UpdateKind;
+      kind = type.Update;
       told = refl;
       asked =
           update_from (map as_read pairs) space.0 index.0 base key operations
@@ -135,14 +138,14 @@ update_reads space index base key operations (s, i, o, k, each) =
     }
 
 delete_reads : (space : SpaceId) (index : IndexId) (key : List ℕ) → IsAskable (Delete space index key) → Reads (Delete space index key) (body_read (Delete space index key))
-unfolding kind_of
+unfolding request_type_of
 delete_reads space index key (s, i, k) =
-    let pairs = body_of (Delete space index key) in
+    let pairs = body_pairs (Delete space index key) in
     let a = unless_default 0x11 0 index.0 in
     let ka = only_key 0x11 0 index.0 in
     let first = shortest_unsigned space.0 in
     record {
-      kind = DeleteKind;
+      kind = type.Delete;
       told = refl;
       asked =
           delete_from (map as_read pairs) space.0 index.0 key
@@ -153,14 +156,14 @@ delete_reads space index key (s, i, k) =
 
 upsert_reads : (space : SpaceId) (base : ℕ) (tuple operations : List ℕ)
     → IsAskable (Upsert space base tuple operations) → Reads (Upsert space base tuple operations) (body_read (Upsert space base tuple operations))
-unfolding kind_of
+unfolding request_type_of
 upsert_reads space base tuple operations (s, o, t, each) =
-    let pairs = body_of (Upsert space base tuple operations) in
+    let pairs = body_pairs (Upsert space base tuple operations) in
     let b = unless_default 0x15 0 base in
     let kb = only_key 0x15 0 base in
     let first = shortest_unsigned space.0 in
     record {
-      kind = UpsertKind;
+      kind = type.Upsert;
       told = refl;
       asked =
           upsert_from (map as_read pairs) space.0 base tuple operations
@@ -172,39 +175,39 @@ upsert_reads space base tuple operations (s, o, t, each) =
     }
 
 request_reads : (request : Request) → IsAskable request → IsShared request → Reads request (body_read request)
-unfolding kind_of begin_in join_in subscribe_in ack_in
+unfolding request_type_of begin_in join_in subscribe_in ack_in
 request_reads (Select space index limit offset iterator key) ask shared = select_reads space index limit offset iterator key ask
 request_reads (Insert space tuple) (s, t) shared =
-    let pairs = body_of (Insert space tuple) in
+    let pairs = body_pairs (Insert space tuple) in
     record {
-      kind = InsertKind;
+      kind = type.Insert;
       told = refl;
       asked = insert_from (map as_read pairs) space.0 tuple (required_32 0x10 space.0 pairs refl s) (required_array 0x21 tuple pairs refl t);
     }
 request_reads (Replace space tuple) (s, t) shared =
-    let pairs = body_of (Replace space tuple) in
+    let pairs = body_pairs (Replace space tuple) in
     record {
-      kind = ReplaceKind;
+      kind = type.Replace;
       told = refl;
       asked = replace_from (map as_read pairs) space.0 tuple (required_32 0x10 space.0 pairs refl s) (required_array 0x21 tuple pairs refl t);
     }
 request_reads (Update space index base key operations) ask shared = update_reads space index base key operations ask
 request_reads (Delete space index key) ask shared = delete_reads space index key ask
 request_reads (Upsert space base tuple operations) ask shared = upsert_reads space base tuple operations ask
-request_reads Nop ask shared = record { kind = NopKind; told = refl; asked = refl }
-request_reads Ping ask shared = record { kind = PingKind; told = refl; asked = refl }
-request_reads Begin ask shared = record { kind = BeginKind; told = refl; asked = refl }
-request_reads Commit ask shared = record { kind = CommitKind; told = refl; asked = refl }
-request_reads Rollback ask shared = record { kind = RollbackKind; told = refl; asked = refl }
-request_reads Id ask shared = record { kind = IdKind; told = refl; asked = refl }
-request_reads (Join instance) ask shared = record { kind = JoinKind; told = refl; asked = rw (uuid_read_again instance ask) refl }
+request_reads Nop ask shared = record { kind = type.Nop; told = refl; asked = refl }
+request_reads Ping ask shared = record { kind = type.Ping; told = refl; asked = refl }
+request_reads Begin ask shared = record { kind = type.Begin; told = refl; asked = refl }
+request_reads Commit ask shared = record { kind = type.Commit; told = refl; asked = refl }
+request_reads Rollback ask shared = record { kind = type.Rollback; told = refl; asked = refl }
+request_reads Id ask shared = record { kind = type.Id; told = refl; asked = refl }
+request_reads (Join instance) ask shared = record { kind = type.Join; told = refl; asked = rw (uuid_read_again instance ask) refl }
 request_reads (Subscribe instance set clock) (i, s, c) shared =
-    record { kind = SubscribeKind; told = refl; asked = rw (uuid_read_again instance i, uuid_read_again set s, clock_read_again clock c shared) refl }
-request_reads (Ack clock) ask shared = record { kind = AckKind; told = refl; asked = rw (clock_read_again clock ask shared) refl }
+    record { kind = type.Subscribe; told = refl; asked = rw (uuid_read_again instance i, uuid_read_again set s, clock_read_again clock c shared) refl }
+request_reads (Ack clock) ask shared = record { kind = type.Ack; told = refl; asked = rw (clock_read_again clock ask shared) refl }
 
 -- ---- the law
 
-kind_low : (request : Request) → kind_number request < 0x80
+kind_low : (request : Request) → type_number request < 0x80
 kind_low (Select space index limit offset iterator key) = omega arith
 kind_low (Insert space tuple) = omega arith
 kind_low (Replace space tuple) = omega arith
@@ -223,14 +226,14 @@ kind_low (Ack clock) = omega arith
 
 asked_from : (header body : List Pair) (head : Head3) (request : Request) → optional 0x00 0 unsigned_in header ≡ Ok head.kind
     → optional 0x01 0 unsigned_in header ≡ Ok head.sync.0 → optional 0x0a 0 unsigned_in header ≡ Ok head.stream.0
-    → head.kind ≡ kind_number request → Reads request body → asked_in header body ≡ Ok (head, request)
-unfolding asked_in
+    → head.kind ≡ type_number request → Reads request body → request_in header body ≡ Ok (head, request)
+unfolding request_in
 asked_from header body head request kind sync stream same r =
-    let told : kind_of head.kind body ≡ Ok r.kind = ap (λ (n : ℕ). kind_of n body) same ∙ r.told in
+    let told : request_type_of head.kind body ≡ Ok r.kind = ap (λ (n : ℕ). request_type_of n body) same ∙ r.told in
     rw (kind, told, sync, stream, r.asked) refl
 
 -- the header's three numbers
-module _ (head : Head3) (h : IsHead head) where
+module _ (head : Head3) (h : IsRequestHead head) where
   abbrev sync_pairs : List Written
   sync_pairs = unless_default 0x01 0 head.sync.0
 
@@ -243,27 +246,27 @@ module _ (head : Head3) (h : IsHead head) where
   only_stream : OnlyKey 0x0a stream_pairs
   only_stream = only_key 0x0a 0 head.stream.0
 
-  kind_again : head.kind < 0x80 → optional 0x00 0 unsigned_in (map as_read (header_of head)) ≡ Ok head.kind
+  kind_again : head.kind < 0x80 → optional 0x00 0 unsigned_in (map as_read (header_pairs head)) ≡ Ok head.kind
   kind_again low =
       let kind = shortest_unsigned head.kind in
       rw (header_kind kind sync_pairs stream_pairs only_sync only_stream, unsigned_read_again head.kind (omega arith)) refl
 
-  sync_again : optional 0x01 0 unsigned_in (map as_read (header_of head)) ≡ Ok head.sync.0
+  sync_again : optional 0x01 0 unsigned_in (map as_read (header_pairs head)) ≡ Ok head.sync.0
   sync_again =
       let kind = shortest_unsigned head.kind in
-      optional_again 0x01 0 head.sync.0 unsigned_in (header_of head) (header_sync kind sync_pairs stream_pairs only_sync only_stream) (unsigned_read_again head.sync.0 h.sync)
+      optional_again 0x01 0 head.sync.0 unsigned_in (header_pairs head) (header_sync kind sync_pairs stream_pairs only_sync only_stream) (unsigned_read_again head.sync.0 h.sync)
 
-  stream_again : optional 0x0a 0 unsigned_in (map as_read (header_of head)) ≡ Ok head.stream.0
+  stream_again : optional 0x0a 0 unsigned_in (map as_read (header_pairs head)) ≡ Ok head.stream.0
   stream_again =
       let kind = shortest_unsigned head.kind in
-      optional_again 0x0a 0 head.stream.0 unsigned_in (header_of head) (header_stream kind sync_pairs stream_pairs only_sync only_stream) (unsigned_read_again head.stream.0 h.stream)
+      optional_again 0x0a 0 head.stream.0 unsigned_in (header_pairs head) (header_stream kind sync_pairs stream_pairs only_sync only_stream) (unsigned_read_again head.stream.0 h.stream)
 
-pub asked_again : (head : Head3) (request : Request) → IsHead head → IsAskable request → IsShared request → head.kind ≡ kind_number request
-    → asked_in (pairs_in (map_text (header_of head))) (pairs_in (body_text (body_of request))) ≡ Ok (head, request)
+pub asked_again : (head : Head3) (request : Request) → IsRequestHead head → IsAskable request → IsShared request → head.kind ≡ type_number request
+    → request_in (pairs_in (map_text (header_pairs head))) (pairs_in (request_body_text (body_pairs request))) ≡ Ok (head, request)
 asked_again head request h askable shared same =
     let low : head.kind < 0x80 = omega (arith, kind_low request) in
-    let header = map_again (header_of head) (header_whole head h low) (header_few head) in
-    let body = body_again (body_of request) (body_whole request askable shared) (body_few request) in
+    let header = map_again (header_pairs head) (header_whole head h low) (header_few head) in
+    let body = body_again (body_pairs request) (body_whole request askable shared) (body_few request) in
     rw (header, body)
-    (asked_from (map as_read (header_of head)) (body_read request) head request (kind_again head h low) (sync_again head h) (stream_again head h) same
+    (asked_from (map as_read (header_pairs head)) (body_read request) head request (kind_again head h low) (sync_again head h) (stream_again head h) same
     (request_reads request askable shared))

@@ -1,7 +1,6 @@
-pub mod Maps
-pub mod Views
-pub mod Kinds
+pub mod Values
 pub mod Operators
 pub mod Requests
 pub mod Spelling
-pub mod Tells
+pub mod Returns
+pub mod Views

@@ -1,19 +1,19 @@
-//! What the body of each type of request asks.
+//! What the body of each request type asks.
 
-ghost use Rattle.mx_request.specs.Maps.{pairs_in};
-ghost use Rattle.mx_request.specs.Requests.{ack_in, begin_in, body_ask, delete_in, insert_in, join_in, operations_in, replace_in, select_in, subscribe_in, update_in, upsert_in};
-ghost use Rattle.mx_request.specs.Views.{Gives, request_view, type_view};
+ghost use Rattle.mx_msgpack.specs.Maps.{pairs_in};
+ghost use Rattle.mx_request.specs.Requests.{ack_in, begin_in, body_request, delete_in, insert_in, join_in, operations_in, replace_in, select_in, subscribe_in, update_in, upsert_in};
+ghost use Rattle.mx_request.specs.Views.{request_view};
+ghost use Rattle.mx_msgpack.specs.Reading.{Gives};
 
 use crate::fields::{
     optional_number, required_array, required_clock, required_number, required_uuid,
 };
-use crate::keys;
-use crate::maps::values_under;
 use crate::operators::shape_fault;
 use crate::request::Request;
 use crate::request_ref::RequestRef;
 use crate::request_type::RequestType;
-use mx_base::{IndexId, Refusal, SpaceId};
+use mx_base::{IndexId, Refusal, SpaceId, keys};
+use mx_msgpack::values_under;
 
 /// The greatest number of an iterator.
 const MAX_ITERATOR: u32 = 6;
@@ -24,9 +24,12 @@ const MAX_BASE: u32 = 1;
 /// The greatest number of an isolation level.
 const MAX_ISOLATION: u32 = 4;
 
-/// What a body asks with this type of request: its keys in rising order, then its operations.
-pub(crate) fn request_in(request_type: RequestType, body: &[u8]) -> Result<RequestRef<'_>, Refusal>
-    ensures { Gives request_view result (body_ask (type_view request_type) (pairs_in body.now)) }
+/// What a body asks with this request type: its keys in ascending order, then its operations.
+pub(crate) fn body_request(
+    request_type: RequestType,
+    body: &[u8],
+) -> Result<RequestRef<'_>, Refusal>
+    ensures { Gives request_view result (body_request request_type (pairs_in body.now)) }
 {
     match request_type {
         RequestType::Ack => ack_in(body),
@@ -60,7 +63,7 @@ fn select_in(body: &[u8]) -> Result<RequestRef<'_>, Refusal>
             keys::LIMIT,
             keys::OFFSET,
             keys::ITERATOR,
-            keys::KEY,
+            keys::PARTS,
         ],
         body,
         &mut values,
@@ -72,7 +75,7 @@ fn select_in(body: &[u8]) -> Result<RequestRef<'_>, Refusal>
         limit: optional_number(keys::LIMIT, u32::MAX, u32::MAX, limit)?,
         offset: optional_number(keys::OFFSET, 0, u32::MAX, offset)?,
         iterator: optional_number(keys::ITERATOR, 0, MAX_ITERATOR, iterator)? as u8,
-        key: required_array(keys::KEY, key)?,
+        key: required_array(keys::PARTS, key)?,
     })
 }
 
@@ -111,7 +114,13 @@ fn update_in(body: &[u8]) -> Result<RequestRef<'_>, Refusal>
 {
     let mut values = [None; 5];
     values_under(
-        &[keys::SPACE, keys::INDEX, keys::BASE, keys::KEY, keys::TUPLE],
+        &[
+            keys::SPACE,
+            keys::INDEX,
+            keys::BASE,
+            keys::PARTS,
+            keys::TUPLE,
+        ],
         body,
         &mut values,
     );
@@ -120,7 +129,7 @@ fn update_in(body: &[u8]) -> Result<RequestRef<'_>, Refusal>
         space: SpaceId(required_number(keys::SPACE, space)?),
         index: IndexId(optional_number(keys::INDEX, 0, u32::MAX, index)?),
         base: optional_number(keys::BASE, 0, MAX_BASE, base)?,
-        key: required_array(keys::KEY, key)?,
+        key: required_array(keys::PARTS, key)?,
         ops: shaped(required_array(keys::TUPLE, ops)?)?,
     })
 }
@@ -131,12 +140,12 @@ fn delete_in(body: &[u8]) -> Result<RequestRef<'_>, Refusal>
     ensures { Gives request_view result (delete_in (pairs_in body.now)) }
 {
     let mut values = [None; 3];
-    values_under(&[keys::SPACE, keys::INDEX, keys::KEY], body, &mut values);
+    values_under(&[keys::SPACE, keys::INDEX, keys::PARTS], body, &mut values);
     let [space, index, key] = values;
     Ok(RequestRef::Delete {
         space: SpaceId(required_number(keys::SPACE, space)?),
         index: IndexId(optional_number(keys::INDEX, 0, u32::MAX, index)?),
-        key: required_array(keys::KEY, key)?,
+        key: required_array(keys::PARTS, key)?,
     })
 }
 
@@ -160,7 +169,7 @@ fn upsert_in(body: &[u8]) -> Result<RequestRef<'_>, Refusal>
     })
 }
 
-/// What a BEGIN asks. The isolation level is judged and not kept, since there is one.
+/// What a BEGIN asks. The isolation level is checked and not kept, since there is only one.
 #[tactic(auto, unfolding(crate::specs::Requests::begin_in))]
 fn begin_in(body: &[u8]) -> Result<RequestRef<'_>, Refusal>
     ensures { Gives request_view result (begin_in (pairs_in body.now)) }
@@ -204,7 +213,7 @@ fn subscribe_in(body: &[u8]) -> Result<RequestRef<'_>, Refusal>
     }))
 }
 
-/// What an acknowledgement tells.
+/// What an ACK asks.
 #[tactic(auto, unfolding(crate::specs::Requests::ack_in))]
 fn ack_in(body: &[u8]) -> Result<RequestRef<'_>, Refusal>
     ensures { Gives request_view result (ack_in (pairs_in body.now)) }

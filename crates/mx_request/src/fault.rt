@@ -13,7 +13,6 @@ pub enum RequestFault {
         stream: StreamId,
         refusal: Refusal,
     },
-    /// Memory ran out.
     NoMemory,
 }
 

@@ -2,12 +2,14 @@
 
 ghost use Rattle.std.specs.Prelude.{◌≡◌, ◌≤◌, IfOk};
 ghost use Rattle.std.specs.Option.{option_copied};
-ghost use Rattle.mx_request.specs.Kinds.{array_in, clock_in, number_32, number_to, unsigned_in, uuid_in};
-ghost use Rattle.mx_request.specs.Requests.{optional_value, required_value, right_kind};
-ghost use Rattle.mx_request.specs.Views.{Gives};
+ghost use Rattle.mx_request.specs.Values.{array_in, vclock_in, number_32, number_to, uuid_in};
+ghost use Rattle.mx_msgpack.specs.Readers.{unsigned_in};
+ghost use Rattle.mx_request.specs.Requests.{optional_value, required_value, legal_value};
+ghost use Rattle.mx_msgpack.specs.Reading.{Gives};
 
-use crate::kinds::{array_in, clock_in, number_to, unsigned_in, uuid_in};
+use crate::values::{array_in, number_to, uuid_in, vclock_in};
 use mx_base::Refusal;
+use mx_msgpack::unsigned_in;
 use mx_vclock::Vclock;
 use uuid::Uuid;
 
@@ -16,7 +18,7 @@ pub(crate) fn optional_unsigned(key: u8, value: Option<&[u8]>) -> Result<u64, Re
     ensures { result ≡ optional_value key 0 unsigned_in (option_copied value.entry) }
 {
     match value {
-        Some(value) => right_kind(key, unsigned_in(value)),
+        Some(value) => legal_value(key, unsigned_in(value)),
         None => Ok(0),
     }
 }
@@ -53,7 +55,7 @@ pub(crate) fn required_array(key: u8, value: Option<&[u8]>) -> Result<&[u8], Ref
     ensures { Gives (λ array. array.now) result (required_value key array_in (option_copied value.entry)) }
 {
     match value {
-        Some(value) => right_kind(key, array_in(value)),
+        Some(value) => legal_value(key, array_in(value)),
         None => Err(Refusal::MissingKey { key }),
     }
 }
@@ -63,33 +65,33 @@ pub(crate) fn required_uuid(key: u8, value: Option<&[u8]>) -> Result<Uuid, Refus
     ensures { result ≡ required_value key uuid_in (option_copied value.entry) }
 {
     match value {
-        Some(value) => right_kind(key, uuid_in(value)),
+        Some(value) => legal_value(key, uuid_in(value)),
         None => Err(Refusal::MissingKey { key }),
     }
 }
 
 /// The vclock under a key that has to be there.
 pub(crate) fn required_clock(key: u8, value: Option<&[u8]>) -> Result<Vclock, Refusal>
-    ensures { result ≡ required_value key clock_in (option_copied value.entry) }
+    ensures { result ≡ required_value key vclock_in (option_copied value.entry) }
 {
     match value {
-        Some(value) => right_kind(key, clock_in(value)),
+        Some(value) => legal_value(key, vclock_in(value)),
         None => Err(Refusal::MissingKey { key }),
     }
 }
 
 /// The number from 0 to `most` that stands first under a key.
 fn number_under(key: u8, most: u32, value: &[u8]) -> Result<u32, Refusal>
-    ensures value { result ≡ right_kind key (number_to most value.now) }
+    ensures value { result ≡ legal_value key (number_to most value.now) }
     ensures most { IfOk result (λ number. number ≤ most) }
 {
-    let number = right_kind(key, number_to(u64::from(most), value))?;
+    let number = legal_value(key, number_to(u64::from(most), value))?;
     Ok(number as u32)
 }
 
-/// The value under a key, where it is of the right kind.
-fn right_kind<X>(key: u8, value: Option<X>) -> Result<X, Refusal>
-    ensures { result ≡ right_kind key value }
+/// The value under a key, where it is a legal one.
+fn legal_value<X>(key: u8, value: Option<X>) -> Result<X, Refusal>
+    ensures { result ≡ legal_value key value }
 {
     match value {
         Some(value) => Ok(value),

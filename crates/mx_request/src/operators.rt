@@ -1,25 +1,23 @@
-//! The shape of update operations: an operator, a field number, and what the operator takes behind it.
+//! The shape of update operations: an operator, a field number, and the operator's arguments.
 
 ghost use Rattle.std.specs.Prelude.{◌≡◌, ◌≤◌, ◌&&◌, ℕ};
 ghost use Rattle.std.specs.Option.{option_copied, option_map, option_map_or};
-ghost use Rattle.mx_msgpack.specs.Reading.{reading_of};
-ghost use Rattle.mx_request.specs.Maps.{after_value, first_value, values_from};
-ghost use Rattle.mx_request.specs.Operators.{are_arguments, are_operands, arguments_of, elements_in, first_fault_from, is_int, is_one_or_more, is_text, operands_fault, operation_fault, shape_fault, text_shown};
-ghost use Rattle.mx_request.specs.Kinds.{unsigned_in};
-ghost use Rattle.mx_request.specs.Views.{argument_count, arguments_view};
+ghost use Rattle.mx_msgpack.specs.Projections.{as_text, first_as};
+ghost use Rattle.mx_msgpack.specs.Items.{after_value, first_value, values_from};
+ghost use Rattle.mx_request.specs.Operators.{are_arguments, are_operands, arguments_of, elements_in, first_fault_from, is_int, is_one_or_more, is_text, operands_fault, operation_fault, shape_fault};
+ghost use Rattle.mx_msgpack.specs.Readers.{unsigned_in};
+ghost use Rattle.mx_request.specs.Views.{argument_count};
 
-use crate::kinds::unsigned_in;
-use crate::maps::Row;
 use mx_base::Refusal;
-use mx_msgpack::{ValueRef, parted, read_ref};
+use mx_msgpack::{Items, ValueRef, parted, read_ref, unsigned_in};
 
-/// The most operations of a request.
+/// The maximum number of operations of a request.
 const MAX_OPERATIONS: u32 = 4_000;
 
-/// What an operator takes behind the field number.
+/// The arguments of an operator, after the field number.
 #[derive(Clone, Copy)]
 enum Arguments {
-    /// One value of any kind.
+    /// One value of any type.
     AnyValue,
     /// How many fields, 1 or more.
     Count,
@@ -36,13 +34,13 @@ pub(crate) fn shape_fault(operations: &[u8]) -> Option<Refusal>
     ensures { result ≡ shape_fault operations.now }
 {
     match elements_in(operations) {
-        Some(row) => first_fault(row),
+        Some(items) => first_fault(items),
         None => None,
     }
 }
 
 /// The fault of the first operation that has one. The 4,001st is one too many.
-fn first_fault(operations: Row<'_>) -> Option<Refusal>
+fn first_fault(operations: Items<'_>) -> Option<Refusal>
     ensures { result ≡ first_fault_from 0 (values_from operations.entry.count operations.entry.bytes.now) }
 {
     let mut rest = operations.bytes;
@@ -69,8 +67,8 @@ fn operation_fault(place: u32, operation: &[u8]) -> Option<Refusal>
     }
 }
 
-/// The letter of an operation's operator, and what stands behind it.
-fn operator_of(operation: &[u8]) -> Option<(u8, Row<'_>)>
+/// The letter of an operation's operator, and the values after it.
+fn operator_of(operation: &[u8]) -> Option<(u8, Items<'_>)>
     ensures { (place : ℕ) → operation_fault place operation.now
         ≡ option_map_or (λ x. operands_fault place (arguments_of x.0) (values_from x.1.count x.1.bytes.now)) result (Some (Refusal.BadArgument place)) }
 {
@@ -82,7 +80,7 @@ fn operator_of(operation: &[u8]) -> Option<(u8, Row<'_>)>
     let [letter] = text_in(operator)? else {
         return None;
     };
-    let operands = Row {
+    let operands = Items {
         count: elements.count - 1,
         bytes: operands,
     };
@@ -90,7 +88,7 @@ fn operator_of(operation: &[u8]) -> Option<(u8, Row<'_>)>
 }
 
 /// Why these are no operands of the operator with this letter.
-fn operands_fault(place: u32, letter: u8, operands: Row<'_>) -> Option<Refusal>
+fn operands_fault(place: u32, letter: u8, operands: Items<'_>) -> Option<Refusal>
     ensures { result ≡ operands_fault place (arguments_of letter) (values_from operands.entry.count operands.entry.bytes.now) }
 {
     let Some(arguments) = arguments_of(letter) else {
@@ -103,9 +101,9 @@ fn operands_fault(place: u32, letter: u8, operands: Row<'_>) -> Option<Refusal>
     }
 }
 
-/// What the operator with this letter takes behind the field number.
+/// The arguments of the operator with this letter.
 fn arguments_of(letter: u8) -> Option<Arguments>
-    ensures { option_map arguments_view result ≡ arguments_of letter }
+    ensures { result ≡ arguments_of letter }
 {
     match letter {
         b'=' | b'!' => Some(Arguments::AnyValue),
@@ -118,8 +116,8 @@ fn arguments_of(letter: u8) -> Option<Arguments>
 }
 
 /// Whether these are a field number, and then these arguments.
-fn are_operands(arguments: Arguments, operands: Row<'_>) -> bool
-    ensures { result ≡ are_operands (arguments_view arguments) (values_from operands.entry.count operands.entry.bytes.now) }
+fn are_operands(arguments: Arguments, operands: Items<'_>) -> bool
+    ensures { result ≡ are_operands arguments (values_from operands.entry.count operands.entry.bytes.now) }
 {
     if operands.count != 1 + how_many(arguments) {
         return false;
@@ -130,7 +128,7 @@ fn are_operands(arguments: Arguments, operands: Row<'_>) -> bool
 
 /// How many values these arguments are.
 fn how_many(arguments: Arguments) -> u32
-    ensures count { result ≡ argument_count (arguments_view arguments) }
+    ensures count { result ≡ argument_count arguments }
     ensures small { result ≤ 3 }
 {
     match arguments {
@@ -144,7 +142,7 @@ fn how_many(arguments: Arguments) -> u32
 
 /// Whether the values that stand here, of which there are enough, are these arguments.
 fn are_arguments(arguments: Arguments, values: &[u8]) -> bool
-    ensures { result ≡ are_arguments (arguments_view arguments) (values_from (argument_count (arguments_view arguments)) values.now) }
+    ensures { result ≡ are_arguments arguments (values_from (argument_count arguments) values.now) }
 {
     let (first, others) = parted(values);
     match arguments {
@@ -166,11 +164,11 @@ fn is_cut(bytes: &[u8]) -> bool
 }
 
 /// What the array that stands first holds.
-fn elements_in(value: &[u8]) -> Option<Row<'_>>
-    ensures { option_map (λ row. values_from row.count row.bytes.now) result ≡ elements_in value.now }
+fn elements_in(value: &[u8]) -> Option<Items<'_>>
+    ensures { option_map (λ items. values_from items.count items.bytes.now) result ≡ elements_in value.now }
 {
     match read_ref(value) {
-        Ok((ValueRef::Array { count, items }, _)) => Some(Row {
+        Ok((ValueRef::Array { count, items }, _)) => Some(Items {
             count,
             bytes: items,
         }),
@@ -180,7 +178,7 @@ fn elements_in(value: &[u8]) -> Option<Row<'_>>
 
 /// The text that stands first.
 fn text_in(value: &[u8]) -> Option<&[u8]>
-    ensures { option_copied result ≡ text_shown (reading_of value.now) }
+    ensures { option_copied result ≡ first_as as_text value.now }
 {
     match read_ref(value) {
         Ok((ValueRef::Str(text), _)) => Some(text),

@@ -5,12 +5,12 @@ use mx_msgpack::Bytes;
 use mx_vclock::Vclock;
 use uuid::Uuid;
 
-/// What the header of a packet tells.
+/// What the header of a packet holds.
 #[derive(Clone, Copy, Debug, Drop)]
 pub struct Head3 {
     pub sync: SyncId,
     pub stream: StreamId,
-    /// The number of the request's type.
+    /// The request type.
     pub kind: u8,
 }
 
@@ -81,18 +81,18 @@ pub enum Request {
         set: Uuid,
         clock: Vclock,
     },
-    /// Tells how far a replica has come.
+    /// Acknowledges all commits up to a vclock.
     Ack {
         clock: Vclock,
     },
 }
 
-/// What a packet comes to, or the end of its connection.
+/// What a packet asks, or the end of its connection.
 #[derive(Debug, Drop)]
 pub enum Ask {
     Request(Request),
     /// A packet that is refused before anything looks at the database.
     Refused(Refusal),
-    /// The connection leaves.
+    /// The client disconnects.
     Leave,
 }

@@ -50,9 +50,6 @@ pub(crate) enum RequestRef<'a> {
 }
 
 /// The request with copies of its arrays.
-///
-/// # Errors
-/// Memory ran out.
 pub(crate) fn to_owned(alloc: Global, request: RequestRef<'_>) -> Result<Request, AllocError>
     ensures { IfOk result (λ owned. owned ≡ request_view request.entry) }
 {

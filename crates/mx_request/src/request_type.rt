@@ -1,15 +1,15 @@
-//! The types of requests.
+//! Request types.
 
 ghost use Rattle.std.specs.Prelude.{◌^◌, ◌<◌, IfOk};
-ghost use Rattle.mx_request.specs.Maps.{pairs_in, value_under};
-ghost use Rattle.mx_request.specs.Requests.{kind_of, zero_kind};
-ghost use Rattle.mx_request.specs.Views.{Gives, type_view};
+ghost use Rattle.mx_msgpack.specs.Maps.{pairs_in, value_under};
+ghost use Rattle.mx_base.specs.Keys.{clock_key};
+ghost use Rattle.mx_request.specs.Requests.{request_type_of, zero_type};
+ghost use Rattle.mx_msgpack.specs.Reading.{Gives};
 
-use crate::keys;
-use crate::maps::values_under;
-use mx_base::{Refusal, Unsupported};
+use mx_base::{Refusal, Unsupported, keys};
+use mx_msgpack::values_under;
 
-/// A type of request.
+/// A request type.
 #[derive(Clone, Copy)]
 pub(crate) enum RequestType {
     Ack,
@@ -30,13 +30,13 @@ pub(crate) enum RequestType {
 }
 
 /// The type that has this number.
-#[tactic(auto, unfolding(crate::specs::Requests::kind_of))]
-pub(crate) fn type_of(number: u64, body: &[u8]) -> Result<RequestType, Refusal>
-    ensures known { Gives type_view result (kind_of number (pairs_in body.now)) }
+#[tactic(auto, unfolding(crate::specs::Requests::request_type_of))]
+pub(crate) fn request_type_of(number: u64, body: &[u8]) -> Result<RequestType, Refusal>
+    ensures known { Gives (λ x. x) result (request_type_of number (pairs_in body.now)) }
     ensures small { IfOk result (λ _. number < 2 ^ 8) }
 {
     match number {
-        0 => type_of_zero(body),
+        0 => zero_type(body),
         1 => Ok(RequestType::Select),
         2 => Ok(RequestType::Insert),
         3 => Ok(RequestType::Replace),
@@ -59,8 +59,8 @@ pub(crate) fn type_of(number: u64, body: &[u8]) -> Result<RequestType, Refusal>
 }
 
 /// The type that has the number 0: an acknowledgement, where the body has a vclock.
-fn type_of_zero(body: &[u8]) -> Result<RequestType, Refusal>
-    ensures { Gives type_view result (zero_kind (value_under 0x26 (pairs_in body.now))) }
+fn zero_type(body: &[u8]) -> Result<RequestType, Refusal>
+    ensures { Gives (λ x. x) result (zero_type (value_under clock_key (pairs_in body.now))) }
 {
     let mut values = [None; 1];
     values_under(&[keys::CLOCK], body, &mut values);

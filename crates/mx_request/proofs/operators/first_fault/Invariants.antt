@@ -1,5 +1,5 @@
 use Rattle.std.proofs.Common.{◌≡◌, ◌-◌}
-use Rattle.mx_request.specs.Maps.{values_from}
+use Rattle.mx_msgpack.specs.Items.{values_from}
 use Rattle.mx_request.specs.Operators.{first_fault_from}
 use Rattle.mx_request.proofs.operators.first_fault.Given as goal
 

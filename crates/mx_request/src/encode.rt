@@ -1,4 +1,4 @@
-//! Writing requests as packets.
+//! Encoding requests as packets.
 
 ghost use Rattle.std.specs.Prelude.{◌≡◌, ℕ, ◌+◌, ◌<◌, ◌≤◌, ◌^◌, ◌++◌, ◌∷◌, length, map, take, OnOk, MatchResult};
 ghost use Rattle.std.specs.List.{concat};
@@ -6,12 +6,11 @@ ghost use Rattle.byteorder.specs.Endian.{big_bytes};
 ghost use Rattle.mx_msgpack.specs.Spelling.{shortest_unsigned};
 ghost use Rattle.mx_vclock.specs.Spelling.{clock_map};
 ghost use Rattle.mx_request.specs.declared.request.Request.TheVariants as request;
-ghost use Rattle.mx_request.specs.Spelling.{body_of, body_text, header_of, kind_number, map_text, pair_text, request_packet, unless_default, uuid_str};
+ghost use Rattle.mx_request.specs.Spelling.{body_pairs, request_body_text, header_pairs, type_number, map_text, entry_text, request_packet, unless_default, uuid_str};
 
-use crate::keys;
 use crate::request::{Head3, Request};
 use byteorder::{BigEndian, ByteOrder};
-use mx_base::{IndexId, SpaceId};
+use mx_base::{IndexId, SpaceId, keys};
 use mx_msgpack::{Bytes, write_map_head, write_str_head, write_unsigned};
 use mx_vclock::Vclock;
 use std::alloc::{AllocError, Global};
@@ -24,16 +23,16 @@ const NO_LIMIT: u64 = 0xffff_ffff;
 /// where the request has keys. A key with a default is left out where its value is that.
 ///
 /// # Errors
-/// Memory ran out, or header and body have more than 2^32 - 1 bytes together. Nothing was added.
+/// Out of memory, or header and body have more than 2^32 - 1 bytes together. Nothing is added.
 pub fn write_request(
     alloc: Global,
     head: &Head3,
     request: &Request,
     out: &mut Bytes,
 ) -> Result<(), AllocError>
-    requires { head.now.kind ≡ kind_number request.now }
+    requires { head.now.kind ≡ type_number request.now }
     ensures written { MatchResult result (λ _. out.new ≡ out.old ++ request_packet head.now request.now) (λ _. out.new ≡ out.old) }
-    ensures fits { OnOk result (length (map_text (header_of head.now) ++ body_text (body_of request.now)) < 2 ^ 32) }
+    ensures fits { OnOk result (length (map_text (header_pairs head.now) ++ request_body_text (body_pairs request.now)) < 2 ^ 32) }
 {
     let mut content = Bytes::new(alloc);
     write_header(head, &mut content)?;
@@ -44,7 +43,7 @@ pub fn write_request(
 /// Adds bytes behind their number, which takes 32 bits.
 ///
 /// # Errors
-/// Memory ran out, or there are more than 2^32 - 1 bytes. Nothing was added.
+/// Out of memory, or there are more than 2^32 - 1 bytes. Nothing is added.
 fn write_sized(content: &Bytes, out: &mut Bytes) -> Result<(), AllocError>
     ensures written { MatchResult result (λ _. out.new ≡ out.old ++ ((0xce ∷ big_bytes 4 (length content.now)) ++ content.now)) (λ _. out.new ≡ out.old) }
     ensures fits { OnOk result (length content.now < 2 ^ 32) }
@@ -62,7 +61,7 @@ fn write_sized(content: &Bytes, out: &mut Bytes) -> Result<(), AllocError>
     written
 }
 
-/// Adds two rows of bytes. Where memory ran out the first may have been added.
+/// Adds two slices. At an error the first may have been added.
 fn write_both(first: &[u8], second: &[u8], out: &mut Bytes) -> Result<(), AllocError>
     ensures { MatchResult result (λ _. out.new ≡ out.old ++ (first.now ++ second.now)) (λ _. take (length out.old) out.new ≡ out.old) }
 {
@@ -72,7 +71,7 @@ fn write_both(first: &[u8], second: &[u8], out: &mut Bytes) -> Result<(), AllocE
 
 /// Adds the map of a header.
 fn write_header(head: &Head3, out: &mut Bytes) -> Result<(), AllocError>
-    ensures { OnOk result (out.new ≡ out.old ++ map_text (header_of head.now)) }
+    ensures { OnOk result (out.new ≡ out.old ++ map_text (header_pairs head.now)) }
 {
     let count = 1 + pairs_unless(0, head.sync.0) + pairs_unless(0, head.stream.0);
     write_map_head(count, out)?;
@@ -83,7 +82,7 @@ fn write_header(head: &Head3, out: &mut Bytes) -> Result<(), AllocError>
 
 /// Adds the map of a body; nothing where the request has no keys.
 fn write_body(request: &Request, out: &mut Bytes) -> Result<(), AllocError>
-    ensures { OnOk result (out.new ≡ out.old ++ body_text (body_of request.now)) }
+    ensures { OnOk result (out.new ≡ out.old ++ request_body_text (body_pairs request.now)) }
 {
     match request {
         Request::Select {
@@ -136,7 +135,7 @@ fn write_select(
     key: &Bytes,
     out: &mut Bytes,
 ) -> Result<(), AllocError>
-    ensures { OnOk result (out.new ≡ out.old ++ map_text (body_of (request.Select space index limit offset iterator key.now))) }
+    ensures { OnOk result (out.new ≡ out.old ++ map_text (body_pairs (request.Select space index limit offset iterator key.now))) }
 {
     let index = u64::from(index.0);
     let limit = u64::from(limit);
@@ -152,12 +151,12 @@ fn write_select(
     write_unless(NO_LIMIT, keys::LIMIT, limit, out)?;
     write_unless(0, keys::OFFSET, offset, out)?;
     write_unless(0, keys::ITERATOR, iterator, out)?;
-    write_array(keys::KEY, key, out)
+    write_array(keys::PARTS, key, out)
 }
 
 /// Adds the body of an insertion or a replacement.
 fn write_tuple(space: SpaceId, tuple: &Bytes, out: &mut Bytes) -> Result<(), AllocError>
-    ensures { OnOk result (out.new ≡ out.old ++ map_text (body_of (request.Insert space tuple.now))) }
+    ensures { OnOk result (out.new ≡ out.old ++ map_text (body_pairs (request.Insert space tuple.now))) }
 {
     write_map_head(2, out)?;
     write_number(keys::SPACE, u64::from(space.0), out)?;
@@ -173,7 +172,7 @@ fn write_update(
     operations: &Bytes,
     out: &mut Bytes,
 ) -> Result<(), AllocError>
-    ensures { OnOk result (out.new ≡ out.old ++ map_text (body_of (request.Update space index base key.now operations.now))) }
+    ensures { OnOk result (out.new ≡ out.old ++ map_text (body_pairs (request.Update space index base key.now operations.now))) }
 {
     let index = u64::from(index.0);
     let base = u64::from(base);
@@ -181,7 +180,7 @@ fn write_update(
     write_number(keys::SPACE, u64::from(space.0), out)?;
     write_unless(0, keys::INDEX, index, out)?;
     write_unless(0, keys::BASE, base, out)?;
-    write_array(keys::KEY, key, out)?;
+    write_array(keys::PARTS, key, out)?;
     write_array(keys::TUPLE, operations, out)
 }
 
@@ -192,13 +191,13 @@ fn write_delete(
     key: &Bytes,
     out: &mut Bytes,
 ) -> Result<(), AllocError>
-    ensures { OnOk result (out.new ≡ out.old ++ map_text (body_of (request.Delete space index key.now))) }
+    ensures { OnOk result (out.new ≡ out.old ++ map_text (body_pairs (request.Delete space index key.now))) }
 {
     let index = u64::from(index.0);
     write_map_head(2 + pairs_unless(0, index), out)?;
     write_number(keys::SPACE, u64::from(space.0), out)?;
     write_unless(0, keys::INDEX, index, out)?;
-    write_array(keys::KEY, key, out)
+    write_array(keys::PARTS, key, out)
 }
 
 /// Adds the body of an upsert.
@@ -209,7 +208,7 @@ fn write_upsert(
     operations: &Bytes,
     out: &mut Bytes,
 ) -> Result<(), AllocError>
-    ensures { OnOk result (out.new ≡ out.old ++ map_text (body_of (request.Upsert space base tuple.now operations.now))) }
+    ensures { OnOk result (out.new ≡ out.old ++ map_text (body_pairs (request.Upsert space base tuple.now operations.now))) }
 {
     let base = u64::from(base);
     write_map_head(3 + pairs_unless(0, base), out)?;
@@ -221,7 +220,7 @@ fn write_upsert(
 
 /// Adds the body of a joining replica.
 fn write_join(instance: &Uuid, out: &mut Bytes) -> Result<(), AllocError>
-    ensures { OnOk result (out.new ≡ out.old ++ map_text (body_of (request.Join instance.now))) }
+    ensures { OnOk result (out.new ≡ out.old ++ map_text (body_pairs (request.Join instance.now))) }
 {
     write_map_head(1, out)?;
     write_uuid(keys::INSTANCE, instance, out)
@@ -234,7 +233,7 @@ fn write_subscribe(
     clock: &Vclock,
     out: &mut Bytes,
 ) -> Result<(), AllocError>
-    ensures { OnOk result (out.new ≡ out.old ++ map_text (body_of (request.Subscribe instance.now set.now clock.now))) }
+    ensures { OnOk result (out.new ≡ out.old ++ map_text (body_pairs (request.Subscribe instance.now set.now clock.now))) }
 {
     write_map_head(3, out)?;
     write_uuid(keys::INSTANCE, instance, out)?;
@@ -244,7 +243,7 @@ fn write_subscribe(
 
 /// Adds the body of an acknowledgement.
 fn write_ack(clock: &Vclock, out: &mut Bytes) -> Result<(), AllocError>
-    ensures { OnOk result (out.new ≡ out.old ++ map_text (body_of (request.Ack clock.now))) }
+    ensures { OnOk result (out.new ≡ out.old ++ map_text (body_pairs (request.Ack clock.now))) }
 {
     write_map_head(1, out)?;
     write_clock(keys::CLOCK, clock, out)
@@ -260,7 +259,7 @@ fn pairs_unless(default: u64, number: u64) -> usize
 
 /// Adds a key and its number, where that isn't the default.
 fn write_unless(default: u64, key: u8, number: u64, out: &mut Bytes) -> Result<(), AllocError>
-    ensures { OnOk result (out.new ≡ out.old ++ concat (map pair_text (unless_default key default number))) }
+    ensures { OnOk result (out.new ≡ out.old ++ concat (map entry_text (unless_default key default number))) }
 {
     if number != default {
         write_number(key, number, out)?;
@@ -270,7 +269,7 @@ fn write_unless(default: u64, key: u8, number: u64, out: &mut Bytes) -> Result<(
 
 /// Adds a key and its number.
 fn write_number(key: u8, number: u64, out: &mut Bytes) -> Result<(), AllocError>
-    ensures { OnOk result (out.new ≡ out.old ++ pair_text (key, shortest_unsigned number)) }
+    ensures { OnOk result (out.new ≡ out.old ++ entry_text (key, shortest_unsigned number)) }
 {
     out.extend_from_slice(&[key])?;
     write_unsigned(number, out)
@@ -278,7 +277,7 @@ fn write_number(key: u8, number: u64, out: &mut Bytes) -> Result<(), AllocError>
 
 /// Adds a key and its array.
 fn write_array(key: u8, array: &Bytes, out: &mut Bytes) -> Result<(), AllocError>
-    ensures { OnOk result (out.new ≡ out.old ++ pair_text (key, array.now)) }
+    ensures { OnOk result (out.new ≡ out.old ++ entry_text (key, array.now)) }
 {
     out.extend_from_slice(&[key])?;
     out.extend_from_slice(array.as_slice())
@@ -286,7 +285,7 @@ fn write_array(key: u8, array: &Bytes, out: &mut Bytes) -> Result<(), AllocError
 
 /// Adds a key and its UUID, as a text with hyphens.
 fn write_uuid(key: u8, id: &Uuid, out: &mut Bytes) -> Result<(), AllocError>
-    ensures { OnOk result (out.new ≡ out.old ++ pair_text (key, uuid_str id.now)) }
+    ensures { OnOk result (out.new ≡ out.old ++ entry_text (key, uuid_str id.now)) }
 {
     let mut buffer = Uuid::encode_buffer();
     let text = id.hyphenated().encode_lower(&mut buffer);
@@ -297,7 +296,7 @@ fn write_uuid(key: u8, id: &Uuid, out: &mut Bytes) -> Result<(), AllocError>
 
 /// Adds a key and its vclock.
 fn write_clock(key: u8, clock: &Vclock, out: &mut Bytes) -> Result<(), AllocError>
-    ensures { OnOk result (out.new ≡ out.old ++ pair_text (key, clock_map clock.now)) }
+    ensures { OnOk result (out.new ≡ out.old ++ entry_text (key, clock_map clock.now)) }
 {
     out.extend_from_slice(&[key])?;
     clock.write(out)

@@ -1,14 +1,14 @@
 //! The numbers of the request types (IPROTO, "Request codes").
 
 ghost use Rattle.std.specs.Prelude.{◌≡◌};
-ghost use Rattle.mx_request.specs.Spelling.{kind_number};
+ghost use Rattle.mx_request.specs.Spelling.{type_number};
 
 use crate::request::Request;
 
 impl Request {
     /// The number of the request's type.
     pub fn kind(&self) -> u8
-        ensures { result ≡ kind_number self.now }
+        ensures { result ≡ type_number self.now }
     {
         match self {
             Request::Ack { .. } => 0,

@@ -2,7 +2,7 @@ use Rattle.std.proofs.Common.{◌≡◌, ◌++◌, rules}
 use Rattle.std.specs.Prelude.{OnOk}
 use Rattle.std.proofs.lemmas.Result.{on_ok_weaker}
 use Rattle.mx_request.proofs.WriterLaws.{uuid_written}
-use Rattle.mx_request.proofs.writing.write_uuid.Goals as goal
+use Rattle.mx_request.proofs.encode.write_uuid.Goals as goal
 
 pub returns : goal.returns
 returns c =

@@ -3,7 +3,7 @@ use Rattle.std.proofs.lemmas.Result.{on_ok_weaker}
 use Rattle.mx_msgpack.specs.Spelling.{shortest_unsigned}
 use Rattle.mx_request.specs.Spelling.{unless_default}
 use Rattle.mx_request.proofs.WriterLaws.{select_written}
-use Rattle.mx_request.proofs.writing.write_select.Goals as goal
+use Rattle.mx_request.proofs.encode.write_select.Goals as goal
 
 pub returns : goal.returns
 returns c =

@@ -1,13 +1,13 @@
-//! Values of the kinds that the keys of requests take.
+//! The values that keys of requests take.
 
 ghost use Rattle.std.specs.Prelude.{◌≡◌, ◌≤◌, IfSome, replicate};
 ghost use Rattle.std.specs.Option.{option_copied};
 ghost use Rattle.mx_vclock.specs.Vclocks.{replicas};
-ghost use Rattle.mx_request.specs.Maps.{pairs_from};
-ghost use Rattle.mx_request.specs.Kinds.{array_in, clock_from, clock_in, number_to, unsigned_in, uuid_in};
+ghost use Rattle.mx_msgpack.specs.Maps.{pairs_from};
+ghost use Rattle.mx_request.specs.Values.{array_in, vclock_from, vclock_in, number_to, uuid_in};
+ghost use Rattle.mx_msgpack.specs.Readers.{unsigned_in};
 
-use crate::maps::{Row, first_pair};
-use mx_msgpack::{ValueRef, read_ref, unsigned_at};
+use mx_msgpack::{PairsRef, ValueRef, first_pair, read_ref, unsigned_in};
 use mx_vclock::Vclock;
 use uuid::Uuid;
 
@@ -19,14 +19,6 @@ const MAX_LSN: u64 = 1 << 58;
 
 /// How many bytes the hyphenated text of a UUID has.
 const UUID_TEXT: usize = 36;
-
-/// The number of 0 or more that stands first.
-pub(crate) fn unsigned_in(value: &[u8]) -> Option<u64>
-    ensures { result ≡ unsigned_in value.now }
-{
-    let (number, _) = unsigned_at(value)?;
-    Some(number)
-}
 
 /// The number from 0 to this one that stands first.
 pub(crate) fn number_to(most: u64, value: &[u8]) -> Option<u64>
@@ -63,11 +55,11 @@ pub(crate) fn uuid_in(value: &[u8]) -> Option<Uuid>
 }
 
 /// The vclock whose map of replica ids to lsns stands first.
-pub(crate) fn clock_in(value: &[u8]) -> Option<Vclock>
-    ensures { result ≡ clock_in value.now }
+pub(crate) fn vclock_in(value: &[u8]) -> Option<Vclock>
+    ensures { result ≡ vclock_in value.now }
 {
     match read_ref(value) {
-        Ok((ValueRef::Map { count, items }, _)) => clock_from(Row {
+        Ok((ValueRef::Map { count, items }, _)) => vclock_from(PairsRef {
             count,
             bytes: items,
         }),
@@ -77,8 +69,8 @@ pub(crate) fn clock_in(value: &[u8]) -> Option<Vclock>
 
 /// The vclock of pairs of replica ids and lsns. Of an id that comes more than once the last lsn counts,
 /// and one that doesn't come has 0.
-fn clock_from(pairs: Row<'_>) -> Option<Vclock>
-    ensures { result ≡ clock_from (replicate replicas 0) (pairs_from pairs.entry.count pairs.entry.bytes.now) }
+fn vclock_from(pairs: PairsRef<'_>) -> Option<Vclock>
+    ensures { result ≡ vclock_from (replicate replicas 0) (pairs_from pairs.entry.count pairs.entry.bytes.now) }
 {
     let mut clock = Vclock::new();
     let mut left = pairs.count;

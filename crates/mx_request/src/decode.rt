@@ -1,21 +1,21 @@
-//! Reading requests from the maps of a packet.
+//! Decoding requests from the maps of a packet.
 
 ghost use Rattle.std.specs.Prelude.{◌≡◌};
-ghost use Rattle.mx_request.specs.Maps.{pairs_in};
-ghost use Rattle.mx_request.specs.Requests.{asked_in, or_zero, optional, stream_in, sync_in};
-ghost use Rattle.mx_request.specs.Kinds.{unsigned_in};
-ghost use Rattle.mx_request.specs.Tells.{Tells};
-ghost use Rattle.mx_request.specs.Views.{Gives, request_view};
+ghost use Rattle.mx_msgpack.specs.Maps.{pairs_in};
+ghost use Rattle.mx_request.specs.Requests.{request_in, or_zero, optional, stream_in, sync_in};
+ghost use Rattle.mx_msgpack.specs.Readers.{unsigned_in};
+ghost use Rattle.mx_request.specs.Returns.{ReturnsRequest};
+ghost use Rattle.mx_request.specs.Views.{request_view};
+ghost use Rattle.mx_msgpack.specs.Reading.{Gives};
 
-use crate::bodies::request_in;
+use crate::bodies::body_request;
 use crate::fault::RequestFault;
 use crate::fields::optional_unsigned;
-use crate::keys;
-use crate::maps::values_under;
 use crate::request::{Head3, Request};
 use crate::request_ref::{RequestRef, to_owned};
-use crate::request_type::type_of;
-use mx_base::{Refusal, StreamId, SyncId};
+use crate::request_type::request_type_of;
+use mx_base::{Refusal, StreamId, SyncId, keys};
+use mx_msgpack::values_under;
 use std::alloc::Global;
 
 /// Reads what a packet's header and body ask. Each is one map; no bytes count as an empty one. Keys
@@ -23,16 +23,16 @@ use std::alloc::Global;
 /// counts.
 ///
 /// # Errors
-/// The request is refused: its type first, then its keys in rising order, then its update operations.
-/// Or memory ran out.
+/// The request is refused: its type first, then its keys in ascending order, then its update operations.
+/// Or out of memory.
 pub fn read_request(
     alloc: Global,
     header: &[u8],
     body: &[u8],
 ) -> Result<(Head3, Request), RequestFault>
-    ensures { Tells result (pairs_in header.now) (pairs_in body.now) }
+    ensures { ReturnsRequest result (pairs_in header.now) (pairs_in body.now) }
 {
-    match asked_in(header, body) {
+    match request_in(header, body) {
         Ok((head, request)) => Ok((head, to_owned(alloc, request)?)),
         Err(refusal) => {
             let (sync, stream) = header_numbers(header);
@@ -46,21 +46,21 @@ pub fn read_request(
 }
 
 /// What a header and a body ask, or the first reason why they are refused.
-#[tactic(auto, unfolding(crate::specs::Requests::asked_in))]
-fn asked_in<'a>(header: &[u8], body: &'a [u8]) -> Result<(Head3, RequestRef<'a>), Refusal>
-    ensures { Gives (λ asked. (asked.0, request_view asked.1)) result (asked_in (pairs_in header.now) (pairs_in body.now)) }
+#[tactic(auto, unfolding(crate::specs::Requests::request_in))]
+fn request_in<'a>(header: &[u8], body: &'a [u8]) -> Result<(Head3, RequestRef<'a>), Refusal>
+    ensures { Gives (λ asked. (asked.0, request_view asked.1)) result (request_in (pairs_in header.now) (pairs_in body.now)) }
 {
     let mut values = [None; 3];
     values_under(&[keys::TYPE, keys::SYNC, keys::STREAM], header, &mut values);
     let [number, sync, stream] = values;
     let number = optional_unsigned(keys::TYPE, number)?;
-    let request_type = type_of(number, body)?;
+    let request_type = request_type_of(number, body)?;
     let head = Head3 {
         sync: SyncId(optional_unsigned(keys::SYNC, sync)?),
         stream: StreamId(optional_unsigned(keys::STREAM, stream)?),
         kind: number as u8,
     };
-    Ok((head, request_in(request_type, body)?))
+    Ok((head, body_request(request_type, body)?))
 }
 
 /// The sync and the stream of the header that stands first in the bytes, each 0 where it isn't there

@@ -1,6 +1,6 @@
 use Rattle.std.proofs.Common.{◌∙◌}
-use Rattle.mx_request.proofs.KindLaws.{uuid_parsed}
-use Rattle.mx_request.proofs.kinds.uuid_in.Goals as goal
+use Rattle.mx_request.proofs.ValueLaws.{uuid_parsed}
+use Rattle.mx_request.proofs.values.uuid_in.Goals as goal
 
 pub returns-in-Ok-Str-default : goal.returns-in-Ok-Str-default
 returns-in-Ok-Str-default c =

@@ -1,6 +1,6 @@
 use Rattle.std.proofs.Common.{◌∙◌, sym}
-use Rattle.mx_request.proofs.KindLaws.{clock_turn}
-use Rattle.mx_request.proofs.kinds.clock_from.Goals as goal
+use Rattle.mx_request.proofs.ValueLaws.{clock_turn}
+use Rattle.mx_request.proofs.values.vclock_from.Goals as goal
 
 pub loop-left-preserved : goal.loop-left-preserved
 loop-left-preserved c =

@@ -1,6 +1,0 @@
-use Rattle.std.proofs.Common.{sym}
-use Rattle.mx_request.proofs.InnerLaws.{key_passed}
-use Rattle.mx_request.proofs.maps.first_key.Goals as goal
-
-pub returns-in-Some-clause-after : goal.returns-in-Some-clause-after
-returns-in-Some-clause-after c = sym (key_passed c.args.bytes.now (c.in-Some.number, c.in-Some.rest.now) (sym c.in-Some.ensures))
