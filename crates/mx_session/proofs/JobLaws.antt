@@ -3,7 +3,7 @@ use Rattle.std.proofs.Common.{◌≡◌, ℕ, Bool, true, false, List, [], ◌�
 use Rattle.std.specs.Prelude.{if◌then◌else◌}
 use Rattle.std.proofs.lemmas.List.{map-append}
 use Rattle.mx_msgpack.proofs.ReaderLaws.{all_from_none, all_from_some}
-use Rattle.mx_frame.specs.Packets.{First, Packet, NeedMore, Broken, first_of, packet_found, packet_at, packets_of, rest_of, is_broken, breaks_off}
+use Rattle.mx_frame.specs.Packets.{First, Packet, NeedMore, Broken, first_frame, packet_found, packet_at, packets_of, rest_of, is_broken, breaks_off}
 use Rattle.mx_frame.proofs.FrameLaws.{packet_stays, none_stays, packet_advances, packets_of-append, rest_of-append, broken_stays}
 use Rattle.mx_session.specs.declared.job.Job.{Job}
 use Rattle.mx_session.specs.Jobs.{job_in, broken_job, up_to_end, jobs_of, some_ends, ends}
@@ -42,20 +42,20 @@ abbrev packet_jobs : (connection : ℕ) → List ℕ → List (Job × Bool)
 packet_jobs connection bytes = map (job_in connection) (packets_of bytes)
 
 abbrev found_jobs : (connection : ℕ) → List (List ℕ) × List ℕ → List Job
-found_jobs connection found = up_to_end (map (job_in connection) found.0) (last_of connection (is_broken (first_of found.1)))
+found_jobs connection found = up_to_end (map (job_in connection) found.0) (last_of connection (is_broken (first_frame found.1)))
 
-packet_first : (connection : ℕ) (bytes content rest : List ℕ) → first_of bytes ≡ Packet content rest
+packet_first : (connection : ℕ) (bytes content rest : List ℕ) → first_frame bytes ≡ Packet content rest
     → jobs_of connection bytes ≡ up_to_end (job_in connection content ∷ packet_jobs connection rest) (last_of connection (breaks_off rest))
 packet_first connection bytes content rest e = ap (found_jobs connection) (all_from_some packet_at packet_advances bytes (content, rest) (ap packet_found e))
 
-none_first : (connection : ℕ) (bytes : List ℕ) (first : First) → packet_found first ≡ None → first_of bytes ≡ first
+none_first : (connection : ℕ) (bytes : List ℕ) (first : First) → packet_found first ≡ None → first_frame bytes ≡ first
     → jobs_of connection bytes ≡ last_of connection (is_broken first)
 none_first connection bytes first none e =
     ap (found_jobs connection) (all_from_none packet_at packet_advances bytes (ap packet_found e ∙ none))
     ∙ ap (λ (first : First). last_of connection (is_broken first)) e
 
 module _ (connection : ℕ) (bytes : List ℕ) (job : Job) (rest : List ℕ) where
-  goes_on_with : (first : First) → first_of bytes ≡ first → next_by connection bytes first ≡ JobSeen job rest false
+  goes_on_with : (first : First) → first_frame bytes ≡ first → next_by connection bytes first ≡ JobSeen job rest false
       → jobs_of connection bytes ≡ job ∷ jobs_of connection rest
   goes_on_with (Packet content others) is seen =
       let rest_is : others ≡ rest = cc in
@@ -66,10 +66,10 @@ module _ (connection : ℕ) (bytes : List ℕ) (job : Job) (rest : List ℕ) whe
   goes_on_with NeedMore is seen = absurd cc
   goes_on_with Broken is seen = absurd cc
 
-  pub goes_on : next_by connection bytes (first_of bytes) ≡ JobSeen job rest false → jobs_of connection bytes ≡ job ∷ jobs_of connection rest
-  goes_on = goes_on_with (first_of bytes) refl
+  pub goes_on : next_by connection bytes (first_frame bytes) ≡ JobSeen job rest false → jobs_of connection bytes ≡ job ∷ jobs_of connection rest
+  goes_on = goes_on_with (first_frame bytes) refl
 
-  ends_with : (first : First) → first_of bytes ≡ first → next_by connection bytes first ≡ JobSeen job rest true → jobs_of connection bytes ≡ job ∷ []
+  ends_with : (first : First) → first_frame bytes ≡ first → next_by connection bytes first ≡ JobSeen job rest true → jobs_of connection bytes ≡ job ∷ []
   ends_with (Packet content others) is seen =
       let job_is : (job_in connection content).0 ≡ job = cc in
       packet_first connection bytes content others is
@@ -78,25 +78,25 @@ module _ (connection : ℕ) (bytes : List ℕ) (job : Job) (rest : List ℕ) whe
   ends_with NeedMore is seen = absurd cc
   ends_with Broken is seen = none_first connection bytes Broken refl is ∙ cc
 
-  pub ends_there : next_by connection bytes (first_of bytes) ≡ JobSeen job rest true → jobs_of connection bytes ≡ job ∷ []
-  ends_there = ends_with (first_of bytes) refl
+  pub ends_there : next_by connection bytes (first_frame bytes) ≡ JobSeen job rest true → jobs_of connection bytes ≡ job ∷ []
+  ends_there = ends_with (first_frame bytes) refl
 
-pub needs_more : (connection : ℕ) (bytes : List ℕ) → next_by connection bytes (first_of bytes) ≡ MoreNeeded → jobs_of connection bytes ≡ []
-needs_more connection bytes = by_first (first_of bytes) refl
+pub needs_more : (connection : ℕ) (bytes : List ℕ) → next_by connection bytes (first_frame bytes) ≡ MoreNeeded → jobs_of connection bytes ≡ []
+needs_more connection bytes = by_first (first_frame bytes) refl
   where
-    by_first : (first : First) → first_of bytes ≡ first → next_by connection bytes first ≡ MoreNeeded → jobs_of connection bytes ≡ []
+    by_first : (first : First) → first_frame bytes ≡ first → next_by connection bytes first ≡ MoreNeeded → jobs_of connection bytes ≡ []
     by_first (Packet content rest) is seen = absurd cc
     by_first NeedMore is seen = none_first connection bytes NeedMore refl is
     by_first Broken is seen = absurd cc
 
 -- ---- pieces
 
-pub next_stays : (connection : ℕ) (bytes more : List ℕ) (job : Job) (rest : List ℕ) (ends : Bool) → next_by connection bytes (first_of bytes) ≡ JobSeen job rest ends
-    → next_by connection (bytes ++ more) (first_of (bytes ++ more)) ≡ JobSeen job (rest ++ more) ends
-next_stays connection bytes more job rest ends = by_first (first_of bytes) refl
+pub next_stays : (connection : ℕ) (bytes more : List ℕ) (job : Job) (rest : List ℕ) (ends : Bool) → next_by connection bytes (first_frame bytes) ≡ JobSeen job rest ends
+    → next_by connection (bytes ++ more) (first_frame (bytes ++ more)) ≡ JobSeen job (rest ++ more) ends
+next_stays connection bytes more job rest ends = by_first (first_frame bytes) refl
   where
-    by_first : (first : First) → first_of bytes ≡ first → next_by connection bytes first ≡ JobSeen job rest ends
-        → next_by connection (bytes ++ more) (first_of (bytes ++ more)) ≡ JobSeen job (rest ++ more) ends
+    by_first : (first : First) → first_frame bytes ≡ first → next_by connection bytes first ≡ JobSeen job rest ends
+        → next_by connection (bytes ++ more) (first_frame (bytes ++ more)) ≡ JobSeen job (rest ++ more) ends
     by_first (Packet content others) is seen =
         let rest_is : others ≡ rest = cc in
         ap (next_by connection (bytes ++ more)) (packet_stays bytes more content others is) ∙ rw (← rest_is) cc
@@ -136,7 +136,7 @@ module _ (connection : ℕ) (bytes more : List ℕ) where
   pub in_pieces : ends connection bytes ≡ false → jobs_of connection (bytes ++ more) ≡ jobs_of connection bytes ++ jobs_of connection (rest_of bytes ++ more)
   in_pieces on =
       let neither = neither_holds (some_ends (packet_jobs connection bytes)) (breaks_off bytes) on in
-      let same_end : breaks_off (bytes ++ more) ≡ breaks_off (rest_of bytes ++ more) = ap (λ (l : List ℕ). is_broken (first_of l)) (rest_of-append bytes more) in
+      let same_end : breaks_off (bytes ++ more) ≡ breaks_off (rest_of bytes ++ more) = ap (λ (l : List ℕ). is_broken (first_frame l)) (rest_of-append bytes more) in
       in_two (last_of connection (breaks_off (bytes ++ more)))
       ∙ up_to_end-append (packet_jobs connection bytes) (packet_jobs connection (rest_of bytes ++ more))
       (last_of connection (breaks_off (bytes ++ more))) neither.0

@@ -1,7 +1,5 @@
 -- What the packets of a connection come to: a job each, up to and with the first one whose bytes aren't one or two maps.
-use Rattle.std.specs.Prelude.{ℕ, Bool, true, false, List, [], ◌∷◌, take, drop, map, Option, Some, None, Result, Ok, Err, if◌then◌else◌}
-use Rattle.mx_msgpack.specs.declared.bad.Bad.{Bad}
-use Rattle.mx_msgpack.specs.Reading.{Shown, ShownNil, ShownBool, ShownInt, ShownStr, ShownBin, ShownArray, ShownMap, ShownOpaque, reading_of}
+use Rattle.std.specs.Prelude.{ℕ, Bool, true, false, List, [], ◌∷◌, map, Option, Some, None, Result, Ok, Err, if◌then◌else◌}
 use Rattle.mx_msgpack.specs.Readers.{◌>>=◌}
 use Rattle.mx_base.specs.declared.refusal.Refusal.{Refusal}
 use Rattle.mx_base.specs.declared.refusal.Refusal.TheVariants.{NotMessagePack}
@@ -9,33 +7,19 @@ use Rattle.mx_frame.specs.Packets.{packets_of, breaks_off}
 use Rattle.mx_request.specs.declared.request.Ask.TheVariants.{Request, Refused}
 use Rattle.mx_request.specs.declared.request.Head3.{Head3}
 use Rattle.mx_request.specs.declared.request.Request as request
-use Rattle.mx_request.specs.Maps.{Pair, pairs_in}
-use Rattle.mx_request.specs.Requests.{asked_in, sync_in, stream_in}
+use Rattle.mx_msgpack.specs.Maps.{Pair, map_at, pairs_in}
+use Rattle.mx_request.specs.Requests.{request_in, sync_in, stream_in}
 use Rattle.mx_session.specs.declared.job.Job.{Job}
 
-abbrev pub map_parted : List ℕ → Result (Shown × ℕ) Bad → Option (List ℕ × List ℕ)
-map_parted bytes (Err bad) = None
-map_parted bytes (Ok (ShownNil, size)) = None
-map_parted bytes (Ok (ShownBool truth, size)) = None
-map_parted bytes (Ok (ShownInt number, size)) = None
-map_parted bytes (Ok (ShownStr text, size)) = None
-map_parted bytes (Ok (ShownBin content, size)) = None
-map_parted bytes (Ok (ShownArray count items, size)) = None
-map_parted bytes (Ok (ShownMap count items, size)) = Some (take size bytes, drop size bytes)
-map_parted bytes (Ok (ShownOpaque spelling, size)) = None
-
--- the map that stands first, and the bytes after it
-abbrev pub map_at : List ℕ → Option (List ℕ × List ℕ)
-map_at bytes = map_parted bytes (reading_of bytes)
-
-abbrev pub only_whole : List ℕ × List ℕ → Option (List ℕ)
-only_whole (map, []) = Some map
-only_whole (map, byte ∷ rest) = None
+-- a map that nothing follows
+abbrev pub whole_map : List ℕ × List ℕ → Option (List ℕ)
+whole_map (map, []) = Some map
+whole_map _ = None
 
 -- a body: no bytes, or one map
 abbrev pub body_in : List ℕ → Option (List ℕ)
 body_in [] = Some []
-body_in (byte ∷ bytes) = map_at (byte ∷ bytes) >>= only_whole
+body_in (byte ∷ bytes) = map_at (byte ∷ bytes) >>= whole_map
 
 -- the header and the body of a packet, where its bytes are one map, or two, and nothing else
 unfoldable pub maps_in : List ℕ → Option (List ℕ × List ℕ)
@@ -44,7 +28,7 @@ maps_in packet = do
   body ← body_in header.1
   Some (header.0, body)
 
--- a refusal in the words of a header
+-- a refusal with the stream and the sync of a header
 abbrev pub refused_job : (connection : ℕ) → List Pair → Refusal → Job
 refused_job connection header refusal = record {
   name = record { conn = record { 0 = connection }; stream = record { 0 = stream_in header } };
@@ -63,7 +47,7 @@ asked_job connection header (Err refusal) = refused_job connection header refusa
 -- a job, and whether the connection ends with it
 abbrev pub job_by : (connection : ℕ) → (packet : List ℕ) → Option (List ℕ × List ℕ) → Job × Bool
 job_by connection packet None = (refused_job connection (pairs_in packet) NotMessagePack, true)
-job_by connection packet (Some maps) = (asked_job connection (pairs_in maps.0) (asked_in (pairs_in maps.0) (pairs_in maps.1)), false)
+job_by connection packet (Some maps) = (asked_job connection (pairs_in maps.0) (request_in (pairs_in maps.0) (pairs_in maps.1)), false)
 
 -- what a packet comes to, and whether the connection ends with it
 abbrev pub job_in : (connection : ℕ) → (packet : List ℕ) → Job × Bool

@@ -1,4 +1,4 @@
 pub mod Jobs
 pub mod Outboxes
 pub mod Sessions
-pub mod Tells
+pub mod Returns

@@ -1,10 +1,10 @@
 -- A session as its calls see it.
 use Rattle.std.specs.Prelude.{ℕ, Bool, true, List, [], ◌∷◌, ◌++◌, Option, Some, None, nat_le, if◌then◌else◌}
-use Rattle.mx_frame.specs.Packets.{First, Packet, NeedMore, Broken, first_of}
+use Rattle.mx_frame.specs.Packets.{First, Packet, NeedMore, Broken, first_frame}
 use Rattle.mx_session.specs.declared.job.Job.{Job}
 use Rattle.mx_session.specs.Jobs.{job_in, broken_job}
 
--- a reply that waits, and the length of the history that has to be on the disk before it leaves
+-- a reply that waits, and how many steps of the history have to be durable before it is sent
 pub record Waiting : Type 0 where
   pub front : ℕ
   pub reply : List ℕ
@@ -16,7 +16,7 @@ pub record SessionState : Type 0 where
   -- whether a packet came that ended the connection
   pub ended : Bool
   pub waiting : List Waiting
-  -- the bytes that may leave
+  -- the bytes that may be sent
   pub out : List ℕ
 
 -- what a session's next call gives: a job, with the bytes after it and whether the connection ends with it
@@ -32,15 +32,15 @@ next_by connection bytes Broken = JobSeen (broken_job connection) bytes true
 
 -- what comes next
 abbrev pub next_of : SessionState → NextSeen
-next_of session = if session.ended then AllSeen else next_by session.connection session.rest (first_of session.rest)
+next_of session = if session.ended then AllSeen else next_by session.connection session.rest (first_frame session.rest)
 
--- the replies that wait, once those at the front that may leave have left, and the bytes of these
+-- the bytes of the first replies, up to the first that isn't durable, and the replies that go on waiting
 abbrev pub released : (durable : ℕ) → List Waiting → List ℕ × List Waiting
 released durable [] = ([], [])
 released durable (first ∷ others) =
     if nat_le first.front durable then (first.reply ++ (released durable others).0, (released durable others).1) else ([], first ∷ others)
 
--- the front of the first reply that waits
+-- how many steps have to be durable before the first reply that waits is sent
 abbrev pub first_front : List Waiting → Option ℕ
 first_front [] = None
 first_front (first ∷ others) = Some first.front

@@ -1,8 +1,8 @@
 //! Jobs: what the packets of a connection come to.
 
 ghost use Rattle.std.specs.Prelude.{◌≡◌, IfOk};
-ghost use Rattle.mx_request.specs.Maps.{pairs_in};
-ghost use Rattle.mx_request.specs.Requests.{asked_in};
+ghost use Rattle.mx_msgpack.specs.Maps.{pairs_in};
+ghost use Rattle.mx_request.specs.Requests.{request_in};
 ghost use Rattle.mx_session.specs.Jobs.{asked_job, broken_job, job_in};
 
 use crate::packet::maps_in;
@@ -19,9 +19,6 @@ pub struct Job {
 }
 
 /// What a packet comes to, and whether the connection ends with it.
-///
-/// # Errors
-/// Memory ran out.
 pub(crate) fn job_in(
     alloc: Global,
     connection: ConnId,
@@ -47,9 +44,6 @@ pub(crate) fn broken_job(connection: ConnId) -> Job
 }
 
 /// What a header and a body ask, or why they are refused.
-///
-/// # Errors
-/// Memory ran out.
 fn asked_job(
     alloc: Global,
     connection: ConnId,
@@ -57,7 +51,7 @@ fn asked_job(
     body: &[u8],
 ) -> Result<Job, AllocError>
     ensures { let header_pairs = pairs_in header.now in
-        IfOk result (λ job. job ≡ asked_job connection.0 header_pairs (asked_in header_pairs (pairs_in body.now))) }
+        IfOk result (λ job. job ≡ asked_job connection.0 header_pairs (request_in header_pairs (pairs_in body.now))) }
 {
     match read_request(alloc, header, body) {
         Ok((head, request)) => Ok(Job {

@@ -1,4 +1,4 @@
-//! A connection's session: bytes in, jobs out; replies in, bytes out once they may leave (IPROTO, "Packet structure").
+//! A connection's session: bytes in, jobs out; replies in, bytes out once they may be sent (IPROTO, "Packet structure").
 #![tactic(auto)]
 
 mod job;

@@ -1,4 +1,4 @@
-//! What leaves on a connection: bytes that may leave, and replies that wait.
+//! The output of a connection: bytes that may be sent, and replies that wait.
 
 ghost use Rattle.std.specs.Prelude.{◌≡◌, ◌-◌, ◌*◌, ◌≤◌, ◌++◌, ◌∷◌, [], length, drop, vec_len, IfOk, MatchResult};
 ghost use Rattle.mx_session.specs.Outboxes.{after_release};
@@ -8,11 +8,11 @@ use std::alloc::{AllocError, Global};
 use std::collections::VecDeque;
 use std::marker::Model;
 
-/// One buffer for all that leaves, in which one after the other lie what left already, what may
-/// leave, and the replies that wait.
+/// One buffer for all output, in which one after the other lie what is sent, what may be sent, and the
+/// replies that wait.
 #[derive(Debug, Drop)]
 pub(crate) struct Outbox {
-    /// What left ends at `start`, and what may leave at `released`.
+    /// What is sent ends at `start`, and what may be sent at `released`.
     buffer: Vec<u8>,
     start: usize,
     released: usize,
@@ -20,8 +20,8 @@ pub(crate) struct Outbox {
     queue: VecDeque<Held>,
 }
 
-/// A reply that waits: the number of steps of the history that have to be on the disk before it
-/// leaves, and how many bytes it has.
+/// A reply that waits: how many steps of the history have to be durable before it is sent, and how many
+/// bytes it has.
 #[derive(Clone, Copy, Debug, Drop)]
 pub(crate) struct Held {
     front: u64,
@@ -40,10 +40,7 @@ impl Model for Outbox {
 }
 
 impl Outbox {
-    /// An outbox from which these bytes may leave, and in which nothing waits.
-    ///
-    /// # Errors
-    /// Memory ran out.
+    /// An outbox from which these bytes may be sent, and in which nothing waits.
     pub(crate) fn new(alloc: Global, out: &[u8]) -> Result<Outbox, AllocError>
         ensures { IfOk result (λ outbox. outbox ≡ record { waiting = []; out = out.now }) }
     {
@@ -55,10 +52,10 @@ impl Outbox {
         })
     }
 
-    /// Adds a reply, which waits behind the others.
+    /// Adds a reply after the others.
     ///
     /// # Errors
-    /// Memory ran out, and the reply isn't added.
+    /// Out of memory; the reply isn't added.
     pub(crate) fn push(&mut self, front: u64, reply: &[u8]) -> Result<(), AllocError>
         ensures { MatchResult result
             (λ _. self.new ≡ record self.old { waiting = self.old.waiting ++ record { front = front; reply = reply.now } ∷ [] })
@@ -76,7 +73,7 @@ impl Outbox {
         Ok(())
     }
 
-    /// Lets replies leave, in order, up to the first whose front is above `durable`.
+    /// Lets replies be sent, in order, up to the first whose `front` is above `durable`.
     pub(crate) fn release(&mut self, durable: u64)
         ensures { self.new ≡ after_release durable self.old }
     {
@@ -89,21 +86,21 @@ impl Outbox {
         }
     }
 
-    /// The front of the first reply that waits.
+    /// The `front` of the first reply that waits.
     pub(crate) fn first_front(&self) -> Option<u64>
         ensures { result ≡ first_front self.now.waiting }
     {
         self.queue.front().map(|first| first.front)
     }
 
-    /// The bytes that may leave.
+    /// The bytes that may be sent.
     pub(crate) fn out(&self) -> &[u8]
         ensures { result.now ≡ self.now.out }
     {
         &self.buffer[self.start..self.released]
     }
 
-    /// Drops the first `count` bytes of those that may leave, since they left.
+    /// Drops the first `count` bytes that may be sent, once they are.
     pub(crate) fn sent(&mut self, count: usize)
         requires { count ≤ length self.old.out }
         ensures { self.new ≡ record self.old { out = drop count self.old.out } }
@@ -117,8 +114,8 @@ impl Outbox {
     }
 }
 
-/// Drops the first `sent` bytes, which left, where they are more than half, so that each byte is
-/// moved once at most for each byte that left. Gives how many were dropped.
+/// Drops the first `sent` bytes where they are more than half, so that each byte is moved at most once
+/// for each byte that was sent. Returns how many were dropped.
 fn drop_sent(buffer: &mut Vec<u8>, sent: usize) -> usize
     requires { sent ≤ vec_len buffer.old }
     ensures dropped { (result ≤ sent) × (buffer.new.items ≡ drop result buffer.old.items) }

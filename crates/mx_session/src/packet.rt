@@ -2,9 +2,10 @@
 
 ghost use Rattle.std.specs.Prelude.{◌≡◌};
 ghost use Rattle.std.specs.Option.{option_copied, option_map};
-ghost use Rattle.mx_session.specs.Jobs.{body_in, map_at, maps_in};
+ghost use Rattle.mx_msgpack.specs.Maps.{map_at};
+ghost use Rattle.mx_session.specs.Jobs.{body_in, maps_in};
 
-use mx_msgpack::{ValueRef, read_ref};
+use mx_msgpack::map_at;
 
 /// The header and the body of a packet that is one map, or two, and nothing else. A packet of one map
 /// has a body of no bytes.
@@ -29,14 +30,4 @@ fn body_in(bytes: &[u8]) -> Option<&[u8]>
         return None;
     }
     Some(body)
-}
-
-/// The map that stands first, and the bytes after it.
-fn map_at(bytes: &[u8]) -> Option<(&[u8], &[u8])>
-    ensures { option_map (λ x. (x.0.now, x.1.now)) result ≡ map_at bytes.now }
-{
-    match read_ref(bytes) {
-        Ok((ValueRef::Map { .. }, size)) => Some(bytes.split_at(size)),
-        _ => None,
-    }
 }

@@ -1,9 +1,9 @@
 //! The session.
 
-ghost use Rattle.std.specs.Prelude.{◌≡◌, ◌≤◌, ◌++◌, ◌∷◌, [], length, drop, false, IfOk, MatchResult, if◌then◌else◌};
+ghost use Rattle.std.specs.Prelude.{◌≡◌, ◌≤◌, ◌++◌, ◌∷◌, [], length, drop, true, false, IfOk, MatchResult, if◌then◌else◌};
 ghost use Rattle.mx_request.specs.declared.request.Ask.TheVariants as ask;
 ghost use Rattle.mx_session.specs.Sessions.{first_front, released};
-ghost use Rattle.mx_session.specs.Tells.{TellsNext};
+ghost use Rattle.mx_session.specs.Returns.{ReturnsNext};
 
 use crate::job::{Job, broken_job, job_in};
 use crate::outbox::Outbox;
@@ -25,8 +25,8 @@ pub enum Next {
     Ended,
 }
 
-/// One connection: the bytes that came on it as jobs, and the replies to them, each of which leaves
-/// once what it saw is on the disk.
+/// One connection: the bytes that came on it as jobs, and the replies to them, each of which is sent
+/// once what it depends on is durable.
 #[derive(Debug, Drop)]
 pub struct Session {
     alloc: Global,
@@ -45,10 +45,7 @@ impl Model for Session {
 }
 
 impl Session {
-    /// The session of a new connection, on which this greeting leaves first.
-    ///
-    /// # Errors
-    /// Memory ran out.
+    /// The session of a new connection, on which this greeting is sent first.
     pub fn new(alloc: Global, conn: ConnId, greeting: &[u8; 128]) -> Result<Session, AllocError>
         ensures { IfOk result (λ session. session ≡ record { connection = conn.0; rest = []; ended = false; waiting = []; out = greeting.now }) }
     {
@@ -64,7 +61,7 @@ impl Session {
     /// Takes bytes that came on the connection. Once it ended they are dropped.
     ///
     /// # Errors
-    /// Memory ran out, and the bytes aren't taken.
+    /// Out of memory; the bytes aren't taken.
     pub fn feed(&mut self, piece: &[u8]) -> Result<(), AllocError>
         ensures { MatchResult result
             (λ _. self.new ≡ record self.old { rest = if self.old.ended then self.old.rest else self.old.rest ++ piece.now })
@@ -79,9 +76,9 @@ impl Session {
     /// What the next packet comes to, which is then done with.
     ///
     /// # Errors
-    /// Memory ran out, and the packet is still the next one.
+    /// Out of memory; the packet is still the next one.
     pub fn next_job(&mut self) -> Result<Next, AllocError>
-        ensures { TellsNext result self.old self.new }
+        ensures { ReturnsNext result self.old self.new }
     {
         if self.ended {
             return Ok(Next::Ended);
@@ -89,16 +86,28 @@ impl Session {
         match self.framer.next() {
             Framed::NeedMore => Ok(Next::NeedMore),
             Framed::Broken { .. } => {
-                self.ended = true;
-                Ok(Next::Job(broken_job(self.connection)))
+                let job = broken_job(self.connection);
+                self.end();
+                Ok(Next::Job(job))
             }
             Framed::Packet(packet) => {
                 let (job, ends) = job_in(self.alloc, self.connection, packet)?;
-                self.framer.pass();
-                self.ended = ends;
+                if ends {
+                    self.end();
+                } else {
+                    self.framer.pass();
+                }
                 Ok(Next::Job(job))
             }
         }
+    }
+
+    /// Ends the connection, and drops what came on it.
+    fn end(&mut self)
+        ensures { self.new ≡ record self.old { rest = []; ended = true } }
+    {
+        self.ended = true;
+        self.framer = Framer::new(self.alloc);
     }
 
     /// Whether a packet came that ended the connection.
@@ -108,11 +117,11 @@ impl Session {
         self.ended
     }
 
-    /// Adds the reply to a job, which may leave once the first `front` steps of the history are on
-    /// the disk, and not before an earlier reply.
+    /// Adds the reply to a job, which may be sent once the first `front` steps of the history are
+    /// durable, and not before an earlier reply.
     ///
     /// # Errors
-    /// Memory ran out, and the reply isn't added.
+    /// Out of memory; the reply isn't added.
     pub fn push_reply(&mut self, front: u64, reply: Bytes) -> Result<(), AllocError>
         ensures { MatchResult result
             (λ _. self.new ≡ record self.old { waiting = self.old.waiting ++ record { front = front; reply = reply } ∷ [] })
@@ -121,29 +130,29 @@ impl Session {
         self.outbox.push(front, reply.as_slice())
     }
 
-    /// Lets replies leave, in order, up to the first whose front is above `durable`, the number of
-    /// steps that are on the disk.
+    /// Lets replies be sent, in order, up to the first whose `front` is above `durable`, the number of
+    /// durable steps.
     pub fn release(&mut self, durable: u64)
         ensures { self.new ≡ record self.old { waiting = (released durable self.old.waiting).1; out = self.old.out ++ (released durable self.old.waiting).0 } }
     {
         self.outbox.release(durable);
     }
 
-    /// The front of the first reply that waits.
+    /// The `front` of the first reply that waits.
     pub fn waiting(&self) -> Option<u64>
         ensures { result ≡ first_front self.now.waiting }
     {
         self.outbox.first_front()
     }
 
-    /// The bytes that may leave.
+    /// The bytes that may be sent.
     pub fn out(&self) -> &[u8]
         ensures { result.now ≡ self.now.out }
     {
         self.outbox.out()
     }
 
-    /// Drops the first `count` bytes of those that may leave, since they left.
+    /// Drops the first `count` bytes that may be sent, once they are.
     pub fn sent(&mut self, count: usize)
         requires { count ≤ length self.old.out }
         ensures { self.new ≡ record self.old { out = drop count self.old.out } }
@@ -151,7 +160,7 @@ impl Session {
         self.outbox.sent(count);
     }
 
-    /// Ends the session: the job of a connection that leaves.
+    /// Ends the session: the job of a client that disconnects.
     pub fn close(self) -> Job
         ensures { result ≡ record { name = record { conn = record { 0 = self.connection }; stream = record { 0 = 0 } }; sync = record { 0 = 0 }; ask = ask.Leave } }
     {
