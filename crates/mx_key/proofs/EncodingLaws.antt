@@ -13,15 +13,15 @@ use Rattle.std.proofs.lemmas.Int.{ints}
 use Rattle.byteorder.specs.Endian.{big_bytes}
 use Rattle.byteorder.specs.Numbers.{big_from-cons, big_from-bytes}
 use Rattle.mx_msgpack.specs.Writing.{Fits64}
-use Rattle.mx_key.specs.Keys.{Key, KeyPart, Boolean, Integer, Text, Binary, IsFit, AreFit, part_cmp, key_cmp, is_prefix, begins}
-use Rattle.mx_key.specs.Comparable.{raised, terminated, part_bytes, comparable_of}
+use Rattle.mx_key.specs.Keys.{Key, KeyPart, Boolean, Integer, Text, Binary, IsFit, AreFit, part_cmp, key_cmp, is_prefix, is_key_prefix}
+use Rattle.mx_key.specs.Comparable.{number_above_least, content_bytes, part_bytes, comparable_of}
 
 -- ---- two rows of bytes that are compared whatever follows them
 
 -- the order of the rows decides, and where it doesn't, what follows them
-pub record Codes (front other : List ℕ) (o : Ordering) : Type 0 where
-  pub order : (xs ys : List ℕ) → slice_cmp nat_cmp (front ++ xs) (other ++ ys) ≡ ordering_then o (slice_cmp nat_cmp xs ys)
-  pub prefix : (xs ys : List ℕ) → is_prefix nat_cmp (front ++ xs) (other ++ ys) ≡ (is_eq o && is_prefix nat_cmp xs ys)
+pub record Codes (one other : List ℕ) (o : Ordering) : Type 0 where
+  pub order : (xs ys : List ℕ) → slice_cmp nat_cmp (one ++ xs) (other ++ ys) ≡ ordering_then o (slice_cmp nat_cmp xs ys)
+  pub prefix : (xs ys : List ℕ) → is_prefix nat_cmp (one ++ xs) (other ++ ys) ≡ (is_eq o && is_prefix nat_cmp xs ys)
 
 then_assoc : (a b c : Ordering) → ordering_then a (ordering_then b c) ≡ ordering_then (ordering_then a b) c
 then_assoc Less b c = refl
@@ -36,24 +36,24 @@ and_then Greater b c = refl
 codes_nothing : Codes [] [] Equal
 codes_nothing = record { order = λ xs ys. refl; prefix = λ xs ys. refl }
 
--- one more byte in front
-codes_more : (a b : ℕ) (front other : List ℕ) (o : Ordering) → Codes front other o → Codes (a ∷ front) (b ∷ other) (ordering_then (nat_cmp a b) o)
-codes_more a b front other o codes = record {
+-- one more byte before them
+codes_more : (a b : ℕ) (one other : List ℕ) (o : Ordering) → Codes one other o → Codes (a ∷ one) (b ∷ other) (ordering_then (nat_cmp a b) o)
+codes_more a b one other o codes = record {
   order = λ xs ys. ap (ordering_then (nat_cmp a b)) (codes.order xs ys) ∙ then_assoc (nat_cmp a b) o (slice_cmp nat_cmp xs ys);
   prefix = λ xs ys. ap (λ (c : Bool). is_eq (nat_cmp a b) && c) (codes.prefix xs ys) ∙ and_then (nat_cmp a b) o (is_prefix nat_cmp xs ys);
 }
 
 -- the first bytes differ
-codes_below : (a b : ℕ) (front other : List ℕ) → nat_cmp a b ≡ Less → Codes (a ∷ front) (b ∷ other) Less
-codes_below a b front other e = record {
-  order = λ xs ys. ap (λ (o : Ordering). ordering_then o (slice_cmp nat_cmp (front ++ xs) (other ++ ys))) e;
-  prefix = λ xs ys. ap (λ (o : Ordering). is_eq o && is_prefix nat_cmp (front ++ xs) (other ++ ys)) e;
+codes_below : (a b : ℕ) (one other : List ℕ) → nat_cmp a b ≡ Less → Codes (a ∷ one) (b ∷ other) Less
+codes_below a b one other e = record {
+  order = λ xs ys. ap (λ (o : Ordering). ordering_then o (slice_cmp nat_cmp (one ++ xs) (other ++ ys))) e;
+  prefix = λ xs ys. ap (λ (o : Ordering). is_eq o && is_prefix nat_cmp (one ++ xs) (other ++ ys)) e;
 }
 
-codes_above : (a b : ℕ) (front other : List ℕ) → nat_cmp a b ≡ Greater → Codes (a ∷ front) (b ∷ other) Greater
-codes_above a b front other e = record {
-  order = λ xs ys. ap (λ (o : Ordering). ordering_then o (slice_cmp nat_cmp (front ++ xs) (other ++ ys))) e;
-  prefix = λ xs ys. ap (λ (o : Ordering). is_eq o && is_prefix nat_cmp (front ++ xs) (other ++ ys)) e;
+codes_above : (a b : ℕ) (one other : List ℕ) → nat_cmp a b ≡ Greater → Codes (a ∷ one) (b ∷ other) Greater
+codes_above a b one other e = record {
+  order = λ xs ys. ap (λ (o : Ordering). ordering_then o (slice_cmp nat_cmp (one ++ xs) (other ++ ys))) e;
+  prefix = λ xs ys. ap (λ (o : Ordering). is_eq o && is_prefix nat_cmp (one ++ xs) (other ++ ys)) e;
 }
 
 -- ---- numbers of a fixed width
@@ -105,28 +105,28 @@ pub codes_number : (n x y : ℕ) → x < 256 ^ n → y < 256 ^ n → Codes (big_
 codes_number n x y fits fits' =
     subst (Codes (big_bytes n x) (big_bytes n y)) (λ i. nat_cmp (mod-eq_of_lt fits i) (mod-eq_of_lt fits' i)) (codes_digits n x y)
 
--- a number of 64 bits, raised, fits 9 bytes
-raised_fits : (x : ℤ) → Fits64 x → raised x < 256 ^ 9
-raised_fits (pos number) fits = omega arith
-raised_fits (negsuc below) fits = omega arith
+-- how far a number of 64 bits is above the least one fits 9 bytes
+above_least_fits : (x : ℤ) → Fits64 x → number_above_least x < 256 ^ 9
+above_least_fits (pos number) fits = omega arith
+above_least_fits (negsuc below) fits = omega arith
 
-raised_below : (x y : ℤ) → Fits64 x → Fits64 y → (o : Ordering) → MatchOrdering o (x <ℤ y) (x ≡ y) (y <ℤ x)
-    → MatchOrdering o (raised x < raised y) (raised x ≡ raised y) (raised y < raised x)
-raised_below (pos x) (pos y) f g Less e = omega (arith, ints)
-raised_below (pos x) (pos y) f g Equal e = omega (arith, ints)
-raised_below (pos x) (pos y) f g Greater e = omega (arith, ints)
-raised_below (pos x) (negsuc y) f g Less e = omega (arith, ints)
-raised_below (pos x) (negsuc y) f g Equal e = omega (arith, ints)
-raised_below (pos x) (negsuc y) f g Greater e = omega (arith, ints)
-raised_below (negsuc x) (pos y) f g Less e = omega (arith, ints)
-raised_below (negsuc x) (pos y) f g Equal e = omega (arith, ints)
-raised_below (negsuc x) (pos y) f g Greater e = omega (arith, ints)
-raised_below (negsuc x) (negsuc y) f g Less e = omega (arith, ints)
-raised_below (negsuc x) (negsuc y) f g Equal e = omega (arith, ints)
-raised_below (negsuc x) (negsuc y) f g Greater e = omega (arith, ints)
+above_least_keeps : (x y : ℤ) → Fits64 x → Fits64 y → (o : Ordering) → MatchOrdering o (x <ℤ y) (x ≡ y) (y <ℤ x)
+    → MatchOrdering o (number_above_least x < number_above_least y) (number_above_least x ≡ number_above_least y) (number_above_least y < number_above_least x)
+above_least_keeps (pos x) (pos y) f g Less e = omega (arith, ints)
+above_least_keeps (pos x) (pos y) f g Equal e = omega (arith, ints)
+above_least_keeps (pos x) (pos y) f g Greater e = omega (arith, ints)
+above_least_keeps (pos x) (negsuc y) f g Less e = omega (arith, ints)
+above_least_keeps (pos x) (negsuc y) f g Equal e = omega (arith, ints)
+above_least_keeps (pos x) (negsuc y) f g Greater e = omega (arith, ints)
+above_least_keeps (negsuc x) (pos y) f g Less e = omega (arith, ints)
+above_least_keeps (negsuc x) (pos y) f g Equal e = omega (arith, ints)
+above_least_keeps (negsuc x) (pos y) f g Greater e = omega (arith, ints)
+above_least_keeps (negsuc x) (negsuc y) f g Less e = omega (arith, ints)
+above_least_keeps (negsuc x) (negsuc y) f g Equal e = omega (arith, ints)
+above_least_keeps (negsuc x) (negsuc y) f g Greater e = omega (arith, ints)
 
-raised_order : (x y : ℤ) → Fits64 x → Fits64 y → nat_cmp (raised x) (raised y) ≡ int_cmp x y
-raised_order x y f g = sym (nat_cmp_is (raised x) (raised y) (int_cmp x y) (raised_below x y f g (int_cmp x y) (int_ranked x y (int_cmp x y) refl)))
+above_least_order : (x y : ℤ) → Fits64 x → Fits64 y → nat_cmp (number_above_least x) (number_above_least y) ≡ int_cmp x y
+above_least_order x y f g = sym (nat_cmp_is (number_above_least x) (number_above_least y) (int_cmp x y) (above_least_keeps x y f g (int_cmp x y) (int_ranked x y (int_cmp x y) refl)))
 
 -- ---- texts
 
@@ -136,7 +136,7 @@ zero_below b = sym (nat_cmp_is 0 (suc b) Less (omega arith))
 zero_above : (b : ℕ) → nat_cmp (suc b) 0 ≡ Greater
 zero_above b = sym (nat_cmp_is (suc b) 0 Greater (omega arith))
 
-pub codes_text : (s t : List ℕ) → Codes (terminated s) (terminated t) (slice_cmp nat_cmp s t)
+pub codes_text : (s t : List ℕ) → Codes (content_bytes s) (content_bytes t) (slice_cmp nat_cmp s t)
 codes_text [] [] = codes_more 0 0 _ _ _ (codes_more 0 0 _ _ _ codes_nothing)
 codes_text [] (zero ∷ t) = codes_more 0 0 _ _ _ (codes_below 0 255 _ _ refl)
 codes_text [] (suc b ∷ t) = codes_below 0 (suc b) _ _ (zero_below b)
@@ -162,7 +162,7 @@ codes_part (Boolean x) (Binary y) f g = codes_below 2 5 _ _ refl
 codes_part (Integer x) (Boolean y) f g = codes_above 3 2 _ _ refl
 codes_part (Integer x) (Integer y) f g =
     codes_more 3 3 _ _ _
-    (subst (Codes (big_bytes 9 (raised x)) (big_bytes 9 (raised y))) (raised_order x y f g) (codes_number 9 (raised x) (raised y) (raised_fits x f) (raised_fits y g)))
+    (subst (Codes (big_bytes 9 (number_above_least x)) (big_bytes 9 (number_above_least y))) (above_least_order x y f g) (codes_number 9 (number_above_least x) (number_above_least y) (above_least_fits x f) (above_least_fits y g)))
 codes_part (Integer x) (Text y) f g = codes_below 3 4 _ _ refl
 codes_part (Integer x) (Binary y) f g = codes_below 3 5 _ _ refl
 codes_part (Text x) (Boolean y) f g = codes_above 4 2 _ _ refl
@@ -209,7 +209,7 @@ bytes_order (p ∷ ps) (q ∷ qs) f g =
     let codes = codes_part p q f.0 g.0 in
     codes.order (comparable_of ps) (comparable_of qs) ∙ ap (ordering_then (part_cmp p q)) (bytes_order ps qs f.1 g.1)
 
-pub bytes_prefix : (one other : Key) → AreFit one → AreFit other → is_prefix nat_cmp (comparable_of one) (comparable_of other) ≡ begins one other
+pub bytes_prefix : (one other : Key) → AreFit one → AreFit other → is_prefix nat_cmp (comparable_of one) (comparable_of other) ≡ is_key_prefix one other
 bytes_prefix [] other f g = refl
 bytes_prefix (p ∷ ps) [] f g = no_part_in_nothing p (comparable_of ps)
 bytes_prefix (p ∷ ps) (q ∷ qs) f g =

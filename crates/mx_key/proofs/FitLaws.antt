@@ -1,33 +1,27 @@
--- A number that is read from bytes has 64 bits.
-use Rattle.std.proofs.Common.{◌≡◌, ℕ, List, take, Some, Option, to_z, of_z, sym, subst, inl, inr, arith}
-use Rattle.std.specs.Prelude.{ℤ, pos, negsuc}
-use Rattle.std.specs.Int.{w128}
-use Rattle.std.proofs.lemmas.Int.{ints}
-use Rattle.mx_msgpack.specs.Grammar as grammar
+-- A part that is read from bytes fits: its number has 64 bits.
+use Rattle.std.proofs.Common.{◌≡◌, ℕ, List, take, Option, Some, subst, sym, inl, inr}
+use Rattle.std.specs.Prelude.{ℤ}
 use Rattle.mx_msgpack.specs.Grammar.{Value, Spells}
+use Rattle.mx_msgpack.specs.Reading.{Shown, ShownBool, ShownInt, ShownStr, ShownBin}
 use Rattle.mx_msgpack.specs.Spelling.{AreBytes}
+use Rattle.mx_msgpack.specs.View.{Shows}
 use Rattle.mx_msgpack.specs.Writing.{Fits64}
 use Rattle.mx_msgpack.proofs.NumberLaws.{FitsBytes, number_fits}
-use Rattle.mx_key.specs.Keys.{IsFit}
-use Rattle.mx_key.specs.PartViews.{part_view}
-use Rattle.mx_key.specs.declared.part_ref.PartRef.{PartRef}
-use Rattle.mx_key.specs.declared.part_ref.PartRef.TheVariants.{Integer}
+use Rattle.mx_key.specs.Keys.{KeyPart, Boolean, Integer, Text, Binary, IsFit}
+use Rattle.mx_key.specs.Parts.{part_shown}
 
 has_64_bits : (number : ℤ) → FitsBytes number → Fits64 number
 has_64_bits number (inl (n, is, below)) = subst Fits64 (sym is) below
 has_64_bits number (inr (n, is, below)) = subst Fits64 (sym is) below
 
-same_part : (x y : PartRef) → ◌≡◌ {A = Option PartRef} (Some x) (Some y) → x ≡ y
+same_part : (x y : KeyPart) → ◌≡◌ {A = Option KeyPart} (Some x) (Some y) → x ≡ y
 same_part x y e = cc
 
--- the code's number is the one that was read
-kept : (number : ℤ) → Fits64 number → to_z w128 (of_z w128 number) ≡ number
-kept (pos n) fits = omega (arith, ints)
-kept (negsuc n) fits = omega (arith, ints)
-
-pub number_read_fits : (bytes : List ℕ) (size : ℕ) (number : ℤ) (value : Value) (part : PartRef) → AreBytes bytes
-    → Spells 64 value (take size bytes) → value ≡ grammar.Int number
-    → ◌≡◌ {A = Option PartRef} (Some (Integer (to_z w128 (of_z w128 number)))) (Some part) → IsFit (part_view part)
-number_read_fits bytes size number value part each spelled is e =
-    let fits = has_64_bits number (number_fits bytes size number value each spelled is) in
-    subst (λ (p : PartRef). IsFit (part_view p)) (same_part (Integer (to_z w128 (of_z w128 number))) part e) (rw (kept number fits) fits)
+pub part_fits : (bytes : List ℕ) (size : ℕ) (value : Value) (shown : Shown) (part : KeyPart) → AreBytes bytes → Spells 64 value (take size bytes)
+    → Shows shown value → part_shown shown ≡ Some part → IsFit part
+part_fits bytes size value (ShownInt number) part each spelled is e =
+    subst IsFit (same_part (Integer number) part e) (has_64_bits number (number_fits bytes size number value each spelled is))
+part_fits bytes size value (ShownBool truth) part each spelled is e = subst IsFit (same_part (Boolean truth) part e) tt
+part_fits bytes size value (ShownStr text) part each spelled is e = subst IsFit (same_part (Text text) part e) tt
+part_fits bytes size value (ShownBin content) part each spelled is e = subst IsFit (same_part (Binary content) part e) tt
+part_fits bytes size value _ part each spelled is e = absurd cc

@@ -8,15 +8,9 @@ use Rattle.std.specs.Cmp.{IsTotalOrder}
 use Rattle.std.specs.Cmp.Lexicographic.{slice_cmp}
 use Rattle.std.specs.FinMap.{IsAntisymmetric, int_cmp-IsAntisymmetric, nat_cmp-IsAntisymmetric, slice_cmp-IsAntisymmetric}
 use Rattle.std.proofs.lemmas.Cmp.{on_total, then_total, nat_cmp_total, int_cmp_total, nat_list_cmp_total, lists_total}
-use Rattle.mx_key.specs.Keys.{KeyPart, Boolean, Integer, Text, Binary, part_cmp, key_cmp}
+use Rattle.mx_key.specs.Keys.{KeyPart, Boolean, Integer, Text, Binary, rank, part_cmp, key_cmp}
 
--- a part as its kind, its number and its bytes, which are compared in turn
-abbrev rank : KeyPart → ℕ
-rank (Boolean truth) = 0
-rank (Integer number) = 1
-rank (Text text) = 2
-rank (Binary content) = 3
-
+-- a part as its rank, its number and its bytes, which are compared in turn
 abbrev number_in : KeyPart → ℤ
 number_in (Boolean false) = pos 0
 number_in (Boolean true) = pos 1
@@ -43,21 +37,10 @@ is_in_turn (Boolean false) (Boolean false) = refl
 is_in_turn (Boolean false) (Boolean true) = refl
 is_in_turn (Boolean true) (Boolean false) = refl
 is_in_turn (Boolean true) (Boolean true) = refl
-is_in_turn (Boolean x) (Integer y) = refl
-is_in_turn (Boolean x) (Text y) = refl
-is_in_turn (Boolean x) (Binary y) = refl
-is_in_turn (Integer x) (Boolean y) = refl
 is_in_turn (Integer x) (Integer y) = then_Equal (int_cmp x y)
-is_in_turn (Integer x) (Text y) = refl
-is_in_turn (Integer x) (Binary y) = refl
-is_in_turn (Text x) (Boolean y) = refl
-is_in_turn (Text x) (Integer y) = refl
 is_in_turn (Text x) (Text y) = refl
-is_in_turn (Text x) (Binary y) = refl
-is_in_turn (Binary x) (Boolean y) = refl
-is_in_turn (Binary x) (Integer y) = refl
-is_in_turn (Binary x) (Text y) = refl
 is_in_turn (Binary x) (Binary y) = refl
+is_in_turn _ _ = refl
 
 pub part_cmp_total : IsTotalOrder part_cmp
 part_cmp_total =
@@ -72,21 +55,10 @@ part_cmp-IsAntisymmetric (Boolean false) (Boolean false) tied = refl
 part_cmp-IsAntisymmetric (Boolean false) (Boolean true) tied = absurd cc
 part_cmp-IsAntisymmetric (Boolean true) (Boolean false) tied = absurd cc
 part_cmp-IsAntisymmetric (Boolean true) (Boolean true) tied = refl
-part_cmp-IsAntisymmetric (Boolean x) (Integer y) tied = absurd cc
-part_cmp-IsAntisymmetric (Boolean x) (Text y) tied = absurd cc
-part_cmp-IsAntisymmetric (Boolean x) (Binary y) tied = absurd cc
-part_cmp-IsAntisymmetric (Integer x) (Boolean y) tied = absurd cc
 part_cmp-IsAntisymmetric (Integer x) (Integer y) tied = ap (λ (z : ℤ). Integer z) (int_cmp-IsAntisymmetric x y tied)
-part_cmp-IsAntisymmetric (Integer x) (Text y) tied = absurd cc
-part_cmp-IsAntisymmetric (Integer x) (Binary y) tied = absurd cc
-part_cmp-IsAntisymmetric (Text x) (Boolean y) tied = absurd cc
-part_cmp-IsAntisymmetric (Text x) (Integer y) tied = absurd cc
 part_cmp-IsAntisymmetric (Text x) (Text y) tied = ap (λ (l : List ℕ). Text l) (slice_cmp-IsAntisymmetric nat_cmp-IsAntisymmetric x y tied)
-part_cmp-IsAntisymmetric (Text x) (Binary y) tied = absurd cc
-part_cmp-IsAntisymmetric (Binary x) (Boolean y) tied = absurd cc
-part_cmp-IsAntisymmetric (Binary x) (Integer y) tied = absurd cc
-part_cmp-IsAntisymmetric (Binary x) (Text y) tied = absurd cc
 part_cmp-IsAntisymmetric (Binary x) (Binary y) tied = ap (λ (l : List ℕ). Binary l) (slice_cmp-IsAntisymmetric nat_cmp-IsAntisymmetric x y tied)
+part_cmp-IsAntisymmetric _ _ tied = absurd cc
 
 pub key_cmp-IsAntisymmetric : IsAntisymmetric key_cmp
 key_cmp-IsAntisymmetric = slice_cmp-IsAntisymmetric part_cmp-IsAntisymmetric

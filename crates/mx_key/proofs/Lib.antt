@@ -2,5 +2,6 @@ pub mod KeyLaws
 pub mod EncodingLaws
 pub mod RangeLaws
 pub mod FitLaws
+pub mod SliceLaws
 pub mod MakingLaws
-pub mod GivenLaws
+pub mod ArrayLaws

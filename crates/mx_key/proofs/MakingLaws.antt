@@ -1,6 +1,7 @@
 -- Keys that are made part by part.
 use Rattle.std.proofs.Common.{◌≡◌, ℕ, suc, ◌+◌, ◌-◌, ◌<◌, ◌≤◌, true, false, get_or, List, [], ◌∷◌, ◌++◌, length, drop, Option, Some, None, Result, Ok, Err, refl, sym, ap, subst, ◌∙◌, append_assoc, arith}
-use Rattle.std.specs.Option.{is_some, option_map}
+use Rattle.std.specs.List.{slice_get}
+use Rattle.std.specs.Option.{is_some, ok_or, option_map}
 use Rattle.std.proofs.lemmas.List.{append-nil, at_drop_more}
 use Rattle.mx_msgpack.specs.declared.value.Value.{Value}
 use Rattle.mx_msgpack.specs.Items.{first_value, after_value, values_from}
@@ -11,7 +12,7 @@ use Rattle.mx_key.specs.declared.fault.Misfit.TheVariants.{WrongPart}
 use Rattle.mx_key.specs.declared.part_ref.PartRef.{PartRef}
 use Rattle.mx_key.specs.PartViews.{part_view}
 use Rattle.mx_key.specs.Keys.{Key, KeyPart, IsFit, AreFit}
-use Rattle.mx_key.specs.Parts.{◌>>=◌, part_of, part_in, part_given, parts_given, key_of}
+use Rattle.mx_key.specs.Parts.{◌>>=◌, part_of, part_in, parts_of_items, key_of}
 use Rattle.mx_key.specs.Comparable.{part_bytes, comparable_of, part_of_value, AreParts}
 
 comparable_of-append : (parts others : Key) → comparable_of (parts ++ others) ≡ comparable_of parts ++ comparable_of others
@@ -60,38 +61,38 @@ module _ {E : Type 0} (whole : Result Key E) where
 
 -- ---- by a tuple's fields
 
-module _ (fields : ℕ → Option (List ℕ)) where
-  pub next_field : (part : Part) (parts : List Part) (found : KeyPart) → part_of part (fields part.field) ≡ Ok found
+module _ (fields : List (List ℕ)) where
+  pub next_field : (part : Part) (parts : List Part) (found : KeyPart) → part_of part (slice_get fields part.field) ≡ Ok found
       → key_of (part ∷ parts) fields ≡ (key_of parts fields >>= λ rest. Ok (found ∷ rest))
   next_field part parts found e = ap (λ (r : Result KeyPart KeyFault). r >>= λ first. (key_of parts fields >>= λ others. Ok (first ∷ others))) e
 
 -- ---- by the items of an array
 
 -- the items from this place on, of as many as there are
-abbrev pub given_from : List Part → (count place : ℕ) → List ℕ → Result Key Misfit
-given_from def count place rest = parts_given place (drop place def) (values_from (count - place) rest)
+abbrev pub parts_left : List Part → (count place : ℕ) → List ℕ → Result Key Misfit
+parts_left def count place rest = parts_of_items place (drop place def) (values_from (count - place) rest)
 
-given_next : (def others : List Part) (part : Part) (count place : ℕ) (rest : List ℕ) → place < count → drop place def ≡ part ∷ others
-    → given_from def count place rest
-    ≡ (part_given place part.kind (part_in part.kind (first_value rest)) >>= λ first. (parts_given (suc place) others (values_from (count - suc place) (after_value rest)) >>= λ last. Ok (first ∷ last)))
-given_next def others part count place rest below parts =
+next_left : (def others : List Part) (part : Part) (count place : ℕ) (rest : List ℕ) → place < count → drop place def ≡ part ∷ others
+    → parts_left def count place rest
+    ≡ (ok_or (part_in part.kind (first_value rest)) (WrongPart place part.kind) >>= λ first. (parts_of_items (suc place) others (values_from (count - suc place) (after_value rest)) >>= λ last. Ok (first ∷ last)))
+next_left def others part count place rest below parts =
     let step : count - place ≡ suc (count - suc place) = omega arith in
     rw (parts, step) refl
 
 pub next_item : (def : List Part) (part : Part) (count place next : ℕ) (rest after : List ℕ) (found : KeyPart) → place < count → next ≡ suc place
     → drop place def ≡ part ∷ drop next def → part_in part.kind (first_value rest) ≡ Some found → after ≡ after_value rest
-    → given_from def count place rest ≡ (given_from def count next after >>= λ last. Ok (found ∷ last))
+    → parts_left def count place rest ≡ (parts_left def count next after >>= λ last. Ok (found ∷ last))
 next_item def part count place next rest after found below is parts e behind =
-    given_next def (drop next def) part count place rest below parts
-    ∙ ap (λ (o : Option KeyPart). part_given place part.kind o >>= λ first. (parts_given (suc place) (drop next def) (values_from (count - suc place) (after_value rest)) >>= λ last. Ok (first ∷ last))) e
-    ∙ (λ i. parts_given (sym is i) (drop next def) (values_from (count - sym is i) (sym behind i)) >>= λ last. Ok (found ∷ last))
+    next_left def (drop next def) part count place rest below parts
+    ∙ ap (λ (o : Option KeyPart). ok_or o (WrongPart place part.kind) >>= λ first. (parts_of_items (suc place) (drop next def) (values_from (count - suc place) (after_value rest)) >>= λ last. Ok (first ∷ last))) e
+    ∙ (λ i. parts_of_items (sym is i) (drop next def) (values_from (count - sym is i) (sym behind i)) >>= λ last. Ok (found ∷ last))
 
 pub bad_item : (def others : List Part) (part : Part) (count place : ℕ) (rest : List ℕ) → place < count
     → drop place def ≡ part ∷ others → part_in part.kind (first_value rest) ≡ None
-    → given_from def count place rest ≡ Err (WrongPart place part.kind)
+    → parts_left def count place rest ≡ Err (WrongPart place part.kind)
 bad_item def others part count place rest below parts e =
-    given_next def others part count place rest below parts
-    ∙ ap (λ (o : Option KeyPart). part_given place part.kind o >>= λ first. (parts_given (suc place) others (values_from (count - suc place) (after_value rest)) >>= λ last. Ok (first ∷ last))) e
+    next_left def others part count place rest below parts
+    ∙ ap (λ (o : Option KeyPart). ok_or o (WrongPart place part.kind) >>= λ first. (parts_of_items (suc place) others (values_from (count - suc place) (after_value rest)) >>= λ last. Ok (first ∷ last))) e
 
 -- ---- by owned values
 
@@ -129,13 +130,13 @@ module _ (def : List Part) (any : Part) (count place : ℕ) (rest first : List �
     (below : place < count) (within : count ≤ length def) (item : first ≡ first_value rest)
     (exact : option_map part_view o ≡ part_in (get_or def place any).kind first) where
   pub item_taken : (after : List ℕ) (found : PartRef) → o ≡ Some found → after ≡ after_value rest
-      → given_from def count place rest ≡ (given_from def count (place + 1) after >>= λ last. Ok (part_view found ∷ last))
+      → parts_left def count place rest ≡ (parts_left def count (place + 1) after >>= λ last. Ok (part_view found ∷ last))
   item_taken after found some behind =
       next_item def (get_or def place any) count place (place + 1) rest after (part_view found) below (omega arith)
       (at_drop_more (λ (l : List Part). l) def place any (omega arith))
       (ap (part_in (get_or def place any).kind) (sym item) ∙ sym exact ∙ ap (option_map part_view) some) behind
 
-  pub item_refused : o ≡ None → given_from def count place rest ≡ Err (WrongPart place (get_or def place any).kind)
+  pub item_refused : o ≡ None → parts_left def count place rest ≡ Err (WrongPart place (get_or def place any).kind)
   item_refused none =
       bad_item def (drop (place + 1) def) (get_or def place any) count place rest below
       (at_drop_more (λ (l : List Part). l) def place any (omega arith))

@@ -1,8 +1,8 @@
 -- Keys: lists of parts, and their order.
 use Rattle.std.specs.Prelude.{ℕ, ℤ, Bool, true, false, ◌&&◌, List, [], ◌∷◌}
 use Rattle.std.specs.declared.cmp.Ordering.{Ordering}
-use Rattle.std.specs.declared.cmp.Ordering.TheVariants.{Less, Greater}
-use Rattle.std.specs.Ordering.{bool_cmp, int_cmp, nat_cmp, is_eq}
+use Rattle.std.specs.declared.cmp.Ordering.TheVariants.{Equal}
+use Rattle.std.specs.Ordering.{bool_cmp, int_cmp, nat_cmp, ordering_then, is_eq}
 use Rattle.std.specs.Cmp.Lexicographic.{slice_cmp}
 use Rattle.mx_msgpack.specs.Writing.{Fits64}
 
@@ -15,24 +15,24 @@ pub data KeyPart : Type 0 where
 abbrev pub Key : Type 0
 Key = List KeyPart
 
--- Booleans, false first; then numbers by value; then texts and then other bytes, by their bytes
+-- Booleans come before numbers, numbers before texts, and texts before other bytes
+abbrev pub rank : KeyPart → ℕ
+rank (Boolean truth) = 0
+rank (Integer number) = 1
+rank (Text text) = 2
+rank (Binary content) = 3
+
+-- the order within a rank: false first, numbers by value, texts and other bytes by their bytes
+abbrev pub within : KeyPart → KeyPart → Ordering
+within (Boolean x) (Boolean y) = bool_cmp x y
+within (Integer x) (Integer y) = int_cmp x y
+within (Text x) (Text y) = slice_cmp nat_cmp x y
+within (Binary x) (Binary y) = slice_cmp nat_cmp x y
+within _ _ = Equal
+
+-- by rank, and within one rank by value
 abbrev pub part_cmp : KeyPart → KeyPart → Ordering
-part_cmp (Boolean x) (Boolean y) = bool_cmp x y
-part_cmp (Boolean x) (Integer y) = Less
-part_cmp (Boolean x) (Text y) = Less
-part_cmp (Boolean x) (Binary y) = Less
-part_cmp (Integer x) (Boolean y) = Greater
-part_cmp (Integer x) (Integer y) = int_cmp x y
-part_cmp (Integer x) (Text y) = Less
-part_cmp (Integer x) (Binary y) = Less
-part_cmp (Text x) (Boolean y) = Greater
-part_cmp (Text x) (Integer y) = Greater
-part_cmp (Text x) (Text y) = slice_cmp nat_cmp x y
-part_cmp (Text x) (Binary y) = Less
-part_cmp (Binary x) (Boolean y) = Greater
-part_cmp (Binary x) (Integer y) = Greater
-part_cmp (Binary x) (Text y) = Greater
-part_cmp (Binary x) (Binary y) = slice_cmp nat_cmp x y
+part_cmp x y = ordering_then (nat_cmp (rank x) (rank y)) (within x y)
 
 -- part by part, a proper prefix first
 abbrev pub key_cmp : Key → Key → Ordering
@@ -44,16 +44,14 @@ is_prefix cmp [] ys = true
 is_prefix cmp (x ∷ xs) [] = false
 is_prefix cmp (x ∷ xs) (y ∷ ys) = is_eq (cmp x y) && is_prefix cmp xs ys
 
--- the first key begins the second one
-abbrev pub begins : Key → Key → Bool
-begins = is_prefix part_cmp
+-- the first key is a prefix of the second one
+abbrev pub is_key_prefix : Key → Key → Bool
+is_key_prefix = is_prefix part_cmp
 
 -- a number has 64 bits
 abbrev pub IsFit : KeyPart → Type 0
-IsFit (Boolean truth) = Unit {0}
 IsFit (Integer number) = Fits64 number
-IsFit (Text text) = Unit {0}
-IsFit (Binary content) = Unit {0}
+IsFit _ = Unit {0}
 
 abbrev pub AreFit : Key → Type 0
 AreFit [] = Unit {0}

@@ -1,4 +1,5 @@
 pub mod Keys
+pub mod Fields
 pub mod Parts
 pub mod Ranges
 pub mod Comparable

@@ -3,9 +3,9 @@ use Rattle.std.specs.Prelude.{Bool, true, false, not, ◌&&◌, ◌||◌, [], �
 use Rattle.std.specs.Ordering.{is_lt, is_gt}
 use Rattle.mx_key.specs.declared.iterator.IterKind.{IterKind}
 use Rattle.mx_key.specs.declared.iterator.IterKind.TheVariants.{Eq, Req, All, Lt, Le, Ge, Gt}
-use Rattle.mx_key.specs.Keys.{Key, AreFit, key_cmp, begins}
+use Rattle.mx_key.specs.Keys.{Key, AreFit, key_cmp, is_key_prefix}
 
--- an end at a key: an inclusive one takes in all that the key begins, an exclusive one leaves all of that out
+-- an end at a key: an inclusive one takes in all keys with this prefix, an exclusive one leaves all of them out
 pub data End : Type 0 where
   Inclusive : Key → End
   Exclusive : Key → End
@@ -18,12 +18,12 @@ pub record Range : Type 0 where
 -- the key isn't below the end
 abbrev pub is_from : End → Key → Bool
 is_from (Inclusive end) key = not (is_lt (key_cmp key end))
-is_from (Exclusive end) key = is_gt (key_cmp key end) && not (begins end key)
+is_from (Exclusive end) key = is_gt (key_cmp key end) && not (is_key_prefix end key)
 is_from Open key = true
 
 -- the key isn't above the end
 abbrev pub is_up_to : End → Key → Bool
-is_up_to (Inclusive end) key = not (is_gt (key_cmp key end)) || begins end key
+is_up_to (Inclusive end) key = not (is_gt (key_cmp key end)) || is_key_prefix end key
 is_up_to (Exclusive end) key = is_lt (key_cmp key end)
 is_up_to Open key = true
 
@@ -31,16 +31,16 @@ abbrev pub lies_in : Range → Key → Bool
 lies_in range key = is_from range.low key && is_up_to range.high key
 
 -- all keys
-abbrev pub everything : Range
-everything = record { low = Open; high = Open }
+abbrev pub whole_range : Range
+whole_range = record { low = Open; high = Open }
 
--- all that the key begins
-abbrev pub all_begun_by : Key → Range
-all_begun_by key = record { low = Inclusive key; high = Inclusive key }
+-- all keys with this prefix
+abbrev pub prefix_range : Key → Range
+prefix_range key = record { low = Inclusive key; high = Inclusive key }
 
 abbrev pub range_by : IterKind → Key → Range
-range_by Eq key = all_begun_by key
-range_by Req key = all_begun_by key
+range_by Eq key = prefix_range key
+range_by Req key = prefix_range key
 range_by All key = record { low = Inclusive key; high = Open }
 range_by Ge key = record { low = Inclusive key; high = Open }
 range_by Gt key = record { low = Exclusive key; high = Open }
@@ -49,23 +49,20 @@ range_by Lt key = record { low = Open; high = Exclusive key }
 
 -- what an iterator goes through from a key; an empty key sets no end
 abbrev pub range_of : IterKind → Key → Range
-range_of iterator [] = everything
+range_of iterator [] = whole_range
 range_of iterator (part ∷ parts) = range_by iterator (part ∷ parts)
 
 -- the iterator goes down
 abbrev pub descends : IterKind → Bool
-descends Eq = false
 descends Req = true
-descends All = false
-descends Ge = false
-descends Gt = false
 descends Le = true
 descends Lt = true
+descends _ = false
 
 -- the same range up to this key, in the direction of an iterator, which goes down or up
-abbrev pub ended : (down : Bool) → Key → Range → Range
-ended true last range = record range { low = Inclusive last }
-ended false last range = record range { high = Inclusive last }
+abbrev pub range_until : (down : Bool) → Key → Range → Range
+range_until true last range = record range { low = Inclusive last }
+range_until false last range = record range { high = Inclusive last }
 
 abbrev pub IsFitEnd : End → Type 0
 IsFitEnd (Inclusive key) = AreFit key

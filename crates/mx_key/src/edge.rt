@@ -2,9 +2,9 @@
 
 ghost use Rattle.std.specs.Prelude.{◌≡◌, OnErr, ◌++◌, ◌∷◌, [], OnOk, IfOk};
 ghost use Rattle.std.specs.Range.Bound.{bound_map};
-ghost use Rattle.mx_key.specs.Comparable.{bound_of, comparable_of, edges_of, holds, is_from, is_up_to};
+ghost use Rattle.mx_key.specs.Comparable.{bound_of, comparable_of, edges_of, holds, is_within_low, is_within_high};
 ghost use Rattle.mx_key.specs.Keys.{Key};
-ghost use Rattle.mx_key.specs.Ranges.{Range, ended};
+ghost use Rattle.mx_key.specs.Ranges.{Range, range_until};
 
 use mx_msgpack::Bytes;
 use std::alloc::{AllocError, Global};
@@ -38,9 +38,9 @@ impl Edge {
         }
     }
 
-    /// Whether bytes aren't below a low end.
-    fn is_from(&self, bytes: &[u8]) -> bool
-        ensures { result ≡ is_from self.now bytes.now }
+    /// Whether bytes are not below a low end.
+    fn is_within_low(&self, bytes: &[u8]) -> bool
+        ensures { result ≡ is_within_low self.now bytes.now }
     {
         match self {
             Edge::Inclusive(end) => !bytes.cmp(end.as_slice()).is_lt(),
@@ -49,9 +49,9 @@ impl Edge {
         }
     }
 
-    /// Whether bytes aren't above a high end.
-    fn is_up_to(&self, bytes: &[u8]) -> bool
-        ensures { result ≡ is_up_to self.now bytes.now }
+    /// Whether bytes are not above a high end.
+    fn is_within_high(&self, bytes: &[u8]) -> bool
+        ensures { result ≡ is_within_high self.now bytes.now }
     {
         match self {
             Edge::Inclusive(end) => !bytes.cmp(end.as_slice()).is_gt(),
@@ -80,34 +80,28 @@ impl KeyRange {
     pub fn holds(&self, bytes: &[u8]) -> bool
         ensures { result ≡ holds self.now bytes.now }
     {
-        self.low.is_from(bytes) && self.high.is_up_to(bytes)
+        self.low.is_within_low(bytes) && self.high.is_within_high(bytes)
     }
 
     /// Ends the range with a key, given by its comparable bytes: a range that is gone through
     /// downwards at its low end, and upwards at its high end.
-    ///
-    /// # Errors
-    /// Memory ran out. The range is then as it was.
     pub fn end_with(&mut self, alloc: Global, down: bool, key: &[u8]) -> Result<(), AllocError>
         ensures err { OnErr result (self.new ≡ self.old) }
         ensures ended { (range : Range) (last : Key) → self.old ≡ edges_of range → key.now ≡ comparable_of last
-            → OnOk result (self.new ≡ edges_of (ended down last range)) }
+            → OnOk result (self.new ≡ edges_of (range_until down last range)) }
     {
         let last = Bytes::from_slice(alloc, key)?;
         if down {
             self.low = Edge::Inclusive(last);
         } else {
-            self.high = Edge::Exclusive(behind(last)?);
+            self.high = Edge::Exclusive(prefix_end(last)?);
         }
         Ok(())
     }
 }
 
-/// The bytes just behind all keys that begin with these bytes.
-///
-/// # Errors
-/// Memory ran out.
-pub fn behind(mut bytes: Bytes) -> Result<Bytes, AllocError>
+/// The bytes just after those of all keys that begin with these bytes.
+pub fn prefix_end(mut bytes: Bytes) -> Result<Bytes, AllocError>
     ensures { IfOk result (λ end. end ≡ bytes ++ 255 ∷ []) }
 {
     bytes.extend_from_slice(&[255])?;

@@ -2,7 +2,7 @@
 //! 9 bytes, or bytes that end in two bytes 0, each byte 0 among them followed by a byte 255.
 
 ghost use Rattle.std.specs.Prelude.{◌≡◌, ◌++◌, Some, IfOk, OnOk};
-ghost use Rattle.mx_msgpack.specs.Owned.{values_in};
+ghost use Rattle.mx_msgpack.specs.Owned.{value_list};
 ghost use Rattle.mx_key.specs.Keys.{Key, KeyPart, AreFit, IsFit};
 ghost use Rattle.mx_key.specs.Comparable.{comparable_of, part_bytes, part_of_value, AreParts};
 
@@ -12,11 +12,8 @@ use mx_msgpack::{Bytes, Value, Values};
 use std::alloc::{AllocError, Global};
 
 /// The comparable bytes of a key, whose parts are Booleans, numbers, texts and bytes.
-///
-/// # Errors
-/// Memory ran out.
 pub fn comparable(alloc: Global, values: &Values) -> Result<Bytes, AllocError>
-    ensures { (key : Key) → AreParts (values_in values.now) key → AreFit key → IfOk result (λ bytes. bytes ≡ comparable_of key) }
+    ensures { (key : Key) → AreParts (value_list values.now) key → AreFit key → IfOk result (λ bytes. bytes ≡ comparable_of key) }
 {
     let mut key = Bytes::new(alloc);
     for value in values.as_slice() {
@@ -28,7 +25,7 @@ pub fn comparable(alloc: Global, values: &Values) -> Result<Bytes, AllocError>
 /// Adds the comparable bytes of the part that a value is; none where it is no part.
 ///
 /// # Errors
-/// Memory ran out; a front of the bytes may have been added.
+/// A prefix of the bytes may have been added.
 fn write_value(value: &Value, out: &mut Bytes) -> Result<(), AllocError>
     ensures { OnOk result ((part : KeyPart) → part_of_value value.now ≡ Some part → IsFit part → out.new ≡ out.old ++ part_bytes part) }
 {

@@ -13,7 +13,7 @@ pub enum KeyFault {
     Missing { field: u32 },
     /// The field is of another type.
     Wrong { field: u32, expected: PartKind },
-    /// Memory ran out.
+    /// Out of memory.
     NoMemory,
 }
 

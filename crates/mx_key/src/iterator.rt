@@ -6,19 +6,19 @@ ghost use Rattle.mx_key.specs.Ranges.{descends};
 /// What a SELECT goes through, from its key on, and in which direction.
 #[derive(Clone, Copy, Debug, Drop, PartialEq, Eq)]
 pub enum IterKind {
-    /// All that the key begins, upwards.
+    /// All keys with this prefix, upwards.
     Eq,
-    /// All that the key begins, downwards.
+    /// All keys with this prefix, downwards.
     Req,
     /// As `Ge`.
     All,
     /// All below the key, downwards.
     Lt,
-    /// All that the key begins and all below it, downwards.
+    /// All keys with this prefix and all below it, downwards.
     Le,
-    /// All that the key begins and all above it, upwards.
+    /// All keys with this prefix and all above it, upwards.
     Ge,
-    /// All above what the key begins, upwards.
+    /// All above those with this prefix, upwards.
     Gt,
 }
 

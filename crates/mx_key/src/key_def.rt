@@ -53,9 +53,6 @@ impl KeyDef {
     }
 
     /// Adds a part at the end.
-    ///
-    /// # Errors
-    /// Memory ran out. The parts are then as they were.
     pub fn push(&mut self, part: Part) -> Result<(), AllocError>
         ensures ok { OnOk result (self.new ≡ self.old ++ part ∷ []) }
         ensures err { OnErr result (self.new ≡ self.old) }

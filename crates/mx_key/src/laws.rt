@@ -1,22 +1,22 @@
-//! What the definitions say together.
+//! Theorems that other crates may use.
 
 ghost use Rattle.std.specs.Prelude.{◌≡◌};
 ghost use Rattle.std.specs.Ordering.{nat_cmp};
 ghost use Rattle.std.specs.Cmp.Lexicographic.{slice_cmp};
-ghost use Rattle.mx_key.specs.Keys.{Key, AreFit, key_cmp, begins, is_prefix};
+ghost use Rattle.mx_key.specs.Keys.{Key, AreFit, key_cmp, is_key_prefix, is_prefix};
 ghost use Rattle.mx_key.specs.Ranges.{Range, AreFitEnds, lies_in};
 ghost use Rattle.mx_key.specs.Comparable.{comparable_of, edges_of, holds};
 
-/// A law, which does nothing when it is called: comparable bytes are ordered as the keys are, and begin
+/// A theorem, which does nothing when it is called: comparable bytes are ordered as the keys are, and begin
 /// each other exactly where the keys do.
 pub fn bytes_are_ordered_as_keys()
     ensures order { (one other : Key) → AreFit one → AreFit other
         → slice_cmp nat_cmp (comparable_of one) (comparable_of other) ≡ key_cmp one other }
     ensures prefix { (one other : Key) → AreFit one → AreFit other
-        → is_prefix nat_cmp (comparable_of one) (comparable_of other) ≡ begins one other }
+        → is_prefix nat_cmp (comparable_of one) (comparable_of other) ≡ is_key_prefix one other }
 {}
 
-/// A law, which does nothing when it is called: the bytes of a range hold those of exactly the keys
+/// A theorem, which does nothing when it is called: the bytes of a range hold those of exactly the keys
 /// that lie in the range.
 pub fn a_range_holds_its_keys()
     ensures { (range : Range) (key : Key) → AreFitEnds range → AreFit key

@@ -24,6 +24,3 @@ pub use keys::key_of;
 pub use laws::{a_range_holds_its_keys, bytes_are_ordered_as_keys};
 pub use part::{Part, PartKind};
 pub use ranges::{misfit, range};
-
-#[cfg(test)]
-mod tests;

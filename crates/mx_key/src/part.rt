@@ -1,5 +1,10 @@
 //! The parts of an index's keys.
 
+ghost use Rattle.std.specs.Prelude.{◌≡◌};
+ghost use Rattle.mx_key.specs.Parts.{part_value_type};
+
+use mx_msgpack::ValueType;
+
 /// The type of a part.
 #[derive(Clone, Copy, Debug, Drop, PartialEq, Eq)]
 pub enum PartKind {
@@ -11,6 +16,22 @@ pub enum PartKind {
     Varbinary,
     /// Booleans, numbers, texts and bytes.
     Scalar,
+}
+
+impl PartKind {
+    /// The type of the values that the part may be.
+    pub(crate) fn value_type(self) -> ValueType
+        ensures { result ≡ part_value_type self }
+    {
+        match self {
+            PartKind::Unsigned => ValueType::Unsigned,
+            PartKind::Integer => ValueType::Integer,
+            PartKind::String => ValueType::String,
+            PartKind::Boolean => ValueType::Boolean,
+            PartKind::Varbinary => ValueType::Varbinary,
+            PartKind::Scalar => ValueType::Scalar,
+        }
+    }
 }
 
 /// A part of an index's keys: a field of its tuples, counted from 0, of a type.

@@ -7,11 +7,11 @@ ghost use Rattle.std.specs.Ordering.{nat_cmp};
 ghost use Rattle.std.specs.Range.Bound.{IsForward};
 ghost use Rattle.mx_msgpack.specs.Items.{values_from};
 ghost use Rattle.mx_key.specs.Comparable.{bound_of, comparable_of, edges_of};
-ghost use Rattle.mx_key.specs.Parts.{given, parts_given};
+ghost use Rattle.mx_key.specs.Parts.{key_of_array, parts_of_items};
 ghost use Rattle.mx_key.specs.Keys.{Key, AreFit};
 ghost use Rattle.mx_key.specs.Ranges.{range_by, range_of};
 
-use crate::edge::{Edge, KeyRange, behind};
+use crate::edge::{Edge, KeyRange, prefix_end};
 use crate::fault::Misfit;
 use crate::iterator::IterKind;
 use crate::key_def::KeyDef;
@@ -25,8 +25,8 @@ use std::alloc::{AllocError, Global};
 /// part of another type. `None` where it fits.
 pub fn misfit(def: &KeyDef, key: &[u8]) -> Option<Misfit>
     ensures { MatchOption result
-        ((fitting : Key) × (given def.now key.now ≡ Ok fitting) × AreFit fitting)
-        (λ misfit. given def.now key.now ≡ Err misfit) }
+        ((fitting : Key) × (key_of_array def.now key.now ≡ Ok fitting) × AreFit fitting)
+        (λ misfit. key_of_array def.now key.now ≡ Err misfit) }
 {
     let items = array_of(key)?;
     let parts = def.as_slice();
@@ -40,8 +40,8 @@ pub fn misfit(def: &KeyDef, key: &[u8]) -> Option<Misfit>
 fn wrong_part(parts: &[Part], items: Items<'_>) -> Option<Misfit>
     requires { items.count ≤ length parts.now }
     ensures { MatchOption result
-        ((fitting : Key) × (parts_given 0 parts.now (values_from items.entry.count items.entry.bytes.now) ≡ Ok fitting) × AreFit fitting)
-        (λ misfit. parts_given 0 parts.now (values_from items.entry.count items.entry.bytes.now) ≡ Err misfit) }
+        ((fitting : Key) × (parts_of_items 0 parts.now (values_from items.entry.count items.entry.bytes.now) ≡ Ok fitting) × AreFit fitting)
+        (λ misfit. parts_of_items 0 parts.now (values_from items.entry.count items.entry.bytes.now) ≡ Err misfit) }
 {
     let mut rest = items.bytes;
     for place in 0..items.count {
@@ -58,20 +58,17 @@ fn wrong_part(parts: &[Part], items: Items<'_>) -> Option<Misfit>
     None
 }
 
-/// What an iterator goes through from a key, which is an array that fits an index of these parts.
-///
-/// # Errors
-/// Memory ran out.
+/// The range that an iterator goes through from a key, which is an array that fits an index of these parts.
 pub fn range(
     alloc: Global,
     def: &KeyDef,
     iterator: IterKind,
     key: &[u8],
 ) -> Result<KeyRange, AllocError>
-    ensures picked { (fitting : Key) → given def.now key.now ≡ Ok fitting → IfOk result (λ range. range ≡ edges_of (range_of iterator fitting)) }
+    ensures picked { (fitting : Key) → key_of_array def.now key.now ≡ Ok fitting → IfOk result (λ range. range ≡ edges_of (range_of iterator fitting)) }
     ensures forward { IfOk result (λ range. IsForward (IsLeBy (slice_cmp nat_cmp)) (IsLtBy (slice_cmp nat_cmp)) (bound_of range.low) (bound_of range.high)) }
 {
-    let bytes = given_bytes(alloc, def, key)?;
+    let bytes = key_bytes(alloc, def, key)?;
     if bytes.is_empty() {
         return Ok(KeyRange {
             low: Edge::Open,
@@ -81,8 +78,8 @@ pub fn range(
     range_by(alloc, iterator, bytes)
 }
 
-/// What an iterator goes through from a key of one part or more, given by its comparable bytes.
-#[tactic(auto, using(crate::proofs::RangeLaws::not_above_behind))]
+/// The range that an iterator goes through from a key of one part or more, given by its comparable bytes.
+#[tactic(auto, using(crate::proofs::RangeLaws::not_above_prefix_end))]
 fn range_by(alloc: Global, iterator: IterKind, key: Bytes) -> Result<KeyRange, AllocError>
     ensures picked { (fitting : Key) → key ≡ comparable_of fitting → IfOk result (λ range. range ≡ edges_of (range_by iterator fitting)) }
     ensures forward { IfOk result (λ range. IsForward (IsLeBy (slice_cmp nat_cmp)) (IsLtBy (slice_cmp nat_cmp)) (bound_of range.low) (bound_of range.high)) }
@@ -90,19 +87,19 @@ fn range_by(alloc: Global, iterator: IterKind, key: Bytes) -> Result<KeyRange, A
     let (low, high) = match iterator {
         IterKind::Eq | IterKind::Req => {
             let low = Bytes::from_slice(alloc, key.as_slice())?;
-            (Edge::Inclusive(low), Edge::Exclusive(behind(key)?))
+            (Edge::Inclusive(low), Edge::Exclusive(prefix_end(key)?))
         }
         IterKind::All | IterKind::Ge => (Edge::Inclusive(key), Edge::Open),
-        IterKind::Gt => (Edge::Exclusive(behind(key)?), Edge::Open),
-        IterKind::Le => (Edge::Open, Edge::Exclusive(behind(key)?)),
+        IterKind::Gt => (Edge::Exclusive(prefix_end(key)?), Edge::Open),
+        IterKind::Le => (Edge::Open, Edge::Exclusive(prefix_end(key)?)),
         IterKind::Lt => (Edge::Open, Edge::Exclusive(key)),
     };
     Ok(KeyRange { low, high })
 }
 
 /// The comparable bytes of a key that fits an index of these parts; none where it is no array.
-fn given_bytes(alloc: Global, def: &KeyDef, key: &[u8]) -> Result<Bytes, AllocError>
-    ensures { (fitting : Key) → given def.now key.now ≡ Ok fitting → IfOk result (λ bytes. bytes ≡ comparable_of fitting) }
+fn key_bytes(alloc: Global, def: &KeyDef, key: &[u8]) -> Result<Bytes, AllocError>
+    ensures { (fitting : Key) → key_of_array def.now key.now ≡ Ok fitting → IfOk result (λ bytes. bytes ≡ comparable_of fitting) }
 {
     let mut bytes = Bytes::new(alloc);
     let Some(items) = array_of(key) else {
@@ -119,7 +116,7 @@ fn given_bytes(alloc: Global, def: &KeyDef, key: &[u8]) -> Result<Bytes, AllocEr
 /// Adds the comparable bytes of the items, which are parts of these types.
 fn write_items(parts: &[Part], items: Items<'_>, out: &mut Bytes) -> Result<(), AllocError>
     requires { items.count ≤ length parts.now }
-    ensures { OnOk result ((fitting : Key) → parts_given 0 parts.now (values_from items.entry.count items.entry.bytes.now) ≡ Ok fitting
+    ensures { OnOk result ((fitting : Key) → parts_of_items 0 parts.now (values_from items.entry.count items.entry.bytes.now) ≡ Ok fitting
         → out.new ≡ out.old ++ comparable_of fitting) }
 {
     let mut rest = items.bytes;

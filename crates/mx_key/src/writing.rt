@@ -2,7 +2,7 @@
 
 ghost use Rattle.std.specs.Prelude.{◌≡◌, ◌++◌, ◌∷◌, ◌<◌, ◌^◌, OnOk};
 ghost use Rattle.mx_msgpack.specs.Writing.{Fits64};
-ghost use Rattle.mx_key.specs.Comparable.{part_bytes, raised, terminated};
+ghost use Rattle.mx_key.specs.Comparable.{part_bytes, number_above_least, content_bytes};
 ghost use Rattle.mx_key.specs.Keys.{IsFit, Boolean, Integer};
 ghost use Rattle.mx_key.specs.PartViews.{part_view};
 
@@ -14,7 +14,7 @@ use std::alloc::AllocError;
 /// Adds a part's comparable bytes.
 ///
 /// # Errors
-/// Memory ran out; a front of the bytes may have been added.
+/// A prefix of the bytes may have been added.
 pub fn write_part(part: PartRef<'_>, out: &mut Bytes) -> Result<(), AllocError>
     ensures { OnOk result (IsFit (part_view part.entry) → out.new ≡ out.old ++ part_bytes (part_view part.entry)) }
 {
@@ -32,13 +32,13 @@ fn write_number(number: i128, out: &mut Bytes) -> Result<(), AllocError>
     ensures { OnOk result (Fits64 number → out.new ≡ out.old ++ part_bytes (Integer number)) }
 {
     let mut spelled = [3, 0, 0, 0, 0, 0, 0, 0, 0, 0];
-    BigEndian::write_uint128(&mut spelled[1..], raised(number), 9);
+    BigEndian::write_uint128(&mut spelled[1..], number_above_least(number), 9);
     out.extend_from_slice(&spelled)
 }
 
 /// How far a number of 64 bits is above the least one; 0 for other numbers.
-fn raised(number: i128) -> u128
-    ensures exact { Fits64 number → result ≡ raised number }
+fn number_above_least(number: i128) -> u128
+    ensures exact { Fits64 number → result ≡ number_above_least number }
     ensures fits { result < 2 ^ 72 }
 {
     if number < -0x8000_0000_0000_0000 || number > 0xffff_ffff_ffff_ffff {
@@ -50,7 +50,7 @@ fn raised(number: i128) -> u128
 /// Adds the byte of a kind, and then bytes in which each byte 0 is followed by a byte 255, with two
 /// bytes 0 at the end.
 fn write_content(kind: u8, content: &[u8], out: &mut Bytes) -> Result<(), AllocError>
-    ensures { OnOk result (out.new ≡ out.old ++ kind ∷ terminated content.now) }
+    ensures { OnOk result (out.new ≡ out.old ++ kind ∷ content_bytes content.now) }
 {
     out.reserve(content.len() + 3)?;
     out.extend_from_slice(&[kind])?;

@@ -2,15 +2,14 @@
 use Rattle.std.proofs.Common.{◌≡◌, ℕ, zero, suc, ◌+◌, ◌-◌, ◌<◌, ◌≤◌, Bool, true, false, cond, List, [], ◌∷◌, ◌++◌, length, take, drop, get_or, Option, Some, None, Result, Ok, Err, Bor, refl, sym, ap, ◌∙◌, append_assoc, arith, leb}
 use Rattle.std.specs.Prelude.{◌&&◌, nat_le, if◌then◌else◌}
 use Rattle.std.specs.List.{concat, slice_get, PartBy}
-use Rattle.std.specs.Option.{option_copied, option_map}
+use Rattle.std.specs.Option.{option_copied, option_map, unwrap_or}
 use Rattle.std.specs.Result.{OkIff, result_unwrap_or}
 use Rattle.std.proofs.lemmas.Bool.{le-leb, leb-true}
 use Rattle.std.proofs.lemmas.List.{take_at, drop_at, length-append}
 use Rattle.std.proofs.lemmas.Option.{slice_get_read, slice_get_past}
-use Rattle.mx_msgpack.specs.Items.{first_value, after_value, values_from, array_of}
+use Rattle.mx_msgpack.specs.Items.{first_value, after_value, values_from, array_of, items_of}
 use Rattle.mx_msgpack.proofs.ItemLaws.{array_row, row_fills, items_few}
-use Rattle.mx_tuple.specs.declared.tuple.Tuple.{Tuple}
-use Rattle.mx_tuple.specs.Fields.{places_from, HasFields}
+use Rattle.mx_tuple.specs.Fields.{TupleValue, tuple_of, places_from, HasPlaces}
 
 -- ---- a field by the places around it
 
@@ -56,10 +55,8 @@ row_between before (field ∷ fields) bytes at (suc n) place parts =
     let l = length-append before field in
     row_between (before ++ field) fields bytes (at + length field) n (omega arith) (parts ∙ sym (append_assoc before field (concat fields)))
 
-pub field_between : (tuple : Tuple) (bytes : List ℕ) (fields : List (List ℕ)) → HasFields tuple bytes fields → (n : ℕ) → slice_get fields n ≡ field_at bytes tuple.places.items n
-field_between tuple bytes fields has n =
-    let row = has.in_row in
-    rw row.2 (row_between row.0 fields bytes (length row.0) n refl row.1)
+field_between : (tuple : TupleValue) (places : List ℕ) → HasPlaces tuple places → (n : ℕ) → slice_get tuple.fields n ≡ field_at tuple.bytes places n
+field_between tuple places has n = rw has.places_are (row_between has.head tuple.fields tuple.bytes (length has.head) n refl has.in_row)
 
 -- ---- what the code reads
 
@@ -69,24 +66,18 @@ place_read places seen n place same lt e =
     let long = ap length same in
     slice_get_read places (length places) n place refl (omega arith) (e ∙ ap (λ (l : List ℕ). get_or l n place) same)
 
-none_is : (tuple : Tuple) (n : ℕ) → field_at tuple.bytes tuple.places.items n ≡ None
-    → (bytes : List ℕ) (fields : List (List ℕ)) → HasFields tuple bytes fields → None ≡ slice_get fields n
-none_is tuple n none bytes fields has =
-    sym (field_between tuple bytes fields has n ∙ ap (λ (l : List ℕ). field_at l tuple.places.items n) (sym has.bytes_are) ∙ none)
+module _ (tuple : TupleValue) (places : List ℕ) (has : HasPlaces tuple places) where
+  -- no place for the field
+  pub none_from : (seen : List ℕ) (n : ℕ) → seen ≡ places → length seen ≤ n → None ≡ slice_get tuple.fields n
+  none_from seen n same past =
+      let len = ap length same in
+      sym (field_between tuple places has n ∙ rw (slice_get_past places n (omega arith)) refl)
 
--- no place for the field
-pub none_from : (tuple : Tuple) (seen : List ℕ) (n : ℕ) → seen ≡ tuple.places.items → length seen ≤ n
-    → (bytes : List ℕ) (fields : List (List ℕ)) → HasFields tuple bytes fields → None ≡ slice_get fields n
-none_from tuple seen n same past =
-    let len = ap length same in
-    none_is tuple n (rw (slice_get_past tuple.places.items n (omega arith)) refl)
-
--- no place after it
-pub none_to : (tuple : Tuple) (seen : List ℕ) (n from : ℕ) → slice_get tuple.places.items n ≡ Some from → seen ≡ tuple.places.items → length seen ≤ n + 1
-    → (bytes : List ℕ) (fields : List (List ℕ)) → HasFields tuple bytes fields → None ≡ slice_get fields n
-none_to tuple seen n from e same past =
-    let len = ap length same in
-    none_is tuple n (rw (e, slice_get_past tuple.places.items (suc n) (omega arith)) refl)
+  -- no place after it
+  pub none_to : (seen : List ℕ) (n from : ℕ) → slice_get places n ≡ Some from → seen ≡ places → length seen ≤ n + 1 → None ≡ slice_get tuple.fields n
+  none_to seen n from e same past =
+      let len = ap length same in
+      sym (field_between tuple places has n ∙ rw (e, slice_get_past places (suc n) (omega arith)) refl)
 
 -- the bytes that a range gave
 part_is : (bytes : List ℕ) (from to : ℕ) (part : Option (Bor (List ℕ))) → PartBy (λ (x : Bor (List ℕ)). x.now) bytes from to part
@@ -103,28 +94,25 @@ part_is bytes from to None (out, some) = by_order (leb from to) (leb to (length 
     by_order false false a b = refl
 part_is bytes from to (Some part) ((order, within, e, size), some) = ap (λ (x : List ℕ). Some x) e ∙ sym (between_in from to bytes order within)
 
-pub part_read : (tuple : Tuple) (n from to : ℕ) (seen : List ℕ) (part : Option (Bor (List ℕ))) → slice_get tuple.places.items n ≡ Some from → slice_get tuple.places.items (n + 1) ≡ Some to
-    → seen ≡ tuple.bytes → PartBy (λ (x : Bor (List ℕ)). x.now) seen from to part
-    → (bytes : List ℕ) (fields : List (List ℕ)) → HasFields tuple bytes fields → option_copied part ≡ slice_get fields n
-part_read tuple n from to seen part f t same p bytes fields has =
-    let next : slice_get tuple.places.items (suc n) ≡ Some to = ap (slice_get tuple.places.items) (one_more n) ∙ t in
-    let whole : seen ≡ bytes = same ∙ has.bytes_are in
+pub part_read : (tuple : TupleValue) (places : List ℕ) → HasPlaces tuple places → (n from to : ℕ) (seen : List ℕ) (part : Option (Bor (List ℕ)))
+    → slice_get places n ≡ Some from → slice_get places (n + 1) ≡ Some to
+    → seen ≡ tuple.bytes → PartBy (λ (x : Bor (List ℕ)). x.now) seen from to part → option_copied part ≡ slice_get tuple.fields n
+part_read tuple places has n from to seen part f t same p =
+    let next : slice_get places (suc n) ≡ Some to = ap (slice_get places) (one_more n) ∙ t in
     part_is seen from to part p
-    ∙ ap (between (Some from) (Some to)) whole
-    ∙ (λ i. between (sym f i) (sym next i) bytes)
-    ∙ sym (field_between tuple bytes fields has n)
+    ∙ ap (between (Some from) (Some to)) same
+    ∙ (λ i. between (sym f i) (sym next i) tuple.bytes)
+    ∙ sym (field_between tuple places has n)
   where
     one_more : (n : ℕ) → suc n ≡ n + 1
     one_more n = omega arith
 
 -- how many fields there are, which a number of 32 bits tells
-pub counted : {E : Type 0} (tuple : Tuple) (answer : Result ℕ E) (places less count : ℕ) → places ≡ length tuple.places.items → less ≡ places - 1
-    → OkIff answer (less < 4294967296) less → count ≡ result_unwrap_or answer 0
-    → (bytes : List ℕ) (fields : List (List ℕ)) → HasFields tuple bytes fields → count ≡ length fields
-counted {E = E} tuple answer places less count l m fits e bytes fields has =
-    let row = has.in_row in
-    let many = l ∙ ap length row.2 ∙ places_many (length row.0) fields in
-    let few = items_few bytes fields has.fields_are in
+pub counted : {E : Type 0} (tuple : TupleValue) (places : List ℕ) → HasPlaces tuple places → (answer : Result ℕ E) (len less count : ℕ) → len ≡ length places → less ≡ len - 1
+    → OkIff answer (less < 4294967296) less → count ≡ result_unwrap_or answer 0 → count ≡ length tuple.fields
+counted {E = E} tuple places has answer len less count l m fits e =
+    let many = l ∙ ap length has.places_are ∙ places_many (length has.head) tuple.fields in
+    let few = items_few tuple.bytes tuple.fields has.items in
     e ∙ by_answer answer fits (omega arith) ∙ omega arith
   where
     by_answer : (answer : Result ℕ E) → OkIff answer (less < 4294967296) less → less < 4294967296 → result_unwrap_or answer 0 ≡ less
@@ -149,20 +137,17 @@ items_within bytes count content e =
     omega arith
 
 -- the tuple of an array's bytes and of its items' places
-pub tuple_made : (tuple : Tuple) (bytes : List ℕ) (count : ℕ) (content : List ℕ) → array_of bytes ≡ Some (count, content) → tuple.bytes ≡ bytes
-    → tuple.places.items ≡ places_from (length bytes - length content) (values_from count content) → (fields : List (List ℕ)) × HasFields tuple bytes fields
-tuple_made tuple bytes count content e same places =
+pub tuple_made : (bytes places : List ℕ) (count : ℕ) (content : List ℕ) → array_of bytes ≡ Some (count, content)
+    → places ≡ places_from (length bytes - length content) (values_from count content) → HasPlaces (tuple_of bytes) places
+tuple_made bytes places count content e at =
     let row = array_row bytes count content e in
     let l = ap length row.parts ∙ length-append row.head content in
-    let start : length bytes - length content ≡ length row.head = omega arith in (
-      values_from count content,
-      record {
-        bytes_are = same;
-        fields_are = ap (option_map (λ (x : ℕ × List ℕ). values_from x.0 x.1)) e;
-        in_row = (
-          row.head,
-          row.parts ∙ ap (λ (l : List ℕ). row.head ++ l) (sym (row_fills bytes count content row)),
-          places ∙ ap (λ (at : ℕ). places_from at (values_from count content)) start,
-        );
-      },
-    )
+    let start : length bytes - length content ≡ length row.head = omega arith in
+    let items : items_of bytes ≡ Some (values_from count content) = ap (option_map (λ (x : ℕ × List ℕ). values_from x.0 x.1)) e in
+    let fields : (tuple_of bytes).fields ≡ values_from count content = ap (λ (o : Option (List (List ℕ))). unwrap_or o []) items in
+    record {
+      items = items ∙ ap Some (sym fields);
+      head = row.head;
+      in_row = row.parts ∙ ap (λ (l : List ℕ). row.head ++ l) (sym (row_fills bytes count content row) ∙ ap concat (sym fields));
+      places_are = at ∙ ap (λ (at : ℕ). places_from at (values_from count content)) start ∙ ap (places_from (length row.head)) (sym fields);
+    }

@@ -1,4 +1,4 @@
--- A format's entries, one at a time.
+-- One entry of a format, for private functions; no public clause speaks of it.
 use Rattle.std.specs.Prelude.{ℕ, List, Option, Some, None, Result, Ok, Err, if◌then◌else◌}
 use Rattle.mx_tuple.specs.declared.formats.FormatEntry.{FormatEntry}
 use Rattle.mx_tuple.specs.declared.checking.FieldFault.{FieldFault}

@@ -1,11 +1,10 @@
 //! Whether a tuple meets a format.
 
-ghost use Rattle.std.specs.Prelude.{◌≡◌, ℕ, List};
+ghost use Rattle.std.specs.Prelude.{◌≡◌};
 ghost use Rattle.std.specs.Option.{option_copied};
+ghost use Rattle.mx_msgpack.specs.Types.{is_nil};
 ghost use Rattle.mx_msgpack.specs.View.{view};
-ghost use Rattle.mx_tuple.specs.declared.formats.FieldKind.TheVariants.{Scalar};
-ghost use Rattle.mx_tuple.specs.Fields.{HasFields};
-ghost use Rattle.mx_tuple.specs.Formats.{checked, fields_checked, is_any, is_nil, may_be_absent, meets, takes_shown};
+ghost use Rattle.mx_tuple.specs.Formats.{checked, fields_checked, meets};
 ghost use Rattle.mx_tuple.specs.Steps.{field_checked};
 
 use crate::formats::{FieldKind, Format, FormatEntry};
@@ -30,7 +29,7 @@ pub enum FieldFault {
 /// The tuple has another number of fields than the format asks for, or the first field that is absent
 /// or of another type.
 pub fn check(format: &Format, tuple: &Tuple) -> Result<(), FieldFault>
-    ensures { (bytes : List ℕ) (fields : List (List ℕ)) → HasFields tuple.now bytes fields → result ≡ checked format.now fields }
+    ensures { result ≡ checked format.now tuple.now.fields }
 {
     let has = tuple.count();
     if format.count != 0 && has != format.count {
@@ -44,7 +43,7 @@ pub fn check(format: &Format, tuple: &Tuple) -> Result<(), FieldFault>
 
 /// Whether the fields meet their entries, one after the other.
 fn check_fields(entries: &[FormatEntry], tuple: &Tuple) -> Result<(), FieldFault>
-    ensures { (bytes : List ℕ) (fields : List (List ℕ)) → HasFields tuple.now bytes fields → result ≡ fields_checked 0 entries.now fields }
+    ensures { result ≡ fields_checked 0 entries.now tuple.now.fields }
 {
     for (place, entry) in entries.iter().enumerate() {
         check_field(place, entry, tuple.at(place))?;
@@ -58,7 +57,7 @@ fn check_field(place: usize, entry: &FormatEntry, field: Option<&[u8]>) -> Resul
 {
     match field {
         None => {
-            if entry.nullable || is_any(entry.kind) {
+            if entry.nullable || entry.kind.value_type().is_any() {
                 return Ok(());
             }
             Err(FieldFault::Missing { field: place })
@@ -81,48 +80,16 @@ fn meets(entry: &FormatEntry, field: &[u8]) -> bool
     ensures { result ≡ meets entry.now field.now }
 {
     match read_ref(field) {
-        Ok((value, _)) => takes(entry.kind, value) || (entry.nullable && is_nil(value)),
-        Err(_) => is_any(entry.kind),
+        Ok((value, _)) => {
+            entry.kind.value_type().takes(&value) || (entry.nullable && is_nil(&value))
+        }
+        Err(_) => entry.kind.value_type().is_any(),
     }
-}
-
-/// Whether a type takes every value.
-fn is_any(kind: FieldKind) -> bool
-    ensures { result ≡ is_any kind }
-{
-    matches!(kind, FieldKind::Any)
 }
 
 /// Whether a value is Nil.
-fn is_nil(value: ValueRef<'_>) -> bool
-    ensures { result ≡ is_nil (view value.entry) }
+fn is_nil(value: &ValueRef<'_>) -> bool
+    ensures { result ≡ is_nil (view value.now) }
 {
     matches!(value, ValueRef::Nil)
-}
-
-/// Whether a type takes a value.
-fn takes(kind: FieldKind, value: ValueRef<'_>) -> bool
-    ensures { result ≡ takes_shown kind (view value.entry) }
-{
-    match kind {
-        FieldKind::Any => true,
-        FieldKind::Unsigned => matches!(value, ValueRef::Int(number) if number >= 0),
-        FieldKind::Integer => matches!(value, ValueRef::Int(_)),
-        FieldKind::String => matches!(value, ValueRef::Str(_)),
-        FieldKind::Boolean => matches!(value, ValueRef::Bool(_)),
-        FieldKind::Varbinary => matches!(value, ValueRef::Bin(_)),
-        FieldKind::Scalar => is_scalar(value),
-        FieldKind::Array => matches!(value, ValueRef::Array { .. }),
-        FieldKind::Map => matches!(value, ValueRef::Map { .. }),
-    }
-}
-
-/// Whether a value is a boolean, a number, a text or bytes.
-fn is_scalar(value: ValueRef<'_>) -> bool
-    ensures { result ≡ takes_shown Scalar (view value.entry) }
-{
-    matches!(
-        value,
-        ValueRef::Bool(_) | ValueRef::Int(_) | ValueRef::Str(_) | ValueRef::Bin(_)
-    )
 }

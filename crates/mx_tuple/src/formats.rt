@@ -1,8 +1,9 @@
 //! Formats: what a space asks of its tuples' fields.
 
 ghost use Rattle.std.specs.Prelude.{◌≡◌, [], ◌∷◌, ◌++◌, length, OnOk, OnErr};
+ghost use Rattle.mx_tuple.specs.Formats.{entry_value_type};
 
-use mx_msgpack::Bytes;
+use mx_msgpack::{Bytes, ValueType};
 use std::alloc::{AllocError, Global};
 use std::marker::Model;
 
@@ -20,6 +21,25 @@ pub enum FieldKind {
     Scalar,
     Array,
     Map,
+}
+
+impl FieldKind {
+    /// The type of the values that the field may have.
+    pub(crate) fn value_type(self) -> ValueType
+        ensures { result ≡ entry_value_type self }
+    {
+        match self {
+            FieldKind::Any => ValueType::Any,
+            FieldKind::Unsigned => ValueType::Unsigned,
+            FieldKind::Integer => ValueType::Integer,
+            FieldKind::String => ValueType::String,
+            FieldKind::Boolean => ValueType::Boolean,
+            FieldKind::Varbinary => ValueType::Varbinary,
+            FieldKind::Scalar => ValueType::Scalar,
+            FieldKind::Array => ValueType::Array,
+            FieldKind::Map => ValueType::Map,
+        }
+    }
 }
 
 /// What a format says of the field in an entry's place.
@@ -86,9 +106,6 @@ impl FormatEntries {
     }
 
     /// Adds an entry at the end.
-    ///
-    /// # Errors
-    /// Memory ran out. The entries are then as they were.
     pub fn push(&mut self, entry: FormatEntry) -> Result<(), AllocError>
         ensures ok { OnOk result (self.new ≡ self.old ++ entry ∷ []) }
         ensures err { OnErr result (self.new ≡ self.old) }

@@ -10,6 +10,3 @@ pub use checking::{FieldFault, check};
 pub use formats::{FieldKind, Format, FormatEntries, FormatEntry};
 pub use laws::a_field_is_a_value;
 pub use tuple::{Tuple, TupleBad, from_bytes};
-
-#[cfg(test)]
-mod tests;

@@ -1,21 +1,32 @@
 //! Tuples: arrays of MessagePack that keep the bytes that were sent.
 
-ghost use Rattle.std.specs.Prelude.{◌≡◌, ◌⊎◌, ◌+◌, ◌^◌, ◌<◌, ℕ, List, length, None, IfOk, MatchResult};
+ghost use Rattle.std.specs.Prelude.{◌≡◌, ◌⊎◌, ◌+◌, ◌^◌, ◌<◌, length, None, Some, IfOk, MatchResult};
 ghost use Rattle.std.specs.List.{slice_get};
 ghost use Rattle.std.specs.Option.{option_copied};
 ghost use Rattle.mx_msgpack.specs.Items.{items_of, values_from};
 ghost use Rattle.mx_tuple.specs.declared.tuple.TupleBad.TheVariants.{Bad, NoMemory};
-ghost use Rattle.mx_tuple.specs.Fields.{HasFields, places_from};
+ghost use Rattle.mx_tuple.specs.Fields.{HasPlaces, places_from};
 
 use mx_msgpack::{Bytes, array_of, parted};
 use std::alloc::{AllocError, Global};
+use std::marker::Model;
 
-/// A tuple: its bytes, and the places in them where its fields begin, with the place at which the
-/// last one ends.
+/// A tuple: its bytes, and the places in them where its fields begin, with the place where the last
+/// one ends.
 #[derive(Debug, Drop)]
 pub struct Tuple {
     bytes: Bytes,
     places: Vec<usize>,
+}
+
+impl Model for Tuple {
+    ghost use Rattle.mx_tuple.specs.Fields.{TupleValue, HasPlaces, tuple_of};
+
+    ghost Value = { TupleValue };
+
+    ghost view = { λ t. tuple_of t.bytes };
+
+    ghost invariant = { λ t. HasPlaces (tuple_of t.bytes) t.places.items };
 }
 
 /// Why there is no tuple.
@@ -23,7 +34,7 @@ pub struct Tuple {
 pub enum TupleBad {
     /// The bytes aren't one array.
     Bad,
-    /// Memory ran out.
+    /// Out of memory.
     NoMemory,
 }
 
@@ -38,10 +49,10 @@ impl From<AllocError> for TupleBad {
 /// The tuple of these bytes, which it copies.
 ///
 /// # Errors
-/// The bytes aren't one array; memory ran out.
+/// `Bad` where the bytes aren't one array.
 pub fn from_bytes(alloc: Global, bytes: &[u8]) -> Result<Tuple, TupleBad>
     ensures { MatchResult result
-        (λ tuple. (fields : List (List ℕ)) × HasFields tuple bytes.now fields)
+        (λ tuple. (tuple.bytes ≡ bytes.now) × (items_of bytes.now ≡ Some tuple.fields))
         (λ fault. ((fault ≡ Bad) × (items_of bytes.now ≡ None)) ⊎ (fault ≡ NoMemory)) }
 {
     let Some(items) = array_of(bytes) else {
@@ -82,14 +93,14 @@ fn places_of(
 impl Tuple {
     /// The bytes of a field, counted from 0; `None` where there are no more.
     pub fn field(&self, n: u32) -> Option<&[u8]>
-        ensures { (bytes : List ℕ) (fields : List (List ℕ)) → HasFields self.now bytes fields → option_copied result ≡ slice_get fields n }
+        ensures { option_copied result ≡ slice_get self.now.fields n }
     {
         self.at(n as usize)
     }
 
     /// As `field`, for each place that an entry of a format can have, which 32 bits may not hold.
     pub(crate) fn at(&self, n: usize) -> Option<&[u8]>
-        ensures { (bytes : List ℕ) (fields : List (List ℕ)) → HasFields self.now bytes fields → option_copied result ≡ slice_get fields n }
+        ensures { option_copied result ≡ slice_get self.now.fields n }
     {
         let from = *self.places.get(n)?;
         let to = *self.places.get(n + 1)?;
@@ -98,7 +109,7 @@ impl Tuple {
 
     /// How many fields there are.
     pub fn count(&self) -> u32
-        ensures { (bytes : List ℕ) (fields : List (List ℕ)) → HasFields self.now bytes fields → result ≡ length fields }
+        ensures { result ≡ length self.now.fields }
     {
         // An array has fewer items than 32 bits count.
         u32::try_from(self.places.len().saturating_sub(1)).unwrap_or(0)
@@ -106,21 +117,21 @@ impl Tuple {
 
     /// The bytes in place.
     pub fn bytes(&self) -> &[u8]
-        ensures { (bytes : List ℕ) (fields : List (List ℕ)) → HasFields self.now bytes fields → result.now ≡ bytes }
+        ensures { result.now ≡ self.now.bytes }
     {
         self.bytes.as_slice()
     }
 
     /// The tuple's bytes.
     pub fn into_bytes(self) -> Bytes
-        ensures { (bytes : List ℕ) (fields : List (List ℕ)) → HasFields self bytes fields → result ≡ bytes }
+        ensures { result ≡ self.bytes }
     {
         self.bytes
     }
 
     /// The places in the bytes where the fields begin, and the one where the last field ends.
     pub fn places(&self) -> &[usize]
-        ensures { result.now ≡ self.now.places.items }
+        ensures { HasPlaces self.now result.now }
     {
         self.places.as_slice()
     }

@@ -1,7 +1,7 @@
 use Rattle.std.proofs.Common.{◌+◌, List, drop, ap, ◌∙◌}
 use Rattle.std.proofs.lemmas.List.{at_drop_more}
 use Rattle.mx_key.specs.declared.part.Part.{Part}
-use Rattle.mx_key.specs.Parts.{field_at, key_of}
+use Rattle.mx_key.specs.Parts.{key_of}
 use Rattle.mx_key.proofs.MakingLaws.{made_more, next_field}
 use Rattle.mx_key.proofs.keys.key_of.Goals as goal
 
@@ -9,7 +9,7 @@ pub loop-part-preserved : goal.loop-part-preserved
 loop-part-preserved c =
     let parts = c.as_slice-part-items.result.now in
     let others = drop (c.loop-part.part-index + 1) parts in
-    let fields = field_at c.args.fields.now.bytes.now c.args.fields.now.places.now in
+    let fields = c.args.fields.now in
     let written = c.in_ok-write_field.ensures in
     let next =
     ap (λ (l : List Part). key_of l fields) (at_drop_more (λ (l : List Part). l) parts c.loop-part.part-index _ c.loop-part-test.true)

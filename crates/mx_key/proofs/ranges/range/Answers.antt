@@ -1,5 +1,5 @@
 use Rattle.std.proofs.Common.{refl, sym, ◌∙◌}
-use Rattle.mx_key.proofs.GivenLaws.{range_of_nothing, range_of_some}
+use Rattle.mx_key.proofs.ArrayLaws.{range_of_nothing, range_of_some}
 use Rattle.mx_key.proofs.ranges.range.Goals as goal
 
 pub returns-then-is_empty-clause-picked : goal.returns-then-is_empty-clause-picked

@@ -10,7 +10,7 @@ use Rattle.mx_key.specs.declared.edge.Edge.TheVariants.{Open}
 use Rattle.mx_key.specs.Keys.{Key, KeyPart, Boolean, Integer, Text, Binary}
 use Rattle.mx_key.specs.Ranges.{range_of, range_by}
 use Rattle.mx_key.specs.Comparable.{comparable_of, edges_of}
-use Rattle.mx_key.specs.Parts.{given, given_in, parts_given}
+use Rattle.mx_key.specs.Parts.{key_of_array, key_of_items, parts_of_items}
 
 length-values_from : (count : ℕ) (bytes : List ℕ) → length (values_from count bytes) ≡ count
 length-values_from zero bytes = refl
@@ -21,14 +21,14 @@ items_in o = option_map (λ array. values_from array.0 array.1) o
 
 module _ (def : List Part) (key : List ℕ) where
   module _ (count : ℕ) (bytes : List ℕ) (e : array_of key ≡ Some (count, bytes)) where
-    pub given_few : count ≤ length def → given def key ≡ parts_given 0 def (values_from count bytes)
-    given_few few =
-        ap (λ (o : Option (ℕ × List ℕ)). given_in def (items_in o)) e
+    pub few_items : count ≤ length def → key_of_array def key ≡ parts_of_items 0 def (values_from count bytes)
+    few_items few =
+        ap (λ (o : Option (ℕ × List ℕ)). key_of_items def (items_in o)) e
         ∙ rw (length-values_from count bytes, le-ltb (length def) count few) refl
 
-    pub given_many : length def < count → given def key ≡ Err (TooLong count)
-    given_many many =
-        ap (λ (o : Option (ℕ × List ℕ)). given_in def (items_in o)) e
+    pub many_items : length def < count → key_of_array def key ≡ Err (TooLong count)
+    many_items many =
+        ap (λ (o : Option (ℕ × List ℕ)). key_of_items def (items_in o)) e
         ∙ rw (length-values_from count bytes, lt-ltb (length def) count many) refl
 
 -- a key without bytes has no part, and sets no end
