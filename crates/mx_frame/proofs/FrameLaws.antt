@@ -3,7 +3,7 @@ use Rattle.std.proofs.Common.{◌≡◌, ℕ, ◌<◌, true, List, [], ◌++◌,
 use Rattle.std.proofs.lemmas.List.{append-nil, length-append}
 use Rattle.mx_msgpack.specs.Readers.{Advances, IsStable, all_from}
 use Rattle.mx_msgpack.proofs.ReaderLaws.{and_then, all_from_none, all_from-append}
-use Rattle.mx_frame.specs.Packets.{First, Packet, NeedMore, Broken, first_of, packet_found, packet_at, packets_of, rest_of, is_broken, breaks_off}
+use Rattle.mx_frame.specs.Packets.{First, Packet, NeedMore, Broken, first_frame, packet_found, packet_at, packets_of, rest_of, is_broken, breaks_off}
 use Rattle.mx_frame.specs.Spelled.{BeginsWithNoPacket}
 use Rattle.mx_frame.proofs.SizeLaws.{spelling}
 use Rattle.mx_frame.proofs.SpelledLaws.{packet_spelled, none_spelled}
@@ -11,7 +11,7 @@ use Rattle.mx_frame.proofs.SpelledLaws.{packet_spelled, none_spelled}
 -- ---- what stands first
 
 -- a packet stands first whatever follows
-pub packet_stays : (bytes more packet rest : List ℕ) → first_of bytes ≡ Packet packet rest → first_of (bytes ++ more) ≡ Packet packet (rest ++ more)
+pub packet_stays : (bytes more packet rest : List ℕ) → first_frame bytes ≡ Packet packet rest → first_frame (bytes ++ more) ≡ Packet packet (rest ++ more)
 packet_stays bytes more packet rest e =
     let b = (packet_spelled bytes packet rest).0 e in
     let parts : bytes ++ more ≡ b.size ++ (packet ++ (rest ++ more)) =
@@ -19,7 +19,7 @@ packet_stays bytes more packet rest e =
     (packet_spelled (bytes ++ more) packet (rest ++ more)).1 (record { size = b.size; spelled = b.spelled; short = b.short; parts = parts })
 
 -- and so does what is no packet
-pub none_stays : (bytes more : List ℕ) → first_of bytes ≡ Broken → first_of (bytes ++ more) ≡ Broken
+pub none_stays : (bytes more : List ℕ) → first_frame bytes ≡ Broken → first_frame (bytes ++ more) ≡ Broken
 none_stays bytes more e = (none_spelled (bytes ++ more)).1 (stays ((none_spelled bytes).0 e))
   where
     stays : BeginsWithNoPacket bytes → BeginsWithNoPacket (bytes ++ more)
@@ -30,7 +30,7 @@ none_stays bytes more e = (none_spelled (bytes ++ more)).1 (stays ((none_spelled
         inr (record { number = b.number; size = b.size; rest = b.rest ++ more; spelled = b.spelled; long = b.long; parts = parts })
 
 -- a packet takes its size at least
-pub packet_shorter : (bytes packet rest : List ℕ) → first_of bytes ≡ Packet packet rest → length rest < length bytes
+pub packet_shorter : (bytes packet rest : List ℕ) → first_frame bytes ≡ Packet packet rest → length rest < length bytes
 packet_shorter bytes packet rest e =
     let b = (packet_spelled bytes packet rest).0 e in
     let s = spelling (length packet) b.size b.spelled in
@@ -47,10 +47,10 @@ first_found NeedMore found e = absurd cc
 first_found Broken found e = absurd cc
 
 pub packet_advances : Advances packet_at
-packet_advances bytes found e = packet_shorter bytes found.0 found.1 (first_found (first_of bytes) found e)
+packet_advances bytes found e = packet_shorter bytes found.0 found.1 (first_found (first_frame bytes) found e)
 
 pub packet_stable : IsStable packet_at
-packet_stable bytes more found e = ap packet_found (packet_stays bytes more found.0 found.1 (first_found (first_of bytes) found e))
+packet_stable bytes more found e = ap packet_found (packet_stays bytes more found.0 found.1 (first_found (first_frame bytes) found e))
 
 -- the packets of bytes and more bytes: those of the bytes, and then those of their rest and the bytes after them
 pub all_packets-append : (bytes more : List ℕ) → all_from packet_at (bytes ++ more) ≡ and_then packet_at (all_from packet_at bytes) more
@@ -71,8 +71,8 @@ is_none Broken e = refl
 
 -- no packet follows whatever comes
 module _ (bytes more : List ℕ) (breaks : breaks_off bytes ≡ true) where
-  rest_stays : first_of (rest_of bytes ++ more) ≡ Broken
-  rest_stays = none_stays (rest_of bytes) more (is_none (first_of (rest_of bytes)) breaks)
+  rest_stays : first_frame (rest_of bytes ++ more) ≡ Broken
+  rest_stays = none_stays (rest_of bytes) more (is_none (first_frame (rest_of bytes)) breaks)
 
   none_more : all_from packet_at (rest_of bytes ++ more) ≡ ([], rest_of bytes ++ more)
   none_more = all_from_none packet_at packet_advances (rest_of bytes ++ more) (ap packet_found rest_stays)
@@ -87,4 +87,4 @@ module _ (bytes more : List ℕ) (breaks : breaks_off bytes ≡ true) where
   rest_of-broken = rest_of-append bytes more ∙ ap (λ (x : List (List ℕ) × List ℕ). x.1) none_more
 
   pub broken_stays : (breaks_off (bytes ++ more) ≡ true) × (packets_of (bytes ++ more) ≡ packets_of bytes)
-  broken_stays = (ap (λ (l : List ℕ). is_broken (first_of l)) rest_of-broken ∙ ap is_broken rest_stays, packets_of-broken)
+  broken_stays = (ap (λ (l : List ℕ). is_broken (first_frame l)) rest_of-broken ∙ ap is_broken rest_stays, packets_of-broken)

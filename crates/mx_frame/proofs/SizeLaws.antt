@@ -5,7 +5,7 @@ use Rattle.std.proofs.lemmas.Bool.{cond_both, ltb-true, eqb-true, lt-ltb, le-ltb
 use Rattle.std.proofs.lemmas.List.{take_at, drop_at, length-append, length-replicate, nil_from_length}
 use Rattle.byteorder.specs.Endian.{big_number}
 use Rattle.mx_msgpack.specs.Grammar.{SpellsUnsigned}
-use Rattle.mx_frame.specs.Packets.{Part, Wrong, max_packet_size, width_behind, allowed, size_at}
+use Rattle.mx_frame.specs.Packets.{Part, Wrong, max_packet_size, width_behind, size_in_limit, size_at}
 use Rattle.mx_frame.specs.Spelled.{StartsNoUnsigned}
 
 -- a number begins with this byte, and so many bytes of it follow
@@ -83,7 +83,7 @@ low_leading leading (inr (inr (inr (inr (l, w))))) = absurd (omega arith)
 
 -- all bytes of a number are there
 pub enough_read : (leading width : ℕ) (rest : List ℕ) → Leads leading width → width ≤ length rest
-    → size_at (leading ∷ rest) ≡ allowed (number_of leading width (take width rest)) (drop width rest)
+    → size_at (leading ∷ rest) ≡ size_in_limit (number_of leading width (take width rest)) (drop width rest)
 unfolding size_at
 enough_read leading zero rest l enough =
     let low = low_leading leading l in
@@ -102,7 +102,7 @@ unfolding size_at
 none_read leading rest e = rw e refl
 
 -- a spelled number at the front
-pub number_read : (number : ℕ) (front rest : List ℕ) → SpellsUnsigned number front → size_at (front ++ rest) ≡ allowed number rest
+pub number_read : (number : ℕ) (front rest : List ℕ) → SpellsUnsigned number front → size_at (front ++ rest) ≡ size_in_limit number rest
 number_read number front rest spelled =
     let s = spelling number front spelled in
     let l = length-append s.digits rest in
@@ -110,9 +110,9 @@ number_read number front rest spelled =
     let enough : s.width ≤ length (s.digits ++ rest) = omega arith in
     ap (λ (bytes : List ℕ). size_at (bytes ++ rest)) s.parts
     ∙ enough_read s.leading s.width (s.digits ++ rest) s.leads enough
-    ∙ ap (λ (digits : List ℕ). allowed (number_of s.leading s.width digits) (drop s.width (s.digits ++ rest))) (take_at s.digits rest s.width long)
-    ∙ ap (λ (n : ℕ). allowed n (drop s.width (s.digits ++ rest))) (sym s.same)
-    ∙ ap (allowed number) (drop_at s.digits rest s.width long)
+    ∙ ap (λ (digits : List ℕ). size_in_limit (number_of s.leading s.width digits) (drop s.width (s.digits ++ rest))) (take_at s.digits rest s.width long)
+    ∙ ap (λ (n : ℕ). size_in_limit n (drop s.width (s.digits ++ rest))) (sym s.same)
+    ∙ ap (size_in_limit number) (drop_at s.digits rest s.width long)
 
 -- the front of a number's spelling
 pub front_read : (number : ℕ) (bytes missing : List ℕ) → 0 < length missing → SpellsUnsigned number (bytes ++ missing) → size_at bytes ≡ Part

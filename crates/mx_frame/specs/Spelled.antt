@@ -1,9 +1,9 @@
--- What bytes begin with, in the words of the grammar of MessagePack.
+-- What bytes begin with, by the grammar of MessagePack.
 use Rattle.std.specs.Prelude.{◌≡◌, ◌⊎◌, ℕ, ◌<◌, ◌≤◌, List, ◌∷◌, ◌++◌, length}
 use Rattle.mx_msgpack.specs.Grammar.{SpellsUnsigned}
 use Rattle.mx_frame.specs.Packets.{max_packet_size}
 
--- a packet stands first: its size in any spelling, and its bytes
+-- the bytes begin with a packet: its size in any spelling, and its content
 pub record BeginsWithPacket (bytes packet rest : List ℕ) : Type 0 where
   pub size : List ℕ
   pub spelled : SpellsUnsigned (length packet) size
@@ -14,14 +14,14 @@ pub record BeginsWithPacket (bytes packet rest : List ℕ) : Type 0 where
 abbrev pub StartsNoUnsigned : ℕ → Type 0
 StartsNoUnsigned leading = (number : ℕ) (others : List ℕ) → ¬ SpellsUnsigned number (leading ∷ others)
 
--- a byte stands first that begins no unsigned number
+-- the first byte begins no unsigned number
 pub record BeginsWithNoNumber (bytes : List ℕ) : Type 0 where
   pub leading : ℕ
   pub others : List ℕ
   pub parts : bytes ≡ leading ∷ others
   pub none : StartsNoUnsigned leading
 
--- a number stands first that is no packet's size
+-- the bytes begin with a number above a packet's maximum size
 pub record BeginsWithLongSize (bytes : List ℕ) : Type 0 where
   pub number : ℕ
   pub size : List ℕ
@@ -30,7 +30,7 @@ pub record BeginsWithLongSize (bytes : List ℕ) : Type 0 where
   pub long : max_packet_size < number
   pub parts : bytes ≡ size ++ rest
 
--- no packet can begin with the bytes
+-- the bytes begin with no packet, whatever follows
 abbrev pub BeginsWithNoPacket : List ℕ → Type 0
 BeginsWithNoPacket bytes = BeginsWithNoNumber bytes ⊎ BeginsWithLongSize bytes
 
@@ -51,6 +51,6 @@ pub record EndsInPacket (bytes : List ℕ) : Type 0 where
   pub fewer : length rest < number
   pub parts : bytes ≡ size ++ rest
 
--- the front of a packet that isn't whole
+-- a prefix of a packet
 abbrev pub EndsTooSoon : List ℕ → Type 0
 EndsTooSoon bytes = EndsInSize bytes ⊎ EndsInPacket bytes

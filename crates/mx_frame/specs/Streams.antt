@@ -1,4 +1,4 @@
--- The bytes of a connection as a framer has them.
+-- The bytes of a connection in a framer.
 use Rattle.std.specs.Prelude.{ℕ, List}
 
 pub record Stream : Type 0 where

@@ -1,15 +1,14 @@
 //! The framer: bytes in, packets out.
 
 ghost use Rattle.std.specs.Prelude.{◌≡◌, ◌+◌, ◌-◌, ◌^◌, ◌<◌, ◌≤◌, ◌++◌, [], ℕ, List, length, drop, min, vec_len, MatchResult};
-ghost use Rattle.mx_frame.specs.Packets.{Packet, first_of};
-ghost use Rattle.mx_frame.specs.Views.{Tells};
+ghost use Rattle.mx_frame.specs.Packets.{Packet, first_frame};
+ghost use Rattle.mx_frame.specs.Views.{IsFramed};
 
 use crate::size::{Size, size_at};
 use std::alloc::{AllocError, Global};
 use std::marker::Model;
 
-/// The bytes of a connection that came and weren't passed yet, of which packets are told one after
-/// the other.
+/// The bytes of a connection that came and weren't passed yet, split into packets.
 #[derive(Debug, Drop)]
 pub struct Framer {
     /// The bytes from `start` on weren't passed yet.
@@ -29,15 +28,15 @@ impl Model for Framer {
     ghost invariant = { λ f. f.start ≤ vec_len f.buffer };
 }
 
-/// What stands first in the bytes that weren't passed.
+/// What the bytes begin with that weren't passed.
 #[derive(Clone, Copy, Debug, PartialEq, Eq)]
 pub enum Framed<'a> {
     /// A whole packet, without its size.
     Packet(&'a [u8]),
-    /// The front of a packet.
+    /// A prefix of a packet.
     NeedMore,
-    /// No packet: a byte that begins no unsigned number, or a size above 2,097,152. `at` counts the
-    /// bytes of the connection before it, up to `u64::MAX`.
+    /// No packet: a byte that begins no unsigned number, or a size above 2,097,152. `at` is the
+    /// number of bytes of the connection before it, up to `u64::MAX`.
     Broken { at: u64 },
 }
 
@@ -54,27 +53,27 @@ impl Framer {
         }
     }
 
-    /// Takes a further piece of the connection's bytes.
+    /// Takes the next bytes of the connection.
     ///
     /// # Errors
-    /// Memory ran out. The piece isn't taken.
+    /// The bytes weren't taken.
     pub fn feed(&mut self, piece: &[u8]) -> Result<(), AllocError>
         ensures rest { MatchResult result (λ _. self.new.rest ≡ self.old.rest ++ piece.now) (λ _. self.new.rest ≡ self.old.rest) }
         ensures passed { self.new.passed ≡ self.old.passed }
     {
         // What was passed is dropped only where it is more than half, so that fewer bytes are moved
-        // than were passed, whatever the pieces.
+        // than were passed.
         if self.start > self.buffer.len() - self.start {
-            drop_front(&mut self.buffer, self.start);
+            drop_prefix(&mut self.buffer, self.start);
             self.start = 0;
         }
         self.buffer.extend_from_slice(piece)
     }
 
-    /// What stands first in the bytes that weren't passed.
-    #[tactic(auto, unfolding(crate::specs::Packets::first_of))]
+    /// What the bytes begin with that weren't passed.
+    #[tactic(auto, unfolding(crate::specs::Packets::first_frame))]
     pub fn next(&self) -> Framed<'_>
-        ensures { Tells result self.now }
+        ensures { IsFramed result self.now }
     {
         let rest = self.rest();
         match size_at(rest) {
@@ -90,11 +89,11 @@ impl Framer {
         }
     }
 
-    /// Passes the packet that stands first.
-    #[tactic(auto, unfolding(crate::specs::Packets::first_of))]
+    /// Passes the first packet.
+    #[tactic(auto, unfolding(crate::specs::Packets::first_frame))]
     pub fn pass(&mut self)
-        requires { (content rest : List ℕ) × (first_of self.old.rest ≡ Packet content rest) }
-        ensures rest { (content rest : List ℕ) → first_of self.old.rest ≡ Packet content rest → self.new.rest ≡ rest }
+        requires { (content rest : List ℕ) × (first_frame self.old.rest ≡ Packet content rest) }
+        ensures rest { (content rest : List ℕ) → first_frame self.old.rest ≡ Packet content rest → self.new.rest ≡ rest }
         ensures shorter { length self.new.rest < length self.old.rest }
         ensures passed { self.new.passed ≡ min (self.old.passed + (length self.old.rest - length self.new.rest)) (2 ^ 64 - 1) }
     {
@@ -104,7 +103,6 @@ impl Framer {
         }
     }
 
-    /// The bytes that weren't passed.
     fn rest(&self) -> &[u8]
         ensures { result.now ≡ self.now.rest }
     {
@@ -112,8 +110,7 @@ impl Framer {
     }
 }
 
-/// Drops the first `count` bytes.
-fn drop_front(buffer: &mut Vec<u8>, count: usize)
+fn drop_prefix(buffer: &mut Vec<u8>, count: usize)
     requires { count ≤ vec_len buffer.old }
     ensures { buffer.new.items ≡ drop count buffer.old.items }
 {

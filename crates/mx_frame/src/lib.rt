@@ -1,4 +1,4 @@
-//! The packets of a connection, whatever the pieces in which its bytes come (IPROTO, "Packet structure").
+//! The packets of a connection, however its bytes are split (IPROTO, "Packet structure").
 #![tactic(auto)]
 
 mod framer;
@@ -7,6 +7,3 @@ mod size;
 
 pub use framer::{Framed, Framer};
 pub use laws::{packets_are_spelled, what_is_framed_stays};
-
-#[cfg(test)]
-mod tests;

@@ -1,4 +1,4 @@
-//! The size that stands before a packet.
+//! The size before a packet.
 
 ghost use Rattle.std.specs.Prelude.{◌≡◌, ◌⊎◌, ◌∷◌, ℕ, Some};
 ghost use Rattle.mx_frame.specs.Packets.{size_at, size_behind};
@@ -6,7 +6,7 @@ ghost use Rattle.mx_frame.specs.Views.{IsSize};
 
 use byteorder::{BigEndian, ByteOrder};
 
-/// The most bytes of a packet, without its size.
+/// The maximum size of a packet in bytes, without its size field.
 const MAX_PACKET_SIZE: u64 = 2_097_152;
 
 /// What bytes begin with, where a packet's size is expected.
@@ -14,13 +14,13 @@ const MAX_PACKET_SIZE: u64 = 2_097_152;
 pub(crate) enum Size {
     /// A size, spelled in `head` bytes.
     Whole { head: usize, size: usize },
-    /// The front of a size.
+    /// A prefix of a size.
     Part,
     /// No size that a packet may have.
     Wrong,
 }
 
-/// Reads the size that stands first. It looks at 9 bytes at most.
+/// Reads the first size, from at most 9 bytes.
 #[tactic(auto, unfolding(crate::specs::Packets::size_at))]
 pub(crate) fn size_at(bytes: &[u8]) -> Size
     ensures { IsSize result bytes.now (size_at bytes.now) }
@@ -41,7 +41,7 @@ pub(crate) fn size_at(bytes: &[u8]) -> Size
     }
 }
 
-/// Reads a size of `width` bytes behind its leading byte, the highest first.
+/// Reads a big-endian size of `width` bytes after its leading byte.
 fn size_behind(width: usize, rest: &[u8]) -> Size
     requires { (width ≡ 1) ⊎ (width ≡ 2) ⊎ (width ≡ 4) ⊎ (width ≡ 8) }
     ensures { (leading : ℕ) → IsSize result (leading ∷ rest.now) (size_behind leading (Some width) rest.now) }

@@ -4,7 +4,7 @@ use Rattle.base64.specs.Engines.{standard}
 use Rattle.base64.specs.GeneralPurpose.{encode_of}
 use Rattle.uuid.specs.Text.{hyphenated_text, lower}
 
--- a line of 63 bytes, filled up by spaces, and its newline
+-- a line of 63 bytes, padded with spaces, and its newline
 abbrev pub padded_line : List ℕ → List ℕ
 padded_line text = text ++ replicate (63 - length text) 32 ++ 10 ∷ []
 

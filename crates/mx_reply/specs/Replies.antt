@@ -20,11 +20,11 @@ reply_packet schema sync kind body =
     let content = reply_header schema sync kind ++ body in
     (0xce ∷ big_bytes 4 (length content)) ++ content
 
--- no pair; the tuples under 0x30, as an array of 32 bits; or a vclock under 0x26
-abbrev pub body_text : ReplyBody → List ℕ
-body_text Empty = 0x80 ∷ []
-body_text (Tuples tuples) = (0x81 ∷ 0x30 ∷ 0xdd ∷ big_bytes 4 (length tuples)) ++ concat tuples
-body_text (Clock clock) = (0x81 ∷ 0x26 ∷ []) ++ clock_map clock
+-- a body as a map: empty; the tuples under 0x30, as an array of 32 bits; or a vclock under 0x26
+abbrev pub reply_body_text : ReplyBody → List ℕ
+reply_body_text Empty = 0x80 ∷ []
+reply_body_text (Tuples tuples) = (0x81 ∷ 0x30 ∷ 0xdd ∷ big_bytes 4 (length tuples)) ++ concat tuples
+reply_body_text (Clock clock) = (0x81 ∷ 0x26 ∷ []) ++ clock_map clock
 
 -- the refusal's text under 0x31
 abbrev pub refusal_body : Refusal → List ℕ
@@ -34,12 +34,14 @@ refusal_body refusal = (0x81 ∷ 0x31 ∷ []) ++ (str_head (length (text_of refu
 abbrev pub id_body : List ℕ
 id_body = 0x82 ∷ 0x54 ∷ 0x01 ∷ 0x55 ∷ 0x92 ∷ 0x00 ∷ 0x01 ∷ []
 
--- an answer has the type 0, and a refusal 0x8000 and its number
+-- a success has the type 0
 abbrev pub ok_packet : (schema sync : ℕ) → ReplyBody → List ℕ
-ok_packet schema sync body = reply_packet schema sync 0 (body_text body)
+ok_packet schema sync body = reply_packet schema sync 0 (reply_body_text body)
 
+-- a refusal has the type 0x8000 plus its number
 abbrev pub error_packet : (schema sync : ℕ) → Refusal → List ℕ
 error_packet schema sync refusal = reply_packet schema sync (0x8000 + code_of refusal) (refusal_body refusal)
 
+-- the reply to a request for the protocol's version and features
 abbrev pub id_packet : (schema sync : ℕ) → List ℕ
 id_packet schema sync = reply_packet schema sync 0 id_body

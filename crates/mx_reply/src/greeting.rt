@@ -7,14 +7,11 @@ use base64::engine::general_purpose::STANDARD;
 use std::alloc::{AllocError, Global};
 use uuid::Uuid;
 
-/// The bytes of a line before its newline.
+/// The size of a line in bytes, before its newline.
 const LINE: usize = 63;
 
-/// The greeting of a node: product, version, protocol and the node's instance on one line, the salt
-/// in base64 on the other. Each line has 64 bytes, with spaces before its newline.
-///
-/// # Errors
-/// Memory ran out.
+/// The greeting of an instance: product, version, protocol and the instance's UUID on one line, the
+/// salt in base64 on the other. Each line has 64 bytes, with spaces before its newline.
 #[tactic(auto, unfolding(crate::specs::Greeting::greeting_of))]
 pub fn write_greeting(
     alloc: Global,
@@ -35,7 +32,7 @@ pub fn write_greeting(
     Ok(greeting)
 }
 
-/// Adds a line, filled up by spaces.
+/// Appends a line, padded with spaces.
 fn push_line(out: &mut Vec<u8>, text: &[u8]) -> Result<(), AllocError>
     ensures { OnOk result (out.new.items ≡ out.old.items ++ padded_line text.now) }
 {

@@ -11,6 +11,3 @@ pub use body::ReplyBody;
 pub use greeting::write_greeting;
 pub use laws::replies_are_packets;
 pub use replies::{write_error, write_id, write_ok};
-
-#[cfg(test)]
-mod tests;

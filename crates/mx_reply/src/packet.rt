@@ -10,68 +10,68 @@ use mx_base::SyncId;
 use mx_msgpack::Bytes;
 use std::alloc::AllocError;
 
-/// The bytes of a header, without the five of the packet's size before it.
+/// The size of a header in bytes, without the five of the packet's size before it.
 const HEADER_SIZE: usize = 23;
 
-/// What the header of a reply says.
+/// The header of a reply.
 #[derive(Clone, Copy, Debug, Drop)]
 pub(crate) struct Header {
     /// The schema version.
     pub(crate) schema: u32,
     /// The sync of the request.
     pub(crate) sync: SyncId,
-    /// The type, which is 0 for an answer.
+    /// The type, which is 0 for a success.
     pub(crate) kind: u32,
 }
 
-/// Adds the packet whose body is the front and then the parts, one after the other.
+/// Appends the packet whose body is the prefix and then the parts.
 ///
 /// # Errors
-/// Memory ran out, or the packet has more than 2^32 - 1 bytes behind its size; nothing was added.
+/// Memory ran out, or the packet has more than 2^32 - 1 bytes after its size; nothing was appended.
 pub(crate) fn write_packet(
     header: Header,
-    front: &[u8],
+    prefix: &[u8],
     parts: &[Bytes],
     out: &mut Bytes,
 ) -> Result<(), AllocError>
     ensures written { MatchResult result
-        (λ _. out.new ≡ out.old ++ reply_packet header.schema header.sync.0 header.kind (front.now ++ concat parts.now))
+        (λ _. out.new ≡ out.old ++ reply_packet header.schema header.sync.0 header.kind (prefix.now ++ concat parts.now))
         (λ _. out.new ≡ out.old) }
-    ensures fits { OnOk result (23 + length (front.now ++ concat parts.now) < 2 ^ 32) }
+    ensures fits { OnOk result (23 + length (prefix.now ++ concat parts.now) < 2 ^ 32) }
 {
     let before = out.len();
-    let written = write_pieces(header, front, parts, out);
+    let written = write_pieces(header, prefix, parts, out);
     if written.is_err() {
         out.truncate(before);
     }
     written
 }
 
-/// As `write_packet`, but where memory ran out the front of the packet may have been added.
+/// As `write_packet`, but out of memory a prefix of the packet may have been appended.
 fn write_pieces(
     header: Header,
-    front: &[u8],
+    prefix: &[u8],
     parts: &[Bytes],
     out: &mut Bytes,
 ) -> Result<(), AllocError>
     ensures written { MatchResult result
-        (λ _. out.new ≡ out.old ++ reply_packet header.schema header.sync.0 header.kind (front.now ++ concat parts.now))
+        (λ _. out.new ≡ out.old ++ reply_packet header.schema header.sync.0 header.kind (prefix.now ++ concat parts.now))
         (λ _. take (length out.old) out.new ≡ out.old) }
-    ensures fits { OnOk result (23 + length (front.now ++ concat parts.now) < 2 ^ 32) }
+    ensures fits { OnOk result (23 + length (prefix.now ++ concat parts.now) < 2 ^ 32) }
 {
-    let body_size = total_size(parts).saturating_add(front.len());
+    let body_size = total_size(parts).saturating_add(prefix.len());
     let Ok(size) = u32::try_from(body_size.saturating_add(HEADER_SIZE)) else {
         return Err(AllocError);
     };
     let head = packet_head(size, header);
     out.reserve(body_size.saturating_add(head.len()))?;
     out.extend_from_slice(&head)?;
-    out.extend_from_slice(front)?;
+    out.extend_from_slice(prefix)?;
     write_each(parts, out)?;
     Ok(())
 }
 
-/// How many bytes the parts have together, or the greatest number there is.
+/// The size of all parts, up to `usize::MAX`.
 fn total_size(parts: &[Bytes]) -> usize
     ensures { result ≡ min (length (concat parts.now)) (2 ^ 64 - 1) }
 {
@@ -82,7 +82,7 @@ fn total_size(parts: &[Bytes]) -> usize
     size
 }
 
-/// Adds the bytes of each part; where memory ran out those of some first ones may have been added.
+/// Appends the parts; out of memory some of the first may have been appended.
 fn write_each(parts: &[Bytes], out: &mut Bytes) -> Result<(), AllocError>
     ensures { MatchResult result (λ _. out.new ≡ out.old ++ concat parts.now) (λ _. take (length out.old) out.new ≡ out.old) }
 {

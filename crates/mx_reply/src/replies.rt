@@ -1,7 +1,7 @@
 //! Replies as packets (IPROTO, "Response structure").
 
 ghost use Rattle.std.specs.Prelude.{◌≡◌, ◌+◌, ◌<◌, ◌^◌, ◌++◌, length, OnOk, MatchResult};
-ghost use Rattle.mx_reply.specs.Replies.{body_text, error_packet, id_packet, ok_packet, refusal_body};
+ghost use Rattle.mx_reply.specs.Replies.{reply_body_text, error_packet, id_packet, ok_packet, refusal_body};
 
 use crate::body::ReplyBody;
 use crate::packet::{Header, write_packet};
@@ -10,14 +10,13 @@ use mx_base::{Refusal, SyncId, code_of, text_of};
 use mx_msgpack::{Bytes, write_str_head};
 use std::alloc::{AllocError, Global};
 
-/// The most bytes that a Str may have.
+/// The maximum size of a Str in bytes.
 const MAX_TEXT: usize = 2_097_152;
 
-/// Adds the reply of an answer: a packet of type 0 with this sync and schema version, and the body's
-/// map.
+/// Appends a success: a packet of type 0 with this sync and schema version, and the body's map.
 ///
 /// # Errors
-/// Memory ran out, or the packet has more than 2^32 - 1 bytes; nothing was added.
+/// Memory ran out, or the packet has more than 2^32 - 1 bytes; nothing was appended.
 pub fn write_ok(
     alloc: Global,
     sync: SyncId,
@@ -26,7 +25,7 @@ pub fn write_ok(
     out: &mut Bytes,
 ) -> Result<(), AllocError>
     ensures written { MatchResult result (λ _. out.new ≡ out.old ++ ok_packet schema sync.0 body.now) (λ _. out.new ≡ out.old) }
-    ensures fits { OnOk result (23 + length (body_text body.now) < 2 ^ 32) }
+    ensures fits { OnOk result (23 + length (reply_body_text body.now) < 2 ^ 32) }
 {
     let header = Header {
         schema,
@@ -39,9 +38,9 @@ pub fn write_ok(
             let Ok(count) = u32::try_from(tuples.len()) else {
                 return Err(AllocError);
             };
-            let mut front = [0x81, 0x30, 0xdd, 0, 0, 0, 0];
-            BigEndian::write_u32(&mut front[3..], count);
-            write_packet(header, &front, tuples.as_slice(), out)
+            let mut prefix = [0x81, 0x30, 0xdd, 0, 0, 0, 0];
+            BigEndian::write_u32(&mut prefix[3..], count);
+            write_packet(header, &prefix, tuples.as_slice(), out)
         }
         ReplyBody::Clock(clock) => {
             // The map is made first, since its size stands before it.
@@ -52,11 +51,11 @@ pub fn write_ok(
     }
 }
 
-/// Adds the reply of a refusal: a packet whose type is 0x8000 and the refusal's number, with this
-/// sync and schema version, and the refusal's text in a map.
+/// Appends a refusal: a packet whose type is 0x8000 plus the refusal's number, with this sync and
+/// schema version, and the refusal's text in a map.
 ///
 /// # Errors
-/// Memory ran out, or the text has more than 2,097,152 bytes; nothing was added.
+/// Memory ran out, or the text has more than 2,097,152 bytes; nothing was appended.
 pub fn write_error(
     alloc: Global,
     sync: SyncId,
@@ -82,11 +81,11 @@ pub fn write_error(
     )
 }
 
-/// Adds the reply to a request for the protocol's version and features: a packet of type 0 with this
-/// sync and schema version, and both in a map.
+/// Appends the reply to a request for the protocol's version and features: a packet of type 0 with
+/// this sync and schema version, and both in a map.
 ///
 /// # Errors
-/// Memory ran out; nothing was added.
+/// Nothing was appended.
 pub fn write_id(
     _alloc: Global,
     sync: SyncId,

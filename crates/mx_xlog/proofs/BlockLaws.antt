@@ -5,14 +5,14 @@ use Rattle.std.specs.Cmp.Lexicographic.{pointwise, same_text, other_text}
 use Rattle.std.specs.List.{starts_with}
 use Rattle.mx_xlog.specs.Blocks.{BeginsBlock, BeginsEnd, end_marker}
 use Rattle.mx_xlog.specs.Checksums.{checksum_of}
-use Rattle.mx_xlog.specs.Heads.{head_of}
+use Rattle.mx_xlog.specs.Heads.{block_head}
 
 -- a head that says this length and this checksum, before data that has them
-pub block_found : (bytes head rest rows : List ℕ) (size sum : ℕ) → head ≡ take 19 bytes → rest ≡ drop 19 bytes → head ≡ head_of size sum
+pub block_found : (bytes head rest rows : List ℕ) (size sum : ℕ) → head ≡ take 19 bytes → rest ≡ drop 19 bytes → head ≡ block_head size sum
     → 1 ≤ size → size ≤ 4194304 → size ≤ length rest → rows ≡ take size rest → sum ≡ checksum_of rows → BeginsBlock rows bytes
 block_found bytes head rest rows size sum front back says some bounded within taken summed =
     let long : length rows ≡ size = ap length taken ∙ length-take size rest ∙ omega arith in
-    let whole : bytes ≡ head_of size sum ++ take size rest ++ drop size rest =
+    let whole : bytes ≡ block_head size sum ++ take size rest ++ drop size rest =
     sym (take-append-drop 19 bytes) ∙ rw (← front, ← back, says, take-append-drop size rest) refl in (
       drop size rest,
       record { some = omega arith; bounded = omega arith },

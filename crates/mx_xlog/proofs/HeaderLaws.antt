@@ -6,11 +6,11 @@ use Rattle.std.proofs.Math.Seq.{take-append_seam}
 use Rattle.std.proofs.lemmas.Bool.{eqb-false, cases_lt}
 use Rattle.std.proofs.lemmas.List.{take-append-drop}
 use mathlib.Core.Logic.{◌⊎◌}
-use Rattle.mx_vclock.specs.Text.{text_of}
+use Rattle.mx_vclock.specs.Text.{vclock_text}
 use Rattle.mx_xlog.specs.declared.head.Head.{Head}
-use Rattle.mx_xlog.specs.Headers.{ended, header_lines, replica_lines, IsHead, BeginsHeader, IsHeader, IsFaultLine}
+use Rattle.mx_xlog.specs.Headers.{lines_text, header_lines, replica_lines, IsHead, BeginsHeader, IsHeader, IsFaultLine}
 use Rattle.mx_xlog.specs.Lines.{IsLine, BeginsLine}
-use Rattle.mx_xlog.specs.HeaderParts.{kind_of, BeginsNone}
+use Rattle.mx_xlog.specs.HeaderParts.{file_type, BeginsNone}
 use Rattle.mx_xlog.proofs.LineLaws.{ended-append, same_line}
 use Rattle.mx_xlog.proofs.PlainLaws.{line-append, decimal_line, id_line, clock_line}
 
@@ -32,7 +32,7 @@ plain_line (byte ∷ bytes) is = by_test (byte == 10) refl is (plain_line bytes)
     by_test true e told others = cc
     by_test false e told others = (eqb-false byte 10 e, others told)
 
-kind_is_line : (snapshot : Bool) → IsLine (kind_of snapshot)
+kind_is_line : (snapshot : Bool) → IsLine (file_type snapshot)
 kind_is_line true = plain_line (codes "SNAP") refl
 kind_is_line false = plain_line (codes "XLOG") refl
 
@@ -54,24 +54,24 @@ replica_are false id small = (line-append (codes "Replica: ") (decimal id) (plai
 
 pub header_are : (head : Head) → IsHead head → AreLines (header_lines head)
 header_are head fits =
-    let clock : AreLines ((codes "VClock: " ++ text_of head.clock) ∷ [] ∷ []) =
-    (line-append (codes "VClock: ") (text_of head.clock) (plain_line (codes "VClock: ") refl) (clock_line head.clock fits.sound), (tt, tt)) in
+    let clock : AreLines ((codes "VClock: " ++ vclock_text head.clock) ∷ [] ∷ []) =
+    (line-append (codes "VClock: ") (vclock_text head.clock) (plain_line (codes "VClock: ") refl) (clock_line head.clock fits.sound), (tt, tt)) in
     let behind = are-append (replica_lines head.replica) _ (replica_are (head.replica == 1) head.replica fits.replica) clock in
     let instance = line-append (codes "Instance: ") _ (plain_line (codes "Instance: ") refl) (id_line head.instance) in
     let set = line-append (codes "ReplicaSet: ") _ (plain_line (codes "ReplicaSet: ") refl) (id_line head.set) in
     (kind_is_line head.snapshot, (plain_line (codes "0.13") refl, (instance, (set, behind))))
 
-pub ended_first : (line : List ℕ) (lines : List (List ℕ)) (rest : List ℕ) → ended (line ∷ lines) ++ rest ≡ line ++ 10 ∷ (ended lines ++ rest)
-ended_first line lines rest = append_assoc (line ++ 10 ∷ []) (ended lines) rest ∙ append_assoc line (10 ∷ []) (ended lines ++ rest)
+pub ended_first : (line : List ℕ) (lines : List (List ℕ)) (rest : List ℕ) → lines_text (line ∷ lines) ++ rest ≡ line ++ 10 ∷ (lines_text lines ++ rest)
+ended_first line lines rest = append_assoc (line ++ 10 ∷ []) (lines_text lines) rest ∙ append_assoc line (10 ∷ []) (lines_text lines ++ rest)
 
 -- where the bytes begin with one line more, it is the next one
 next_line : (known lines : List (List ℕ)) (rest tail : List ℕ) → AreLines known → AreLines lines → suc (length known) ≤ length lines
-    → ended known ++ rest ≡ ended (take (suc (length known)) lines) ++ tail
+    → lines_text known ++ rest ≡ lines_text (take (suc (length known)) lines) ++ tail
     → (line : List ℕ) × (others : List (List ℕ)) × (lines ≡ known ++ line ∷ others) × (rest ≡ line ++ 10 ∷ tail)
 next_line known [] rest tail k l enough is = absurd (omega arith)
 next_line [] (line ∷ lines) rest tail k l enough is = (line, lines, refl, is ∙ ended_first line [] tail)
 next_line (first ∷ known) (line ∷ lines) rest tail k l enough is =
-    let same = same_line first line (ended known ++ rest) (ended (take (suc (length known)) lines) ++ tail) k.0 l.0
+    let same = same_line first line (lines_text known ++ rest) (lines_text (take (suc (length known)) lines) ++ tail) k.0 l.0
     (sym (ended_first first known rest) ∙ is ∙ ended_first line (take (suc (length known)) lines) tail) in
     let next = next_line known lines rest tail k.1 l.1 (omega arith) same.1 in
     (next.0, next.1, both first line lines (known ++ next.0 ∷ next.1) same.0 next.2, next.3)
@@ -94,11 +94,11 @@ none_goes_on Tells known rest none told = λ head line more tail fits are is_lin
 
 -- bytes that begin with some lines and with no fewer others begin with a front of the others
 pub front_lines : (lines known : List (List ℕ)) (rest tail : List ℕ) → AreLines lines → AreLines known → length lines ≤ length known
-    → ended lines ++ rest ≡ ended known ++ tail → (more : List (List ℕ)) × (known ≡ lines ++ more)
+    → lines_text lines ++ rest ≡ lines_text known ++ tail → (more : List (List ℕ)) × (known ≡ lines ++ more)
 front_lines [] known rest tail l k enough is = (known, refl)
 front_lines (line ∷ lines) [] rest tail l k enough is = absurd (omega arith)
 front_lines (line ∷ lines) (first ∷ known) rest tail l k enough is =
-    let same = same_line line first (ended lines ++ rest) (ended known ++ tail) l.0 k.0
+    let same = same_line line first (lines_text lines ++ rest) (lines_text known ++ tail) l.0 k.0
     (sym (ended_first line lines rest) ∙ is ∙ ended_first first known tail) in
     let others = front_lines lines known rest tail l.1 k.1 (omega arith) same.1 in
     (others.0, both first line known (lines ++ others.0) (sym same.0) others.1)
@@ -120,31 +120,31 @@ no_more false false mine its byte clock its_clock more is = cc
 pub no_longer : (head other : Head) (more : List (List ℕ)) → header_lines head ≡ header_lines other ++ more → more ≡ []
 no_longer head other more is =
     no_more (head.replica == 1) (other.replica == 1) (codes "Replica: " ++ decimal head.replica) (codes "Replica: " ++ decimal other.replica)
-    86 _ (codes "VClock: " ++ text_of other.clock) more (same_behind_four _ _ _ _ _ _ _ _ _ _ is)
+    86 _ (codes "VClock: " ++ vclock_text other.clock) more (same_behind_four _ _ _ _ _ _ _ _ _ _ is)
 
 -- bytes that begin with a header begin with its first lines
 begins_front : (count : ℕ) (head : Head) (size : ℕ) (bytes : List ℕ) → IsHeader bytes head size → count ≤ length (header_lines head) → BeginsHeader count bytes
 begins_front count head size bytes header enough =
     let lines = header_lines head in
-    let split : ended lines ≡ ended (take count lines) ++ ended (drop count lines) =
-    ap ended (sym (take-append-drop count lines)) ∙ ended-append (take count lines) (drop count lines) in (
+    let split : lines_text lines ≡ lines_text (take count lines) ++ lines_text (drop count lines) =
+    ap lines_text (sym (take-append-drop count lines)) ∙ ended-append (take count lines) (drop count lines) in (
       head,
-      ended (drop count lines) ++ header.begins.0,
+      lines_text (drop count lines) ++ header.begins.0,
       header.fits,
       enough,
       header.begins.1
           ∙ ap (λ l. l ++ header.begins.0) split
-          ∙ append_assoc (ended (take count lines)) (ended (drop count lines)) header.begins.0,
+          ∙ append_assoc (lines_text (take count lines)) (lines_text (drop count lines)) header.begins.0,
     )
 
 -- the first line that isn't the one of a header
 pub fault_behind : (known : List (List ℕ)) (next : List ℕ) (others : List (List ℕ)) (head : Head) (rest bytes : List ℕ) (line : ℕ) → IsHead head
-    → header_lines head ≡ known ++ next ∷ others → bytes ≡ ended known ++ rest → NoneGoesOn known rest → line ≡ suc (length known)
+    → header_lines head ≡ known ++ next ∷ others → bytes ≡ lines_text known ++ rest → NoneGoesOn known rest → line ≡ suc (length known)
     → IsFaultLine bytes line
 fault_behind known next others head rest bytes line fits are is none place =
     let counts : length (header_lines head) ≡ length known + length (next ∷ others) = ap length are ∙ length-append known (next ∷ others) in
     let front : take (length known) (header_lines head) ≡ known = ap (take (length known)) are ∙ take-append_seam known (next ∷ others) in
-    let begins : BeginsHeader (length known) bytes = (head, rest, fits, omega arith, is ∙ ap (λ lines. ended lines ++ rest) (sym front)) in
+    let begins : BeginsHeader (length known) bytes = (head, rest, fits, omega arith, is ∙ ap (λ lines. lines_text lines ++ rest) (sym front)) in
     (length known, place, begins, subst (λ n. BeginsHeader n bytes → ⊥) (sym place) refused, no_header)
   where
     known_are : AreLines known
@@ -175,12 +175,12 @@ none_found Tells line rest bytes begins none = λ value other more is_line told 
     none value (subst (Tells value) (sym (same_line line other rest more begins.0 is_line (sym begins.1 ∙ is)).0) told)
 
 -- lines, and more of them
-pub lines_behind : (known lines : List (List ℕ)) (rest more bytes : List ℕ) → bytes ≡ ended known ++ rest → rest ≡ ended lines ++ more
-    → bytes ≡ ended (known ++ lines) ++ more
+pub lines_behind : (known lines : List (List ℕ)) (rest more bytes : List ℕ) → bytes ≡ lines_text known ++ rest → rest ≡ lines_text lines ++ more
+    → bytes ≡ lines_text (known ++ lines) ++ more
 lines_behind known lines rest more bytes is next =
-    is ∙ ap (λ l. ended known ++ l) next ∙ sym (append_assoc (ended known) (ended lines) more) ∙ ap (λ l. l ++ more) (sym (ended-append known lines))
+    is ∙ ap (λ l. lines_text known ++ l) next ∙ sym (append_assoc (lines_text known) (lines_text lines) more) ∙ ap (λ l. l ++ more) (sym (ended-append known lines))
 
-pub one_line_more : (known : List (List ℕ)) (line text rest more bytes : List ℕ) → bytes ≡ ended known ++ rest → line ≡ text
-    → rest ≡ line ++ 10 ∷ more → bytes ≡ ended (known ++ text ∷ []) ++ more
+pub one_line_more : (known : List (List ℕ)) (line text rest more bytes : List ℕ) → bytes ≡ lines_text known ++ rest → line ≡ text
+    → rest ≡ line ++ 10 ∷ more → bytes ≡ lines_text (known ++ text ∷ []) ++ more
 one_line_more known line text rest more bytes is told next =
     lines_behind known (text ∷ []) rest more bytes is (next ∙ ap (λ l. l ++ 10 ∷ more) told ∙ sym (ended_first text [] more))

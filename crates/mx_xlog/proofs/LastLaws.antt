@@ -4,9 +4,9 @@ use Rattle.std.proofs.Common.{append_assoc, arith, length-append, inl, inr}
 use mathlib.Core.Logic.{◌⊎◌}
 use Rattle.std.specs.Prelude.{codes, decimal}
 use Rattle.std.proofs.lemmas.Bool.{eqb-true, eqb-false}
-use Rattle.mx_vclock.specs.Text.{text_of}
+use Rattle.mx_vclock.specs.Text.{vclock_text}
 use Rattle.mx_xlog.specs.declared.head.Head.{Head}
-use Rattle.mx_xlog.specs.Headers.{ended, header_of, header_lines, replica_lines, IsHead, IsHeader, IsFaultLine}
+use Rattle.mx_xlog.specs.Headers.{lines_text, header_of, header_lines, replica_lines, IsHead, IsHeader, IsFaultLine}
 use Rattle.mx_xlog.specs.Lines.{IsLine, TellsReplica, TellsClock}
 use Rattle.mx_xlog.specs.HeaderParts.{opening_lines, BeginsWith, BeginsNone}
 use Rattle.mx_xlog.proofs.HeaderLaws.{fault_behind, lines_behind, one_line_more}
@@ -33,7 +33,7 @@ first_byte : (byte other : ℕ) (bytes more : List ℕ) → byte ∷ bytes ≡ o
 first_byte byte other bytes more is = cc
 
 -- a line tells a vclock or a replica id
-apart : (clock : List ℕ) (id : ℕ) → ¬ (codes "VClock: " ++ text_of clock ≡ codes "Replica: " ++ decimal id)
+apart : (clock : List ℕ) (id : ℕ) → ¬ (codes "VClock: " ++ vclock_text clock ≡ codes "Replica: " ++ decimal id)
 apart clock id is = omega (arith, first_byte 86 82 _ _ is)
 
 same_last : (a b c d e f g h : List ℕ) (lines more : List (List ℕ)) → a ∷ b ∷ c ∷ d ∷ lines ≡ e ∷ f ∷ g ∷ h ∷ more → lines ≡ more
@@ -41,11 +41,11 @@ same_last a b c d e f g h lines more is = cc
 
 -- the bytes begin with the first four lines and the replica's, and this is the rest
 module _ (snapshot : Bool) (instance set : List ℕ) (replica : ℕ) (a b bytes : List ℕ) (small : replica < 32)
-    (opening : bytes ≡ ended (opening_lines snapshot instance set) ++ a) (behind : a ≡ ended (replica_lines replica) ++ b) where
+    (opening : bytes ≡ lines_text (opening_lines snapshot instance set) ++ a) (behind : a ≡ lines_text (replica_lines replica) ++ b) where
   abbrev replica_known : List (List ℕ)
   replica_known = opening_lines snapshot instance set ++ replica_lines replica
 
-  replica_told : bytes ≡ ended replica_known ++ b
+  replica_told : bytes ≡ lines_text replica_known ++ b
   replica_told = lines_behind (opening_lines snapshot instance set) (replica_lines replica) a b bytes opening behind
 
   -- what stands there is neither a vclock nor a replica id that could stand there
@@ -61,7 +61,7 @@ module _ (snapshot : Bool) (instance set : List ℕ) (replica : ℕ) (a b bytes 
     where
       by_case : (head : Head) (next tail : List ℕ) → IsHead head → IsLine next → b ≡ next ++ 10 ∷ tail
           → (((replica == 1) ≡ true) × ((head.replica == 1) ≡ false) × (next ≡ codes "Replica: " ++ decimal head.replica))
-          ⊎ (next ≡ codes "VClock: " ++ text_of head.clock) → ⊥
+          ⊎ (next ≡ codes "VClock: " ++ vclock_text head.clock) → ⊥
       by_case head next tail fits is_line is (inl told) =
           let tells : TellsReplica head.replica next = record { below = fits.replica; other = eqb-false head.replica 1 told.1; is = told.2 } in
           other (eqb-true replica 1 told.0) head.replica next tail is_line tells is
@@ -77,12 +77,12 @@ module _ (snapshot : Bool) (instance set : List ℕ) (replica : ℕ) (a b bytes 
     head_fits = record { replica = small; sound = told.1.sound; nothing = told.1.nothing }
 
     abbrev clock_text : List ℕ
-    clock_text = codes "VClock: " ++ text_of clock
+    clock_text = codes "VClock: " ++ vclock_text clock
 
     abbrev clock_known : List (List ℕ)
     clock_known = replica_known ++ clock_text ∷ []
 
-    clock_told : bytes ≡ ended clock_known ++ c
+    clock_told : bytes ≡ lines_text clock_known ++ c
     clock_told = one_line_more replica_known told.0 clock_text b c bytes replica_told told.1.is told.2
 
     lines_told : header_lines head ≡ clock_known ++ [] ∷ []
@@ -103,6 +103,6 @@ module _ (snapshot : Bool) (instance set : List ℕ) (replica : ℕ) (a b bytes 
     pub header_told : (d : List ℕ) → c ≡ 10 ∷ d → IsHeader bytes head (length bytes - length d)
     header_told d end =
         let whole = one_line_more clock_known [] [] c d bytes clock_told refl end in
-        let is : bytes ≡ header_of head ++ d = whole ∙ ap (λ lines. ended lines ++ d) (sym lines_told) in
+        let is : bytes ≡ header_of head ++ d = whole ∙ ap (λ lines. lines_text lines ++ d) (sym lines_told) in
         let counts : length bytes ≡ length (header_of head) + length d = ap length is ∙ length-append (header_of head) d in
         record { fits = head_fits; sized = omega arith; begins = (d, is) }

@@ -3,23 +3,23 @@ use Rattle.std.proofs.Common.{◌≡◌, ℕ, zero, suc, ◌<◌, false, nat_eq,
 use Rattle.std.proofs.lemmas.List.{take_at}
 use Rattle.std.specs.Cmp.Lexicographic.{other_text}
 use Rattle.std.specs.List.{starts_with}
-use Rattle.mx_xlog.specs.Headers.{ended}
+use Rattle.mx_xlog.specs.Headers.{lines_text}
 use Rattle.mx_xlog.specs.Lines.{IsLine}
 
-pub ended-append : (lines more : List (List ℕ)) → ended (lines ++ more) ≡ ended lines ++ ended more
+pub ended-append : (lines more : List (List ℕ)) → lines_text (lines ++ more) ≡ lines_text lines ++ lines_text more
 ended-append [] more = refl
 ended-append (line ∷ lines) more =
-    ap (λ l. (line ++ 10 ∷ []) ++ l) (ended-append lines more) ∙ sym (append_assoc (line ++ 10 ∷ []) (ended lines) (ended more))
+    ap (λ l. (line ++ 10 ∷ []) ++ l) (ended-append lines more) ∙ sym (append_assoc (line ++ 10 ∷ []) (lines_text lines) (lines_text more))
 
 -- lines that were added, before more of them
-pub lines_added : (lines more : List (List ℕ)) (old new : List ℕ) → new ≡ old ++ ended lines → old ++ ended (lines ++ more) ≡ new ++ ended more
+pub lines_added : (lines more : List (List ℕ)) (old new : List ℕ) → new ≡ old ++ lines_text lines → old ++ lines_text (lines ++ more) ≡ new ++ lines_text more
 lines_added lines more old new added =
-    ap (λ l. old ++ l) (ended-append lines more) ∙ sym (append_assoc old (ended lines) (ended more)) ∙ ap (λ l. l ++ ended more) (sym added)
+    ap (λ l. old ++ l) (ended-append lines more) ∙ sym (append_assoc old (lines_text lines) (lines_text more)) ∙ ap (λ l. l ++ lines_text more) (sym added)
 
 -- the lines of a header, added one by one
-pub header_added : (replica : List (List ℕ)) (kind version instance set clock out a b c d e f g : List ℕ) → a ≡ out ++ ended (kind ∷ []) → b ≡ a ++ ended (version ∷ [])
-    → c ≡ b ++ ended (instance ∷ []) → d ≡ c ++ ended (set ∷ []) → e ≡ d ++ ended replica → f ≡ e ++ ended (clock ∷ []) → g ≡ f ++ ended ([] ∷ [])
-    → g ≡ out ++ ended (kind ∷ version ∷ instance ∷ set ∷ (replica ++ clock ∷ [] ∷ []))
+pub header_added : (replica : List (List ℕ)) (kind version instance set clock out a b c d e f g : List ℕ) → a ≡ out ++ lines_text (kind ∷ []) → b ≡ a ++ lines_text (version ∷ [])
+    → c ≡ b ++ lines_text (instance ∷ []) → d ≡ c ++ lines_text (set ∷ []) → e ≡ d ++ lines_text replica → f ≡ e ++ lines_text (clock ∷ []) → g ≡ f ++ lines_text ([] ∷ [])
+    → g ≡ out ++ lines_text (kind ∷ version ∷ instance ∷ set ∷ (replica ++ clock ∷ [] ∷ []))
 header_added replica kind version instance set clock out a b c d e f g to_a to_b to_c to_d to_e to_f to_g =
     sym (
     lines_added (kind ∷ []) (version ∷ instance ∷ set ∷ (replica ++ clock ∷ [] ∷ [])) out a to_a

@@ -6,11 +6,11 @@ use Rattle.std.proofs.lemmas.Bool.{cases_lt, eqb-true}
 use Rattle.std.proofs.lemmas.List.{append-nil, append_cancel_left}
 use Rattle.std.proofs.lemmas.Fmt.{decimal_injective}
 use Rattle.uuid.specs.Text.{hyphenated_text, lower}
-use Rattle.mx_vclock.specs.Text.{text_of}
+use Rattle.mx_vclock.specs.Text.{vclock_text}
 use Rattle.mx_vclock.proofs.OneClock.{text_tells}
 use Rattle.mx_xlog.specs.declared.head.Head.{Head}
-use Rattle.mx_xlog.specs.Headers.{ended, header_of, header_lines, IsHeader}
-use Rattle.mx_xlog.specs.HeaderParts.{kind_of}
+use Rattle.mx_xlog.specs.Headers.{lines_text, header_of, header_lines, IsHeader}
+use Rattle.mx_xlog.specs.HeaderParts.{file_type}
 use Rattle.mx_xlog.proofs.HeaderLaws.{header_are, front_lines, no_longer, same_behind_four}
 
 -- where one header's lines are no fewer, they are the same
@@ -33,7 +33,7 @@ same_lines bytes one other size more first second = by_order (cases_lt (length (
 first_byte : (byte other : ℕ) (bytes more : List ℕ) → byte ∷ bytes ≡ other ∷ more → byte ≡ other
 first_byte byte other bytes more is = cc
 
-same_kind : (one other : Bool) → kind_of one ≡ kind_of other → one ≡ other
+same_kind : (one other : Bool) → file_type one ≡ file_type other → one ≡ other
 same_kind true true is = refl
 same_kind true false is = absurd (omega (arith, first_byte 83 88 _ _ is))
 same_kind false true is = absurd (omega (arith, first_byte 88 83 _ _ is))
@@ -64,7 +64,7 @@ one_header bytes one other size more first second =
     let lines = same_lines bytes one other size more first second in
     let four = same_four _ _ _ _ _ _ _ _ _ _ lines in
     let behind = same_behind (one.replica == 1) (other.replica == 1) (codes "Replica: " ++ decimal one.replica) (codes "Replica: " ++ decimal other.replica)
-    (codes "VClock: " ++ text_of one.clock) (codes "VClock: " ++ text_of other.clock) (same_behind_four _ _ _ _ _ _ _ _ _ _ lines) in (
+    (codes "VClock: " ++ vclock_text one.clock) (codes "VClock: " ++ vclock_text other.clock) (same_behind_four _ _ _ _ _ _ _ _ _ _ lines) in (
       first.sized ∙ ap length (same_text one other lines) ∙ sym second.sized,
       same_kind one.snapshot other.snapshot four.0,
       text_tells one.clock other.clock first.fits.sound second.fits.sound (append_cancel_left (codes "VClock: ") _ _ behind.0),
@@ -74,4 +74,4 @@ one_header bytes one other size more first second =
     )
   where
     same_text : (a b : Head) → header_lines a ≡ header_lines b → header_of a ≡ header_of b
-    same_text a b is = ap ended is
+    same_text a b is = ap lines_text is

@@ -5,9 +5,9 @@ use Rattle.std.proofs.lemmas.List.Elements.{All-replicate}
 use Rattle.uuid.specs.Text.{hyphenated_text, lower}
 use Rattle.mx_vclock.specs.Vclocks.{IsVclock}
 use Rattle.mx_xlog.specs.declared.head.Head.{Head}
-use Rattle.mx_xlog.specs.Headers.{ended, IsHead, IsFaultLine}
+use Rattle.mx_xlog.specs.Headers.{lines_text, IsHead, IsFaultLine}
 use Rattle.mx_xlog.specs.Lines.{TellsId}
-use Rattle.mx_xlog.specs.HeaderParts.{kind_of, opening_lines, BeginsWith, BeginsNone, TellsKind}
+use Rattle.mx_xlog.specs.HeaderParts.{file_type, opening_lines, BeginsWith, BeginsNone, TellsFileType}
 use Rattle.mx_xlog.proofs.HeaderLaws.{none_goes_on, fault_behind, one_line_more}
 
 -- a head that tells this
@@ -32,18 +32,18 @@ first_fits : (snapshot : Bool) (instance set : List ℕ) → IsHead (some_head s
 first_fits snapshot instance set = some_fits snapshot instance set 1 (omega arith)
 
 -- what stands first isn't the kind
-pub no_kind : (bytes : List ℕ) → BeginsNone TellsKind bytes → IsFaultLine bytes 1
+pub no_kind : (bytes : List ℕ) → BeginsNone TellsFileType bytes → IsFaultLine bytes 1
 no_kind bytes none =
     fault_behind [] _ _ (some_head true [] [] 1) bytes bytes 1 (first_fits true [] []) refl refl
-    (none_goes_on TellsKind [] bytes none (λ head line more fits are. (head.snapshot, cc))) refl
+    (none_goes_on TellsFileType [] bytes none (λ head line more fits are. (head.snapshot, cc))) refl
 
 -- the bytes begin with a kind, and this is the rest
-module _ (snapshot : Bool) (a bytes : List ℕ) (kind : BeginsWith TellsKind snapshot a bytes) where
+module _ (snapshot : Bool) (a bytes : List ℕ) (kind : BeginsWith TellsFileType snapshot a bytes) where
   abbrev kind_known : List (List ℕ)
-  kind_known = kind_of snapshot ∷ []
+  kind_known = file_type snapshot ∷ []
 
-  kind_told : bytes ≡ ended kind_known ++ a
-  kind_told = one_line_more [] kind.0 (kind_of snapshot) bytes a bytes refl kind.1 kind.2
+  kind_told : bytes ≡ lines_text kind_known ++ a
+  kind_told = one_line_more [] kind.0 (file_type snapshot) bytes a bytes refl kind.1 kind.2
 
   -- what stands second isn't the version
   pub no_version : ((rest : List ℕ) → ¬ (a ≡ codes "0.13" ++ 10 ∷ rest)) → IsFaultLine bytes 2
@@ -56,9 +56,9 @@ module _ (snapshot : Bool) (a bytes : List ℕ) (kind : BeginsWith TellsKind sna
   -- then comes the version, and this is the rest
   module _ (b : List ℕ) (version : a ≡ codes "0.13" ++ 10 ∷ b) where
     abbrev version_known : List (List ℕ)
-    version_known = kind_of snapshot ∷ codes "0.13" ∷ []
+    version_known = file_type snapshot ∷ codes "0.13" ∷ []
 
-    version_told : bytes ≡ ended version_known ++ b
+    version_told : bytes ≡ lines_text version_known ++ b
     version_told = one_line_more kind_known (codes "0.13") (codes "0.13") a b bytes kind_told refl version
 
     -- what stands third isn't the instance
@@ -70,9 +70,9 @@ module _ (snapshot : Bool) (a bytes : List ℕ) (kind : BeginsWith TellsKind sna
     -- then comes the instance, and this is the rest
     module _ (instance c : List ℕ) (told : BeginsWith (TellsId (codes "Instance: ")) instance c b) where
       abbrev instance_known : List (List ℕ)
-      instance_known = kind_of snapshot ∷ codes "0.13" ∷ (codes "Instance: " ++ hyphenated_text lower instance) ∷ []
+      instance_known = file_type snapshot ∷ codes "0.13" ∷ (codes "Instance: " ++ hyphenated_text lower instance) ∷ []
 
-      instance_told : bytes ≡ ended instance_known ++ c
+      instance_told : bytes ≡ lines_text instance_known ++ c
       instance_told = one_line_more version_known told.0 _ b c bytes version_told told.1 told.2
 
       -- what stands fourth isn't the replica set
@@ -83,5 +83,5 @@ module _ (snapshot : Bool) (a bytes : List ℕ) (kind : BeginsWith TellsKind sna
 
       -- all the first four lines
       pub opening_told : (set d : List ℕ) → BeginsWith (TellsId (codes "ReplicaSet: ")) set d c
-          → bytes ≡ ended (opening_lines snapshot instance set) ++ d
+          → bytes ≡ lines_text (opening_lines snapshot instance set) ++ d
       opening_told set d told_set = one_line_more instance_known told_set.0 _ c d bytes instance_told told_set.1 told_set.2

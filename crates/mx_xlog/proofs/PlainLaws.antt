@@ -8,7 +8,7 @@ use Rattle.std.proofs.lemmas.Bool.Decides.{nat_tests}
 use Rattle.uuid.specs.Text.{by_index, nibble, hyphenated_text, lower, digit_place, is_hyphen_place, hyphen, hex_digit}
 use Rattle.uuid.proofs.TextLemmas.{nibble_small}
 use Rattle.mx_vclock.specs.Vclocks.{IsVclock}
-use Rattle.mx_vclock.specs.Text.{text_of}
+use Rattle.mx_vclock.specs.Text.{vclock_text}
 use Rattle.mx_vclock.proofs.Tails.{named, more, first, text_is_first}
 use Rattle.mx_vclock.proofs.Fitting.{Bounded, all_right}
 use Rattle.mx_xlog.specs.Lines.{IsLine}
@@ -54,6 +54,6 @@ first_line_of id (zero ∷ lsns) small bounded = first_line_of (suc id) lsns (om
 first_line_of id (suc lsn ∷ lsns) small bounded =
     named_line id (suc lsn) (more (suc id) lsns) (omega arith) (omega (arith, bounded 0 0 (omega arith))) (more_line (suc id) lsns (omega arith) (all_right (suc lsn ∷ []) lsns bounded))
 
-pub clock_line : (clock : List ℕ) → IsVclock clock → IsLine (text_of clock)
+pub clock_line : (clock : List ℕ) → IsVclock clock → IsLine (vclock_text clock)
 clock_line clock sound =
     subst IsLine (sym (text_is_first clock)) ((λ is. omega arith), first_line_of 0 clock (omega (arith, sound.whole)) sound.bounded)

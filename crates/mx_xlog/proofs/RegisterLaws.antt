@@ -4,7 +4,7 @@ use Rattle.std.proofs.lemmas.Bool.{cases_eq, eqb-true}
 use Rattle.std.proofs.lemmas.Nat.{xor_shr, xor_mod, xor_comm, and_mask}
 use Rattle.std.proofs.Math.Nat.{pow-suc, mul_assoc}
 use Rattle.std.specs.Int.Bits.{xor_assoc, xor_self, xor_zero_r, xor_shifted}
-use Rattle.mx_xlog.specs.Checksums.{polynomial, after_bit, after_bits, after_byte}
+use Rattle.mx_xlog.specs.Checksums.{polynomial, after_bit, after_bits, next_checksum}
 
 -- the bit that is shifted out is 0 or 1
 after_bit_even : (a : ℕ) → a % 2 ≡ 0 → after_bit a ≡ a / 2
@@ -91,7 +91,7 @@ entry_at table (suc n) h i below =
 
 -- a byte's step by a table
 pub step_by_table : (table : List ℕ) → agree_below table 256 ≡ true → (register byte wide : ℕ) → wide ≡ byte → byte < 256
-    → bit_xor (get_or table (bit_and (bit_xor register wide) 255) 0) (register / 256) ≡ after_byte register byte
+    → bit_xor (get_or table (bit_and (bit_xor register wide) 255) 0) (register / 256) ≡ next_checksum register byte
 step_by_table table agrees register byte wide same small =
     let mixed = bit_xor register byte in
     let low : bit_and (bit_xor register wide) 255 ≡ mixed % 256 = ap (λ x. bit_and (bit_xor register x) 255) same ∙ and_mask mixed 8 in

@@ -55,7 +55,7 @@ pub faulty : (bytes : List ℕ) (at : ℕ) → IsFaultAt bytes at → ¬ IsText 
 faulty bytes at fault text = by_order (cases_lt at (length bytes))
   where
     by_order : (at < length bytes) ⊎ (length bytes ≤ at) → ⊥
-    by_order (inl within) = fault.after within (text.0, drop (suc at) bytes, text.1, sym text.2 ∙ sym (take-append-drop (suc at) bytes))
+    by_order (inl within) = fault.stops within (text.0, drop (suc at) bytes, text.1, sym text.2 ∙ sym (take-append-drop (suc at) bytes))
     by_order (inr end) = fault.unfinished (omega (arith, fault.within)) text
 
 -- what a comparison of bytes answers

@@ -5,10 +5,14 @@ use Rattle.mx_xlog.specs.Checksums.{checksum_of}
 use Rattle.mx_xlog.specs.declared.block.Block.{Block}
 use Rattle.mx_xlog.specs.declared.block.Block.TheVariants.{Rows, End, Empty, Torn}
 
--- how many bytes a block's data may have
+-- the maximum size of a block's data in bytes
+abbrev pub max_data_size : ℕ
+max_data_size = 4194304
+
+-- these bytes may be a block's data
 pub record IsData (rows : List ℕ) : Type 0 where
   pub some : 1 ≤ length rows
-  pub bounded : length rows ≤ 4194304
+  pub bounded : length rows ≤ max_data_size
 
 -- how many bytes a block has before its data
 abbrev pub head_size : ℕ
@@ -20,7 +24,7 @@ block_of rows =
     (0xd5 ∷ 0xba ∷ 0x0b ∷ 0xab ∷ []) ++ (0xce ∷ big_bytes 4 (length rows)) ++ (0x00 ∷ [])
     ++ (0xce ∷ big_bytes 4 (checksum_of rows)) ++ (0xa3 ∷ 0x00 ∷ 0x00 ∷ 0x00 ∷ []) ++ rows
 
--- the last bytes of a file that was ended in order
+-- the last bytes of a file that was closed
 abbrev pub end_marker : List ℕ
 end_marker = 0xd5 ∷ 0x10 ∷ 0xad ∷ 0xed ∷ []
 
@@ -32,7 +36,7 @@ BeginsBlock rows bytes = (rest : List ℕ) × IsData rows × (bytes ≡ block_of
 abbrev pub BeginsEnd : List ℕ → Type 0
 BeginsEnd bytes = (rest : List ℕ) × (bytes ≡ end_marker ++ rest)
 
--- what stands at this place of the bytes: a block's data by its two ends, the marker, the bytes' end, or none of these
+-- what stands at this place of the bytes: a block's data from one place to another, the marker, the bytes' end, or none of these
 abbrev pub StandsAt : List ℕ → ℕ → Block → Type 0
 StandsAt bytes at (Rows from to) =
     (rows : List ℕ) × BeginsBlock rows (drop at bytes) × (from ≡ at + head_size) × (to ≡ from + length rows)

@@ -5,3 +5,4 @@ pub mod Headers
 pub mod Heads
 pub mod Lines
 pub mod Reading
+pub mod Files

@@ -1,18 +1,18 @@
-//! Blocks: the data of some rows behind its length and its checksum.
+//! Blocks: the data of some rows after its length and its checksum.
 
 ghost use Rattle.std.specs.Prelude.{◌≡◌, ◌++◌, OnOk, MatchOption};
 ghost use Rattle.mx_xlog.specs.Blocks.{IsData, BeginsBlock, block_of, end_marker, StandsAt};
-ghost use Rattle.mx_xlog.specs.Heads.{BeginsNoBlock, head_of};
+ghost use Rattle.mx_xlog.specs.Heads.{BeginsNoBlock, block_head};
 
 use crate::crc::checksum;
 use byteorder::{BigEndian, ByteOrder};
 use mx_msgpack::Bytes;
 use std::alloc::AllocError;
 
-/// How many bytes a block has before its data.
+/// The bytes of a block before its data.
 const HEAD_SIZE: usize = 19;
 
-/// The most bytes of a block's data.
+/// The maximum size of a block's data in bytes.
 const MAX_DATA_SIZE: usize = 4_194_304;
 
 /// The marker of a file's end.
@@ -36,7 +36,7 @@ pub enum Block {
     Torn(usize),
 }
 
-/// What stands at this place of the bytes, which may lie behind their end.
+/// What stands at this place of the bytes. The place may lie behind their end.
 pub fn read_block(bytes: &[u8], at: usize) -> Block
     ensures { StandsAt bytes.now at result }
 {
@@ -70,7 +70,7 @@ fn first_rows(bytes: &[u8]) -> Option<&[u8]>
     let (head, rest) = bytes.split_at(HEAD_SIZE);
     let size = BigEndian::read_u32(&head[5..]);
     let sum = BigEndian::read_u32(&head[11..]);
-    if head != head_of(size, sum).as_slice() {
+    if head != block_head(size, sum).as_slice() {
         return None;
     }
     let size = size as usize;
@@ -84,24 +84,18 @@ fn first_rows(bytes: &[u8]) -> Option<&[u8]>
     Some(rows)
 }
 
-/// Adds a block of these rows, which are 1 to 4,194,304 bytes.
-///
-/// # Errors
-/// Memory ran out.
+/// Appends a block of these rows, which are 1 to 4,194,304 bytes.
 pub fn write_block(rows: &[u8], out: &mut Bytes) -> Result<(), AllocError>
     requires { IsData rows.now }
     ensures { OnOk result (out.new ≡ out.old ++ block_of rows.now) }
 {
-    let head = head_of(rows.len() as u32, checksum(rows));
+    let head = block_head(rows.len() as u32, checksum(rows));
     out.extend_from_slice(&head)?;
     out.extend_from_slice(rows)?;
     Ok(())
 }
 
-/// Adds the marker of a file's end.
-///
-/// # Errors
-/// Memory ran out.
+/// Appends the marker of a file's end.
 pub fn write_end(out: &mut Bytes) -> Result<(), AllocError>
     ensures { OnOk result (out.new ≡ out.old ++ end_marker) }
 {
@@ -110,8 +104,8 @@ pub fn write_end(out: &mut Bytes) -> Result<(), AllocError>
 }
 
 /// The bytes before data of this length and checksum.
-fn head_of(size: u32, sum: u32) -> [u8; HEAD_SIZE]
-    ensures { result ≡ head_of size sum }
+fn block_head(size: u32, sum: u32) -> [u8; HEAD_SIZE]
+    ensures { result ≡ block_head size sum }
 {
     let mut head = [
         0xd5, 0xba, 0x0b, 0xab, 0xce, 0, 0, 0, 0, 0, 0xce, 0, 0, 0, 0, 0xa3, 0, 0, 0,

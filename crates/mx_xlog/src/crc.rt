@@ -1,7 +1,7 @@
 //! The checksum of a block's data.
 
 ghost use Rattle.std.specs.Prelude.{◌≡◌};
-ghost use Rattle.mx_xlog.specs.Checksums.{checksum_of, after_byte};
+ghost use Rattle.mx_xlog.specs.Checksums.{checksum_of, next_checksum};
 
 /// The register that held one byte alone, after the eight steps of a byte.
 static AFTER_BYTE: [u32; 256] = [
@@ -41,8 +41,8 @@ static AFTER_BYTE: [u32; 256] = [
 
 /// The register after one byte more.
 #[inline]
-fn after_byte(register: u32, byte: u8) -> u32
-    ensures { result ≡ after_byte register byte }
+fn next_checksum(register: u32, byte: u8) -> u32
+    ensures { result ≡ next_checksum register byte }
 {
     AFTER_BYTE[((register ^ u32::from(byte)) & 0xff) as usize] ^ (register >> 8)
 }
@@ -54,7 +54,7 @@ pub fn checksum(bytes: &[u8]) -> u32
 {
     let mut register = 0;
     for byte in bytes {
-        register = after_byte(register, *byte);
+        register = next_checksum(register, *byte);
     }
     register
 }

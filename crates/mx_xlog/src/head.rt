@@ -1,9 +1,9 @@
-//! What the header of a journal or snapshot file tells.
+//! What the header of a journal or snapshot file says.
 
 use mx_vclock::Vclock;
 use uuid::Uuid;
 
-/// What a file's header tells: which kind of file it is, who wrote it, and where it begins.
+/// What a file's header says: which file it is, who wrote it, and where it begins.
 #[derive(Clone, Copy, Debug, Drop)]
 pub struct Head {
     /// Whether it is a snapshot, and not a journal.
@@ -14,6 +14,6 @@ pub struct Head {
     pub set: Uuid,
     /// The instance's replica id, from 0 to 31.
     pub replica: u8,
-    /// How far the journal had come where the file begins.
+    /// The vclock of the journal where the file begins.
     pub clock: Vclock,
 }

@@ -1,7 +1,7 @@
 //! Writing the headers of journal and snapshot files.
 
 ghost use Rattle.std.specs.Prelude.{◌≡◌, ◌++◌, ◌∷◌, [], OnOk};
-ghost use Rattle.mx_xlog.specs.Headers.{header_of, ended, replica_lines};
+ghost use Rattle.mx_xlog.specs.Headers.{header_of, lines_text, replica_lines};
 ghost use Rattle.uuid.specs.Text.{hyphenated_text, lower};
 
 use crate::head::Head;
@@ -9,10 +9,7 @@ use mx_msgpack::Bytes;
 use std::alloc::{AllocError, Global};
 use uuid::Uuid;
 
-/// Adds the header of a file.
-///
-/// # Errors
-/// Memory ran out.
+/// Appends the header of a file.
 pub fn write_header(alloc: Global, head: &Head, out: &mut Bytes) -> Result<(), AllocError>
     ensures { OnOk result (out.new ≡ out.old ++ header_of head.now) }
 {
@@ -27,18 +24,18 @@ pub fn write_header(alloc: Global, head: &Head, out: &mut Bytes) -> Result<(), A
     write_line(b"", b"", out)
 }
 
-/// Adds the line that tells an instance or a replica set.
+/// Appends the line of an instance or a replica set.
 fn write_id(prefix: &[u8], id: &Uuid, out: &mut Bytes) -> Result<(), AllocError>
-    ensures { OnOk result (out.new ≡ out.old ++ ended ((prefix.now ++ hyphenated_text lower id.now) ∷ [])) }
+    ensures { OnOk result (out.new ≡ out.old ++ lines_text ((prefix.now ++ hyphenated_text lower id.now) ∷ [])) }
 {
     let mut buffer = Uuid::encode_buffer();
     let text = id.hyphenated().encode_lower(&mut buffer);
     write_line(prefix, text.as_bytes(), out)
 }
 
-/// Adds the line that tells a replica id, which is left out for the first one.
+/// Appends the line of a replica id, which is left out for replica 1.
 fn write_replica(alloc: Global, id: u8, out: &mut Bytes) -> Result<(), AllocError>
-    ensures { OnOk result (out.new ≡ out.old ++ ended (replica_lines id)) }
+    ensures { OnOk result (out.new ≡ out.old ++ lines_text (replica_lines id)) }
 {
     if id == 1 {
         return Ok(());
@@ -48,9 +45,9 @@ fn write_replica(alloc: Global, id: u8, out: &mut Bytes) -> Result<(), AllocErro
     write_line(b"Replica: ", text.as_bytes(), out)
 }
 
-/// Adds a line of two parts, and its newline.
+/// Appends a line of two parts, and its newline.
 fn write_line(prefix: &[u8], value: &[u8], out: &mut Bytes) -> Result<(), AllocError>
-    ensures { OnOk result (out.new ≡ out.old ++ ended ((prefix.now ++ value.now) ∷ [])) }
+    ensures { OnOk result (out.new ≡ out.old ++ lines_text ((prefix.now ++ value.now) ∷ [])) }
 {
     out.extend_from_slice(prefix)?;
     out.extend_from_slice(value)?;

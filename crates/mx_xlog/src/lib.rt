@@ -1,4 +1,4 @@
-//! The files of journals and snapshots: their headers, blocks of rows, each with its checksum, and the marker at the end.
+//! The format of journal and snapshot files: a header, blocks of rows, each with its checksum, and a marker at the end.
 #![tactic(auto)]
 
 mod block;
@@ -13,6 +13,3 @@ pub use crc::checksum;
 pub use head::Head;
 pub use header::write_header;
 pub use reading::{HeadFault, read_header};
-
-#[cfg(test)]
-mod tests;

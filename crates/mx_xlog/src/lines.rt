@@ -1,4 +1,4 @@
-//! The lines of a header, and the values that they tell.
+//! The lines of a header, and their values.
 
 ghost use Rattle.std.specs.Prelude.{◌≡◌, ◌++◌, ◌<◌, ◌↔◌, ℕ, List, IsTrue, MatchOption, decimal};
 ghost use Rattle.mx_xlog.specs.Lines.{BeginsLine, BeginsNoLine, TellsId, TellsReplica, TellsClock};
@@ -6,7 +6,7 @@ ghost use Rattle.mx_xlog.specs.Lines.{BeginsLine, BeginsNoLine, TellsId, TellsRe
 use mx_vclock::Vclock;
 use uuid::Uuid;
 
-/// The first line, without its newline, and the bytes behind the newline.
+/// The first line, without its newline, and the bytes after the newline.
 pub(crate) fn first_line(bytes: &[u8]) -> Option<(&[u8], &[u8])>
     ensures { MatchOption result (BeginsNoLine bytes.now) (λ found. BeginsLine found.0.now found.1.now bytes.now) }
 {
@@ -20,7 +20,7 @@ pub(crate) fn first_line(bytes: &[u8]) -> Option<(&[u8], &[u8])>
     None
 }
 
-/// What a line has behind this prefix.
+/// What a line has after this prefix.
 pub(crate) fn behind<'a>(line: &'a [u8], prefix: &[u8]) -> Option<&'a [u8]>
     ensures { MatchOption result ((value : List ℕ) → ¬ (line.now ≡ prefix.now ++ value)) (λ value. line.now ≡ prefix.now ++ value.now) }
 {
@@ -31,7 +31,7 @@ pub(crate) fn behind<'a>(line: &'a [u8], prefix: &[u8]) -> Option<&'a [u8]>
     Some(value)
 }
 
-/// The identifier behind this prefix, written in small letters and with hyphens.
+/// The identifier after this prefix, in lower case and with hyphens.
 pub(crate) fn id_behind(line: &[u8], prefix: &[u8]) -> Option<Uuid>
     ensures { MatchOption result ((id : List ℕ) → ¬ TellsId prefix.now id line.now) (λ id. TellsId prefix.now id line.now) }
 {
@@ -46,7 +46,7 @@ pub(crate) fn id_behind(line: &[u8], prefix: &[u8]) -> Option<Uuid>
     Some(id)
 }
 
-/// The replica id that a line tells, which isn't 1.
+/// The replica id of a line, which isn't 1.
 pub(crate) fn replica_in(line: &[u8]) -> Option<u8>
     ensures { MatchOption result ((id : ℕ) → ¬ TellsReplica id line.now) (λ id. TellsReplica id line.now) }
 {
@@ -71,7 +71,7 @@ fn spells(id: u8, text: &[u8]) -> bool
     }
 }
 
-/// The vclock that a line tells, which has nothing of the replica id 0.
+/// The vclock of a line, without replica id 0.
 pub(crate) fn clock_in(line: &[u8]) -> Option<Vclock>
     ensures { MatchOption result ((clock : List ℕ) → ¬ TellsClock clock line.now) (λ clock. TellsClock clock line.now) }
 {

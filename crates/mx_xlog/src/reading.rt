@@ -1,9 +1,9 @@
 //! Reading the headers of journal and snapshot files.
 
 ghost use Rattle.std.specs.Prelude.{◌≡◌, ◌+◌, ◌++◌, ◌<◌, ◌≤◌, length, MatchOption, MatchResult};
-ghost use Rattle.mx_xlog.specs.Headers.{ended, replica_lines, IsHeader, IsFaultLine};
+ghost use Rattle.mx_xlog.specs.Headers.{lines_text, replica_lines, IsHeader, IsFaultLine};
 ghost use Rattle.mx_xlog.specs.Lines.{TellsId, TellsReplica, TellsClock};
-ghost use Rattle.mx_xlog.specs.HeaderParts.{BeginsWith, BeginsNone, TellsKind};
+ghost use Rattle.mx_xlog.specs.HeaderParts.{BeginsWith, BeginsNone, TellsFileType};
 
 use crate::head::Head;
 use crate::lines::{behind, clock_in, first_line, id_behind, replica_in};
@@ -11,7 +11,7 @@ use mx_vclock::Vclock;
 use thiserror::Error;
 use uuid::Uuid;
 
-/// The first line, counted from 1, that isn't the one of a header.
+/// The first line, counted from 1, that no header has there.
 #[derive(Clone, Copy, Debug, Drop, PartialEq, Eq, Error)]
 #[error("line {line} is none of a file's header")]
 pub struct HeadFault {
@@ -19,14 +19,14 @@ pub struct HeadFault {
     pub line: u8,
 }
 
-/// What the header tells that the bytes begin with, and how many bytes it has.
+/// What the header says that the bytes begin with, and its size in bytes.
 ///
 /// # Errors
-/// The bytes begin with no header; the first line that is none of one is told.
+/// The bytes begin with no header: the fault is the first line that no header has there.
 pub fn read_header(bytes: &[u8]) -> Result<(Head, usize), HeadFault>
     ensures { MatchResult result (λ found. IsHeader bytes.now found.0 found.1) (λ fault. IsFaultLine bytes.now fault.line) }
 {
-    let Some((snapshot, rest)) = kind_line(bytes) else {
+    let Some((snapshot, rest)) = file_type_line(bytes) else {
         return Err(HeadFault { line: 1 });
     };
     let Some(rest) = behind(rest, b"0.13\n") else {
@@ -56,16 +56,16 @@ pub fn read_header(bytes: &[u8]) -> Result<(Head, usize), HeadFault>
     Ok((head, bytes.len() - rest.len()))
 }
 
-/// The replica id, which is 1 where no line tells another, and the bytes behind its line.
+/// The replica id, which is 1 where no line has another, and the bytes after its line.
 fn read_replica(bytes: &[u8]) -> (u8, &[u8])
     ensures below { result.0 < 32 }
-    ensures begins { bytes.now ≡ ended (replica_lines result.0) ++ result.1.now }
+    ensures begins { bytes.now ≡ lines_text (replica_lines result.0) ++ result.1.now }
     ensures first { result.0 ≡ 1 → BeginsNone TellsReplica result.1.now }
 {
     replica_line(bytes).unwrap_or((1, bytes))
 }
 
-/// Which line tells the vclock, counted from 1, in a header of this replica id.
+/// The line of the vclock, counted from 1, in a header of this replica id.
 fn clock_place(replica: u8) -> u8
     ensures place { result ≡ 5 + length (replica_lines replica) }
     ensures most { result ≤ 6 }
@@ -73,9 +73,9 @@ fn clock_place(replica: u8) -> u8
     if replica == 1 { 5 } else { 6 }
 }
 
-/// Whether the first line says that the file is a snapshot, and the bytes behind the line.
-fn kind_line(bytes: &[u8]) -> Option<(bool, &[u8])>
-    ensures { MatchOption result (BeginsNone TellsKind bytes.now) (λ found. BeginsWith TellsKind found.0 found.1.now bytes.now) }
+/// Whether the first line says that the file is a snapshot, and the bytes after the line.
+fn file_type_line(bytes: &[u8]) -> Option<(bool, &[u8])>
+    ensures { MatchOption result (BeginsNone TellsFileType bytes.now) (λ found. BeginsWith TellsFileType found.0 found.1.now bytes.now) }
 {
     if let Some(rest) = behind(bytes, b"SNAP\n") {
         return Some((true, rest));
@@ -84,7 +84,7 @@ fn kind_line(bytes: &[u8]) -> Option<(bool, &[u8])>
     Some((false, rest))
 }
 
-/// The identifier that the first line tells behind the prefix, and the bytes behind the line.
+/// The identifier after the prefix in the first line, and the bytes after the line.
 fn id_line<'a>(bytes: &'a [u8], prefix: &[u8]) -> Option<(Uuid, &'a [u8])>
     ensures { MatchOption result
         (BeginsNone (TellsId prefix.now) bytes.now)
@@ -94,7 +94,7 @@ fn id_line<'a>(bytes: &'a [u8], prefix: &[u8]) -> Option<(Uuid, &'a [u8])>
     Some((id_behind(line, prefix)?, rest))
 }
 
-/// The replica id that the first line tells, and the bytes behind the line.
+/// The replica id of the first line, and the bytes after the line.
 fn replica_line(bytes: &[u8]) -> Option<(u8, &[u8])>
     ensures { MatchOption result (BeginsNone TellsReplica bytes.now) (λ found. BeginsWith TellsReplica found.0 found.1.now bytes.now) }
 {
@@ -102,7 +102,7 @@ fn replica_line(bytes: &[u8]) -> Option<(u8, &[u8])>
     Some((replica_in(line)?, rest))
 }
 
-/// The vclock that the first line tells, and the bytes behind the line.
+/// The vclock of the first line, and the bytes after the line.
 fn clock_line(bytes: &[u8]) -> Option<(Vclock, &[u8])>
     ensures { MatchOption result (BeginsNone TellsClock bytes.now) (λ found. BeginsWith TellsClock found.0 found.1.now bytes.now) }
 {

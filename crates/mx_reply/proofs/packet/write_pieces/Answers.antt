@@ -6,7 +6,7 @@ use Rattle.mx_reply.proofs.packet.write_pieces.Goals as goal
 pub returns-clause-written : goal.returns-clause-written
 returns-clause-written c =
     let out = c.args.out.now in
-    let front = c.args.front.now in
+    let front = c.args.prefix.now in
     let rest = concat c.args.parts.now in
     let head = c.packet_head-head.result in
     let begun : c.extend_from_slice.new.self ≡ out ++ head

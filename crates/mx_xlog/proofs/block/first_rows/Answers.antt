@@ -6,5 +6,5 @@ pub returns : goal.returns
 returns c =
     block_found c.args.bytes.now c.split_at.result.0.now c.split_at.result.1.now c.split_at-2.result.0.now c.read_u32-size.result c.read_u32-sum.result
     c.split_at.ensures.front c.split_at.ensures.back
-    (same_bytes c.split_at.result.0.now c.as_slice.result.now c.if-ne.ensures ∙ c.as_slice.ensures ∙ c.head_of.ensures)
+    (same_bytes c.split_at.result.0.now c.as_slice.result.now c.if-ne.ensures ∙ c.as_slice.ensures ∙ c.block_head.ensures)
     (omega arith) (omega arith) (omega arith) c.split_at-2.ensures.front (sym c.if-checksum-sum.false ∙ c.checksum.ensures)
