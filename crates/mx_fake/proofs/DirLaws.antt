@@ -4,17 +4,17 @@ use Rattle.std.proofs.lemmas.List.{take_more, length-drop}
 use Rattle.std.proofs.lemmas.Bool.{cases_lt}
 use Rattle.std.specs.Option.{option_copied}
 use mathlib.Core.Bool.{true≢false}
-use Rattle.mx_outside.specs.Disks.{File, ReadsAt, Disk, AnyEnd, IsImage, Became, Stayed, IfTold, IsTold, ToldAlike, Makes, MayMake, Appends, appended}
-use Rattle.mx_fake.specs.Changes.{step, after, states_from, states_after, no_files}
+use Rattle.mx_outside.specs.Disks.{File, ReadsAt, Disk, AnyEnd, IsImage, Became, Stayed, IfKnown, IsKnown, KnownAlike, Makes, MayMake, Appends, appended}
+use Rattle.mx_fake.specs.Changes.{step, replay, states_from, states_after, no_files}
 use Rattle.mx_fake.specs.declared.change.Change.{Change}
 
-told_from : (disk : Disk) (past : List Disk) (changes : List Change) → IsTold (Some (states_from disk past changes))
-told_from disk past [] = (disk, past, refl)
-told_from disk past (change ∷ changes) = told_from (step change disk) (disk ∷ past) changes
+known_from : (disk : Disk) (past : List Disk) (changes : List Change) → IsKnown (Some (states_from disk past changes))
+known_from disk past [] = (disk, past, refl)
+known_from disk past (change ∷ changes) = known_from (step change disk) (disk ∷ past) changes
 
--- it always tells
-pub told_alike : (before now : List Change) → ToldAlike (Some (states_after before)) (Some (states_after now))
-told_alike before now = (λ _. told_from no_files [] now, λ _. told_from no_files [] before)
+-- the states are always known
+pub known_alike : (before now : List Change) → KnownAlike (Some (states_after before)) (Some (states_after now))
+known_alike before now = (λ _. known_from no_files [] now, λ _. known_from no_files [] before)
 
 more_from : (start : Disk) (earlier : List Disk) (changes : List Change) (change : Change) (disk : Disk) (past : List Disk)
     → states_from start earlier changes ≡ disk ∷ past → states_from start earlier (changes ++ change ∷ []) ≡ step change disk ∷ disk ∷ past
@@ -34,29 +34,29 @@ pub one_more : (changes : List Change) (change : Change) (disk : Disk) (past : L
 one_more changes change disk past is = ap Some (more_from no_files [] changes change disk past (same_some is))
 
 -- what is to be shown of the newest state
-pub where_told : (states : Option (List Disk)) (P : Disk → List Disk → Type 0) → ((disk : Disk) (past : List Disk) → states ≡ Some (disk ∷ past) → P disk past) → IfTold states P
-where_told None P shown = tt
-where_told (Some []) P shown = tt
-where_told (Some (disk ∷ past)) P shown = shown disk past refl
+pub where_known : (states : Option (List Disk)) (P : Disk → List Disk → Type 0) → ((disk : Disk) (past : List Disk) → states ≡ Some (disk ∷ past) → P disk past) → IfKnown states P
+where_known None P shown = tt
+where_known (Some []) P shown = tt
+where_known (Some (disk ∷ past)) P shown = shown disk past refl
 
-pub told_weaker : (states : Option (List Disk)) {P Q : Disk → List Disk → Type 0} → ((disk : Disk) (past : List Disk) → P disk past → Q disk past) → IfTold states P → IfTold states Q
-told_weaker None weaker shown = tt
-told_weaker (Some []) weaker shown = tt
-told_weaker (Some (disk ∷ past)) weaker shown = weaker disk past shown
+pub known_weaker : (states : Option (List Disk)) {P Q : Disk → List Disk → Type 0} → ((disk : Disk) (past : List Disk) → P disk past → Q disk past) → IfKnown states P → IfKnown states Q
+known_weaker None weaker shown = tt
+known_weaker (Some []) weaker shown = tt
+known_weaker (Some (disk ∷ past)) weaker shown = weaker disk past shown
 
 -- a call that was noted made its change
 pub made_ok : (changes now : List Change) (change : Change) (f : Disk → Disk) → step change ≡ f → now ≡ changes ++ change ∷ []
-    → IfTold (Some (states_after changes)) (λ disk past. Became (Some (states_after now)) (f disk) disk past)
-made_ok changes now change f is pushed = where_told _ _ (λ disk past told.
+    → IfKnown (Some (states_after changes)) (λ disk past. Became (Some (states_after now)) (f disk) disk past)
+made_ok changes now change f is pushed = where_known _ _ (λ disk past told.
     ap (λ cs. Some (states_after cs)) pushed ∙ one_more changes change disk past told ∙ ap (λ g. Some (g disk ∷ disk ∷ past)) is)
 
 pub made_none : (changes now : List Change) → now ≡ changes
-    → IfTold (Some (states_after changes)) (λ disk past. Stayed (Some (states_after now)) disk past)
-made_none changes now same = where_told _ _ (λ disk past told. ap (λ cs. Some (states_after cs)) same ∙ told)
+    → IfKnown (Some (states_after changes)) (λ disk past. Stayed (Some (states_after now)) disk past)
+made_none changes now same = where_known _ _ (λ disk past told. ap (λ cs. Some (states_after cs)) same ∙ told)
 
 module _ {T E : Type 0} (before now : Option (List Disk)) (result : Result T E) where
   pub may_make : (f : Disk → Disk) → Makes f before now result → MayMake f before now result
-  may_make f = told_weaker before (λ disk past. by_result disk past result)
+  may_make f = known_weaker before (λ disk past. by_result disk past result)
     where
       by_result : (disk : Disk) (past : List Disk) (result : Result T E)
           → MatchResult result (λ _. Became now (f disk) disk past) (λ _. Stayed now disk past)
@@ -65,7 +65,7 @@ module _ {T E : Type 0} (before now : Option (List Disk)) (result : Result T E) 
       by_result disk past (Err e) stayed = inl stayed
 
   pub appends : (name more : List ℕ) → Makes (appended name more) before now result → Appends name more before now result
-  appends name more = told_weaker before (λ disk past. by_result disk past result)
+  appends name more = known_weaker before (λ disk past. by_result disk past result)
     where
       by_result : (disk : Disk) (past : List Disk) (result : Result T E)
           → MatchResult result (λ _. Became now (appended name more disk) disk past) (λ _. Stayed now disk past)
@@ -75,8 +75,8 @@ module _ {T E : Type 0} (before now : Option (List Disk)) (result : Result T E) 
       by_result disk past (Err e) stayed = inl stayed
 
   pub crashes : (f : Disk → Disk) → ((disk : Disk) → IsImage AnyEnd disk (f disk)) → Makes f before now result
-      → IfTold before (λ disk past. MatchResult result (λ _. (image : Disk) × IsImage AnyEnd disk image × Became now image disk past) (λ _. Stayed now disk past))
-  crashes f left = told_weaker before (λ disk past. by_result disk past result)
+      → IfKnown before (λ disk past. MatchResult result (λ _. (image : Disk) × IsImage AnyEnd disk image × Became now image disk past) (λ _. Stayed now disk past))
+  crashes f left = known_weaker before (λ disk past. by_result disk past result)
     where
       by_result : (disk : Disk) (past : List Disk) (result : Result T E)
           → MatchResult result (λ _. Became now (f disk) disk past) (λ _. Stayed now disk past)
@@ -84,12 +84,12 @@ module _ {T E : Type 0} (before now : Option (List Disk)) (result : Result T E) 
       by_result disk past (Ok x) made = (f disk, left disk, made)
       by_result disk past (Err e) stayed = stayed
 
-states_end : (disk : Disk) (past : List Disk) (changes : List Change) → (earlier : List Disk) × (states_from disk past changes ≡ after disk changes ∷ earlier)
+states_end : (disk : Disk) (past : List Disk) (changes : List Change) → (earlier : List Disk) × (states_from disk past changes ≡ replay disk changes ∷ earlier)
 states_end disk past [] = (past, refl)
 states_end disk past (change ∷ changes) = states_end (step change disk) (disk ∷ past) changes
 
 -- the newest state is the one after all changes
-pub newest_after : (changes : List Change) (disk : Disk) (past : List Disk) → Some (states_after changes) ≡ Some (disk ∷ past) → after no_files changes ≡ disk
+pub newest_after : (changes : List Change) (disk : Disk) (past : List Disk) → Some (states_after changes) ≡ Some (disk ∷ past) → replay no_files changes ≡ disk
 newest_after changes disk past is =
     let ended = states_end no_files [] changes in
     first (sym ended.1 ∙ same_some is)
@@ -98,15 +98,15 @@ newest_after changes disk past is =
     first same = cc
 
 -- one change more
-pub after_push : (disk : Disk) (changes : List Change) (change : Change) → after disk (changes ++ change ∷ []) ≡ step change (after disk changes)
+pub after_push : (disk : Disk) (changes : List Change) (change : Change) → replay disk (changes ++ change ∷ []) ≡ step change (replay disk changes)
 after_push disk [] change = refl
 after_push disk (first ∷ changes) change = after_push (step first disk) changes change
 
 pub step_taken : (all : List Change) (i : ℕ) (change : Change) → i < length all → change ≡ get_or all i change
-    → after no_files (take (i + 1) all) ≡ step change (after no_files (take i all))
+    → replay no_files (take (i + 1) all) ≡ step change (replay no_files (take i all))
 step_taken all i change inside is =
-    ap (after no_files) (take_more all i change inside) ∙ after_push no_files (take i all) (get_or all i change)
-    ∙ ap (λ c. step c (after no_files (take i all))) (sym is)
+    ap (replay no_files) (take_more all i change inside) ∙ after_push no_files (take i all) (get_or all i change)
+    ∙ ap (λ c. step c (replay no_files (take i all))) (sym is)
 
 -- how long a file is
 pub sized : (found : Option File) (bytes : List ℕ) → IfSome found (λ file. bytes ≡ file.bytes) → IfSome found (λ file. length bytes ≡ length file.bytes)

@@ -114,7 +114,7 @@ find_changed f (e ∷ es) q = by_test (find_changed f es q) (eq_by_cmp (slice_cm
     by_test others true = refl
     by_test others false = others
 
--- what a crash leaves of the file of a name
+-- the file of a name after a crash
 pub get_changed : (f : File → File) (files : Files) (q : List ℕ)
     → map.get (map.from_entries {R = slice_cmp nat_cmp} (map (λ e. (e.0, f e.1)) (map.entries files))) q ≡ option_map f (map.get files q)
 get_changed f files q =

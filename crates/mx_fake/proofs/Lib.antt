@@ -1,5 +1,5 @@
 mod CrashLaws
 mod DirLaws
 mod FileLaws
-mod Fronts
+mod Prefixes
 mod TableLaws

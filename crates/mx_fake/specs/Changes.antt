@@ -2,7 +2,7 @@
 use Rattle.std.specs.Prelude.{List, [], ◌∷◌, string_bytes}
 use Rattle.std.specs.FinMap as map
 use Rattle.mx_outside.specs.Disks.{Disk, created, appended, file_synced, names_synced, renamed, removed}
-use Rattle.mx_fake.specs.Crashes.{crashed}
+use Rattle.mx_fake.specs.MemoryCrashes.{crash_disk}
 use Rattle.mx_fake.specs.declared.change.Change.{Change}
 use Rattle.mx_fake.specs.declared.change.Change.TheVariants.{Create, Append, Sync, SyncNames, Rename, Remove, Crash}
 
@@ -10,6 +10,7 @@ use Rattle.mx_fake.specs.declared.change.Change.TheVariants.{Create, Append, Syn
 abbrev pub no_files : Disk
 no_files = record { now = map.empty; older = map.empty }
 
+-- what a change makes of the disk
 abbrev pub step : Change → Disk → Disk
 step (Create name) = created (string_bytes name)
 step (Append name bytes) = appended (string_bytes name) bytes.items
@@ -17,17 +18,18 @@ step (Sync name) = file_synced (string_bytes name)
 step SyncNames = names_synced
 step (Rename from to) = renamed (string_bytes from) (string_bytes to)
 step (Remove name) = removed (string_bytes name)
-step (Crash choice) = crashed choice
+step (Crash choice) = crash_disk choice
 
--- the state after these changes, the first of them first
-abbrev pub after : Disk → List Change → Disk
-after disk [] = disk
-after disk (change ∷ changes) = after (step change disk) changes
+-- the state after these changes, oldest first
+abbrev pub replay : Disk → List Change → Disk
+replay disk [] = disk
+replay disk (change ∷ changes) = replay (step change disk) changes
 
--- all states, the newest one first
+-- this state after those of the past, and one for each change, newest first
 abbrev pub states_from : Disk → List Disk → List Change → List Disk
 states_from disk past [] = disk ∷ past
 states_from disk past (change ∷ changes) = states_from (step change disk) (disk ∷ past) changes
 
+-- all states of a directory that was empty at first, newest first
 abbrev pub states_after : List Change → List Disk
 states_after = states_from no_files []

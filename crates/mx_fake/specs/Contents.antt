@@ -3,14 +3,18 @@ use Rattle.std.specs.Prelude.{ℕ, List, Option, Some, drop}
 use Rattle.mx_fake.specs.declared.source.MemorySource.{MemorySource}
 use Rattle.mx_fake.specs.declared.sink.MemorySink.{MemorySink}
 
+-- the bytes that a source has left
 abbrev pub source_left : MemorySource → Option (List ℕ)
 source_left s = Some (drop s.at s.bytes.items)
 
+-- how often a source failed
 abbrev pub source_faults : MemorySource → ℕ
 source_faults s = s.calls.faults
 
+-- the bytes that a sink holds
 abbrev pub sink_contents : MemorySink → Option (List ℕ)
 sink_contents s = Some s.bytes.items
 
+-- how often a sink failed
 abbrev pub sink_faults : MemorySink → ℕ
 sink_faults s = s.calls.faults

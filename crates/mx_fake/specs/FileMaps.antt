@@ -4,10 +4,12 @@ use Rattle.std.specs.Coded.{Coded, code_by, coded×, coded_ℕ, coded_list}
 use Rattle.std.specs.FinMap as map
 use Rattle.mx_outside.specs.Disks.{File, Files}
 
+-- a file coded as its two fields
 abbrev pub file_code : Coded File
 file_code =
     code_by (List ℕ × ℕ) (coded× (coded_list coded_ℕ) coded_ℕ) (λ f. (f.bytes, f.synced)) (λ p. record { bytes = p.0; synced = p.1 }) (λ _. refl)
 
+-- files coded by name
 abbrev pub files_code : Coded Files
 files_code = map.code (coded_list coded_ℕ) file_code
 
@@ -16,5 +18,6 @@ module _ {Y : Type 0} where
   abbrev pub by_bytes : List (String Y × File) → List (List ℕ × File)
   by_bytes entries = map (λ e. (string_bytes e.0, e.1)) entries
 
+  -- the files of a tree's entries
   abbrev pub files_of : List (String Y × File) → Files
   files_of entries = map.from_entries (by_bytes entries)

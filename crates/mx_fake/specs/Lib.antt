@@ -1,6 +1,6 @@
 pub mod Changes
 pub mod Contents
-pub mod Crashes
 pub mod Dirs
 pub mod FileMaps
+pub mod MemoryCrashes
 pub mod Tables

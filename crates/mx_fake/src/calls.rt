@@ -1,4 +1,4 @@
-//! The calls of an object in memory, and which of them are to fail.
+//! The calls of an object in memory.
 
 ghost use Rattle.std.specs.Prelude.{◌≡◌, ◌≤◌, OnOk};
 ghost use Rattle.mx_outside.specs.Causes.{HasCause, Rose};
@@ -25,7 +25,7 @@ impl Calls {
         }
     }
 
-    /// Counts a call, and fails where it is to fail.
+    /// Counts a call, which fails if it is listed.
     pub(crate) fn make(&mut self) -> Result<(), Failed>
         ensures cause { HasCause self.old.faults self.new.faults result }
         ensures done { OnOk result (self.new.faults ≡ self.old.faults) }

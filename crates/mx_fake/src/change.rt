@@ -1,4 +1,4 @@
-//! What was done to a directory in memory.
+//! The changes of a directory in memory.
 
 ghost use Rattle.std.specs.Prelude.{◌≡◌, IfOk};
 ghost use Rattle.mx_outside.specs.Disks.{created, appended, file_synced, renamed, removed};
@@ -9,17 +9,17 @@ use std::alloc::{AllocError, Global};
 /// A call that changed a directory in memory.
 #[derive(Debug, Drop)]
 pub(crate) enum Change {
-    /// A file was made, or emptied.
+    /// A file was created, or emptied.
     Create { name: String },
-    /// Bytes were put at the end of a file.
+    /// Bytes were appended to a file.
     Append { name: String, bytes: Vec<u8> },
-    /// A file's bytes were brought onto the disk.
+    /// A file's bytes were synced.
     Sync { name: String },
-    /// All names were brought onto the disk.
+    /// All names were synced.
     SyncNames,
-    /// A file was given another name.
+    /// A file was renamed.
     Rename { from: String, to: String },
-    /// A file was taken away.
+    /// A file was removed.
     Remove { name: String },
     /// The directory crashed.
     Crash { choice: u32 },

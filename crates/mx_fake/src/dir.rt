@@ -2,7 +2,7 @@
 
 ghost use Rattle.std.specs.Prelude.{◌≡◌, ◌∷◌, ◌++◌, [], Some, IfOk, OnOk, OnErr, IsTrue, List, drop};
 ghost use Rattle.mx_outside.specs.Causes.{HasCauseOf};
-ghost use Rattle.mx_outside.specs.Disks.{Disk, IsThere, Makes, ToldAlike};
+ghost use Rattle.mx_outside.specs.Disks.{Disk, IsThere, Makes, KnownAlike};
 ghost use Rattle.mx_outside.specs.declared.dir.DirFault.TheVariants.{Failed};
 ghost use Rattle.mx_fake.specs.Changes.{step, no_files};
 ghost use Rattle.mx_fake.specs.Dirs.{dir_states, dir_faults};
@@ -14,12 +14,12 @@ use crate::tables::Tables;
 use mx_outside::{Dir, DirFault, Names};
 use std::alloc::{AllocError, Global};
 
-/// A directory in memory, for tests: it keeps all that was done to it, and does it again for each
-/// question, so that this takes the longer the more was done.
+/// A directory in memory, for tests. It keeps the list of its changes and replays them for each
+/// question, which takes time in proportion to the changes.
 ///
-/// A restart is a crash. Half of the number that picks it is how many bytes of each file stay of
-/// those that weren't synced. An odd number leaves each name as it was when the names were synced,
-/// and an even one as it is now.
+/// A restart is a crash. An odd choice leaves each name as it was when the names were synced, and an
+/// even one as it is now. Half of the choice is how many bytes of each file stay beyond its synced
+/// ones.
 #[derive(Debug, Drop)]
 pub struct MemoryDir {
     calls: Calls,
@@ -27,7 +27,7 @@ pub struct MemoryDir {
 }
 
 impl MemoryDir {
-    /// An empty directory, of whose calls those that `failing` lists are to fail, counted from 1.
+    /// An empty directory, of whose calls those that `failing` lists fail, counted from 1.
     pub fn new(alloc: Global, failing: Vec<u64>) -> MemoryDir
         ensures states { dir_states result ≡ Some (no_files ∷ []) }
         ensures faults { dir_faults result ≡ 0 }
@@ -39,7 +39,7 @@ impl MemoryDir {
         }
     }
 
-    /// Whether there is a file of this name. This is none of the calls that may fail.
+    /// Whether there is a file of this name. This call isn't counted, and fails only out of memory.
     pub fn has(&self, alloc: Global, name: &str) -> Result<bool, AllocError>
         ensures { IfOk result (λ there. IsTrue there → IsThere (dir_states self.now) name.now) }
     {
@@ -48,7 +48,6 @@ impl MemoryDir {
         Ok(there)
     }
 
-    /// Counts a call, and fails where it is to fail.
     fn begin(&mut self) -> Result<(), DirFault>
         ensures changes { self.new.changes.items ≡ self.old.changes.items }
         ensures cause { HasCauseOf Failed (dir_faults self.old) (dir_faults self.new) result }
@@ -59,7 +58,6 @@ impl MemoryDir {
         }
     }
 
-    /// Puts a change behind the others.
     fn note(&mut self, change: Change) -> Result<(), AllocError>
         ensures calls { self.new.calls ≡ self.old.calls }
         ensures ok { OnOk result (self.new.changes.items ≡ self.old.changes.items ++ change ∷ []) }
@@ -69,9 +67,9 @@ impl MemoryDir {
         Ok(())
     }
 
-    /// Makes a change.
+    /// Counts a call, and makes its change.
     fn make(&mut self, change: Result<Change, AllocError>) -> Result<(), DirFault>
-        ensures told { ToldAlike (dir_states self.old) (dir_states self.new) }
+        ensures told { KnownAlike (dir_states self.old) (dir_states self.new) }
         ensures made { (f : Disk → Disk) → IfOk change (λ change. step change ≡ f) → Makes f (dir_states self.old) (dir_states self.new) result }
         ensures cause { HasCauseOf Failed (dir_faults self.old) (dir_faults self.new) result }
     {
@@ -85,7 +83,7 @@ impl MemoryDir {
         }
     }
 
-    /// The state that the calls made, for a call that asks about it.
+    /// Counts a call that asks about the state, and gives the state.
     fn look(&mut self, alloc: Global) -> Result<Tables, DirFault>
         ensures changes { self.new.changes.items ≡ self.old.changes.items }
         ensures tables { IfOk result (λ tables. (disk : Disk) (past : List Disk) → dir_states self.old ≡ Some (disk ∷ past) → IsTablesOf disk tables) }
@@ -98,7 +96,7 @@ impl MemoryDir {
         }
     }
 
-    /// The state that all changes made.
+    /// The state after all changes.
     fn tables(&self, alloc: Global) -> Result<Tables, AllocError>
         ensures { IfOk result (λ tables. (disk : Disk) (past : List Disk) → dir_states self.now ≡ Some (disk ∷ past) → IsTablesOf disk tables) }
     {
@@ -110,7 +108,7 @@ impl MemoryDir {
     }
 }
 
-/// The bytes from a place on.
+/// The bytes from an offset on, or none behind their end.
 fn behind(bytes: &[u8], at: u64) -> &[u8]
     ensures { result.now ≡ drop at bytes.now }
 {

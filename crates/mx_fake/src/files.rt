@@ -3,8 +3,8 @@
 ghost use Rattle.std.specs.Prelude.{◌≡◌, OnOk, IfOk, string_bytes};
 ghost use Rattle.std.specs.Option.{option_copied};
 ghost use Rattle.std.specs.FinMap as map;
-ghost use Rattle.mx_outside.specs.Disks.{change_file, longer_by, on_disk};
-ghost use Rattle.mx_fake.specs.Crashes.{kept_files, settled};
+ghost use Rattle.mx_outside.specs.Disks.{change_file, longer_by, synced_file};
+ghost use Rattle.mx_fake.specs.MemoryCrashes.{crash_files, set_file};
 
 use crate::stored::Stored;
 use mx_outside::Names;
@@ -30,7 +30,6 @@ impl Model for Files {
 }
 
 impl Files {
-    /// No file.
     pub(crate) fn new(alloc: Global) -> Files
         ensures { result ≡ map.empty }
     {
@@ -39,14 +38,13 @@ impl Files {
         }
     }
 
-    /// The file of this name.
     pub(crate) fn get(&self, name: &str) -> Option<&Stored>
         ensures { option_copied result ≡ map.get self.now name.now }
     {
         self.stored.get(name)
     }
 
-    /// Another file as the one of this name.
+    /// A copy of the file of this name.
     pub(crate) fn copied(&self, alloc: Global, name: &str) -> Result<Option<Stored>, AllocError>
         ensures { IfOk result (λ file. file ≡ map.get self.now name.now) }
     {
@@ -56,7 +54,7 @@ impl Files {
         }
     }
 
-    /// The names, by rising bytes.
+    /// The names, in name order.
     pub(crate) fn names(&self, alloc: Global) -> Result<Names, AllocError>
         ensures { IfOk result (λ names. names ≡ map.keys self.now) }
     {
@@ -67,7 +65,6 @@ impl Files {
         Ok(names)
     }
 
-    /// Gives a name this file.
     pub(crate) fn insert(&mut self, name: String, file: Stored) -> Result<(), AllocError>
         ensures { OnOk result (self.new ≡ map.insert self.old (string_bytes name) file) }
     {
@@ -75,7 +72,6 @@ impl Files {
         Ok(())
     }
 
-    /// Takes a name's file away.
     pub(crate) fn remove(&mut self, name: &str) -> Option<Stored>
         ensures file { result ≡ map.get self.old name.now }
         ensures rest { self.new ≡ map.remove self.old name.now }
@@ -83,9 +79,9 @@ impl Files {
         self.stored.remove(name)
     }
 
-    /// Makes a name what it was.
-    pub(crate) fn settle(&mut self, name: String, file: Option<Stored>) -> Result<(), AllocError>
-        ensures { OnOk result (self.new ≡ settled (string_bytes name) file self.old) }
+    /// Gives a name this file, or none.
+    pub(crate) fn set(&mut self, name: String, file: Option<Stored>) -> Result<(), AllocError>
+        ensures { OnOk result (self.new ≡ set_file (string_bytes name) file self.old) }
     {
         match file {
             Some(file) => self.insert(name, file),
@@ -96,7 +92,6 @@ impl Files {
         }
     }
 
-    /// Puts bytes at the end of a file, if it is there.
     pub(crate) fn append(&mut self, name: &str, more: &[u8]) -> Result<(), AllocError>
         ensures { OnOk result (self.new ≡ change_file (longer_by more.now) name.now self.old) }
     {
@@ -106,23 +101,22 @@ impl Files {
         Ok(())
     }
 
-    /// Brings the bytes of a file onto the disk, if it is there.
     pub(crate) fn sync(&mut self, name: &str)
-        ensures { self.new ≡ change_file (λ file. on_disk file.bytes) name.now self.old }
+        ensures { self.new ≡ change_file (λ file. synced_file file.bytes) name.now self.old }
     {
         if let Some(file) = self.stored.get_mut(name) {
             file.sync();
         }
     }
 
-    /// What a crash leaves of each file, with up to `more` bytes of those that aren't on the disk.
-    pub(crate) fn kept(self, alloc: Global, more: usize) -> Result<Files, AllocError>
-        ensures { IfOk result (λ files. files ≡ kept_files more self) }
+    /// The files after a crash, each with up to `more` bytes beyond its synced ones.
+    pub(crate) fn crash(self, alloc: Global, more: usize) -> Result<Files, AllocError>
+        ensures { IfOk result (λ files. files ≡ crash_files more self) }
     {
         let Files { mut stored } = self;
         let mut kept = Files::new(alloc);
         while let Some((name, mut file)) = stored.pop_first() {
-            file.keep(more);
+            file.crash(more);
             kept.insert(name, file)?;
         }
         Ok(kept)

@@ -1,4 +1,4 @@
-//! The outside in memory. Each object has a list of its calls that are to fail, and tells what it holds.
+//! Sources, sinks and directories in memory, for tests. Each has a list of its calls that fail, and its contents are known.
 #![tactic(auto)]
 
 mod calls;

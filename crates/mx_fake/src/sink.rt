@@ -7,7 +7,7 @@ use crate::calls::Calls;
 use mx_outside::{Failed, Sink};
 use std::alloc::Global;
 
-/// A sink in memory. It takes whatever it is given.
+/// A sink in memory. It takes all bytes of a write.
 #[derive(Debug, Drop)]
 pub struct MemorySink {
     bytes: Vec<u8>,
@@ -15,8 +15,8 @@ pub struct MemorySink {
 }
 
 impl MemorySink {
-    /// An empty sink, of whose calls those that `failing` lists are to fail, counted from 1. A call
-    /// that finds no memory fails too.
+    /// An empty sink, of whose calls those that `failing` lists fail, counted from 1. A call that runs
+    /// out of memory fails too.
     pub fn new(alloc: Global, failing: Vec<u64>) -> MemorySink
         ensures contents { sink_contents result ≡ Some [] }
         ensures faults { sink_faults result ≡ 0 }

@@ -15,7 +15,7 @@ pub struct MemorySource {
 }
 
 impl MemorySource {
-    /// A source of these bytes, of whose calls those that `failing` lists are to fail, counted from 1.
+    /// A source of these bytes, of whose calls those that `failing` lists fail, counted from 1.
     pub fn new(bytes: Vec<u8>, failing: Vec<u64>) -> MemorySource
         ensures left { source_left result ≡ Some bytes.items }
         ensures faults { source_faults result ≡ 0 }

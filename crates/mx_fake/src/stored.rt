@@ -1,13 +1,13 @@
 //! A file in memory.
 
 ghost use Rattle.std.specs.Prelude.{◌≡◌, [], OnOk, IfOk};
-ghost use Rattle.mx_outside.specs.Disks.{on_disk, longer_by};
-ghost use Rattle.mx_fake.specs.Crashes.{kept};
+ghost use Rattle.mx_outside.specs.Disks.{synced_file, longer_by};
+ghost use Rattle.mx_fake.specs.MemoryCrashes.{crash_file};
 
 use std::alloc::{AllocError, Global};
 use std::marker::Model;
 
-/// A file: its bytes, and how many of them, from the first one on, are on the disk.
+/// A file: its bytes, and the length of their prefix that is synced.
 #[derive(Debug, Drop)]
 pub(crate) struct Stored {
     bytes: Vec<u8>,
@@ -26,9 +26,8 @@ impl Model for Stored {
 }
 
 impl Stored {
-    /// A file without bytes.
     pub(crate) fn new(alloc: Global) -> Stored
-        ensures { result ≡ on_disk [] }
+        ensures { result ≡ synced_file [] }
     {
         Stored {
             bytes: Vec::new(alloc),
@@ -36,14 +35,12 @@ impl Stored {
         }
     }
 
-    /// All its bytes.
     pub(crate) fn bytes(&self) -> &[u8]
         ensures { result.now ≡ self.now.bytes }
     {
         &self.bytes
     }
 
-    /// Another one of the same bytes.
     pub(crate) fn copied(&self, alloc: Global) -> Result<Stored, AllocError>
         ensures { IfOk result (λ copy. copy ≡ self.now) }
     {
@@ -53,7 +50,6 @@ impl Stored {
         })
     }
 
-    /// Puts bytes at its end.
     pub(crate) fn append(&mut self, more: &[u8]) -> Result<(), AllocError>
         ensures { OnOk result (self.new ≡ longer_by more.now self.old) }
     {
@@ -61,19 +57,18 @@ impl Stored {
         Ok(())
     }
 
-    /// Brings its bytes onto the disk.
     pub(crate) fn sync(&mut self)
-        ensures { self.new ≡ on_disk self.old.bytes }
+        ensures { self.new ≡ synced_file self.old.bytes }
     {
         self.synced = self.bytes.len();
     }
 
-    /// What a crash leaves of it: the bytes that are on the disk, and up to `more` of those behind them.
-    pub(crate) fn keep(&mut self, more: usize)
-        ensures { self.new ≡ kept more self.old }
+    /// Keeps the synced bytes, and up to `more` of those behind them.
+    pub(crate) fn crash(&mut self, more: usize)
+        ensures { self.new ≡ crash_file more self.old }
     {
         let synced = self.synced.min(self.bytes.len());
         self.bytes.truncate(synced.saturating_add(more));
-        self.synced = self.bytes.len();
+        self.sync();
     }
 }

@@ -2,8 +2,8 @@
 
 ghost use Rattle.std.specs.Prelude.{◌≡◌, OnOk, IfSome};
 ghost use Rattle.std.specs.FinMap as map;
-ghost use Rattle.mx_outside.specs.Disks.{Disk, created, appended, file_synced, names_synced, renamed, removed, unsettled};
-ghost use Rattle.mx_fake.specs.Crashes.{crashed, first_names, names_left};
+ghost use Rattle.mx_outside.specs.Disks.{Disk, created, appended, file_synced, names_synced, renamed, removed, unsynced};
+ghost use Rattle.mx_fake.specs.MemoryCrashes.{crash_disk, durable_names, names_after_crash};
 ghost use Rattle.mx_fake.specs.Changes.{step, no_files};
 ghost use Rattle.mx_fake.specs.Tables.{IsTablesOf};
 
@@ -20,8 +20,8 @@ struct Before {
     file: Option<Stored>,
 }
 
-/// The files, and what each name was before each of its changes since the names were synced, the
-/// first change first.
+/// The files, and what each name was before each of its changes since the names were synced, oldest
+/// first.
 #[derive(Debug, Drop)]
 pub(crate) struct Tables {
     files: Files,
@@ -29,7 +29,6 @@ pub(crate) struct Tables {
 }
 
 impl Tables {
-    /// No file.
     pub(crate) fn new(alloc: Global) -> Tables
         ensures { IsTablesOf no_files result }
     {
@@ -39,7 +38,6 @@ impl Tables {
         }
     }
 
-    /// The files as they are now.
     pub(crate) fn files(&self) -> &Files
         ensures { (disk : Disk) → IsTablesOf disk self.now → result.now ≡ disk.now }
     {
@@ -56,7 +54,6 @@ impl Tables {
         }
     }
 
-    /// Makes a change.
     pub(crate) fn apply(&mut self, alloc: Global, change: &Change) -> Result<(), AllocError>
         ensures { OnOk result ((disk : Disk) → IsTablesOf disk self.old → IsTablesOf (step change.now disk) self.new) }
     {
@@ -77,9 +74,9 @@ impl Tables {
         }
     }
 
-    /// Notes what a name is before it changes.
-    fn unsettle(&mut self, alloc: Global, name: &str) -> Result<(), AllocError>
-        ensures { OnOk result ((disk : Disk) → IsTablesOf disk self.old → IsTablesOf (unsettled name.now disk) self.new) }
+    /// Saves what a name is before it changes.
+    fn save(&mut self, alloc: Global, name: &str) -> Result<(), AllocError>
+        ensures { OnOk result ((disk : Disk) → IsTablesOf disk self.old → IsTablesOf (unsynced name.now disk) self.new) }
     {
         let file = self.files.copied(alloc, name)?;
         let name = String::from_str(alloc, name)?;
@@ -90,7 +87,7 @@ impl Tables {
     fn create(&mut self, alloc: Global, name: &str) -> Result<(), AllocError>
         ensures { OnOk result ((disk : Disk) → IsTablesOf disk self.old → IsTablesOf (created name.now disk) self.new) }
     {
-        self.unsettle(alloc, name)?;
+        self.save(alloc, name)?;
         self.files
             .insert(String::from_str(alloc, name)?, Stored::new(alloc))?;
         Ok(())
@@ -106,8 +103,8 @@ impl Tables {
     fn rename(&mut self, alloc: Global, from: &str, to: &str) -> Result<(), AllocError>
         ensures { OnOk result ((disk : Disk) → IsTablesOf disk self.old → IsTablesOf (renamed from.now to.now disk) self.new) }
     {
-        self.unsettle(alloc, from)?;
-        self.unsettle(alloc, to)?;
+        self.save(alloc, from)?;
+        self.save(alloc, to)?;
         if let Some(file) = self.files.remove(from) {
             self.files.insert(String::from_str(alloc, to)?, file)?;
         }
@@ -117,26 +114,24 @@ impl Tables {
     fn remove(&mut self, alloc: Global, name: &str) -> Result<(), AllocError>
         ensures { OnOk result ((disk : Disk) → IsTablesOf disk self.old → IsTablesOf (removed name.now disk) self.new) }
     {
-        self.unsettle(alloc, name)?;
+        self.save(alloc, name)?;
         self.files.remove(name);
         Ok(())
     }
 
-    /// Crashes: an odd choice leaves each name as it was when the names were synced, and half of the
-    /// choice is how many bytes of each file stay that aren't on the disk.
     fn crash(&mut self, alloc: Global, choice: u32) -> Result<(), AllocError>
-        ensures { OnOk result ((disk : Disk) → IsTablesOf disk self.old → IsTablesOf (crashed choice disk) self.new) }
+        ensures { OnOk result ((disk : Disk) → IsTablesOf disk self.old → IsTablesOf (crash_disk choice disk) self.new) }
     {
         self.leave_names(choice)?;
         self.before.clear();
         let files = mem::replace(&mut self.files, Files::new(alloc));
-        self.files = files.kept(alloc, (choice / 2) as usize)?;
+        self.files = files.crash(alloc, (choice / 2) as usize)?;
         Ok(())
     }
 
-    /// Makes each name what a crash leaves.
+    /// Makes each name what it is after the crash.
     fn leave_names(&mut self, choice: u32) -> Result<(), AllocError>
-        ensures { OnOk result ((disk : Disk) → IsTablesOf disk self.old → self.new.files ≡ names_left choice disk) }
+        ensures { OnOk result ((disk : Disk) → IsTablesOf disk self.old → self.new.files ≡ names_after_crash choice disk) }
     {
         if choice % 2 == 1 {
             return self.undo();
@@ -146,10 +141,10 @@ impl Tables {
 
     /// Makes each name what it was when the names were synced.
     fn undo(&mut self) -> Result<(), AllocError>
-        ensures { OnOk result ((disk : Disk) → IsTablesOf disk self.old → self.new.files ≡ first_names disk) }
+        ensures { OnOk result ((disk : Disk) → IsTablesOf disk self.old → self.new.files ≡ durable_names disk) }
     {
         while let Some(Before { name, file }) = self.before.pop() {
-            self.files.settle(name, file)?;
+            self.files.set(name, file)?;
         }
         Ok(())
     }

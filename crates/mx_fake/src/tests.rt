@@ -135,7 +135,7 @@ fn has_bytes(
     Ok(size == bytes.len() as u64 && count == bytes.len() && all.starts_with(bytes))
 }
 
-/// Whether a directory holds these files, by rising names, and no more.
+/// Whether a directory holds these files, in name order, and no more.
 fn holds(dir: &mut MemoryDir, alloc: Global, files: &[File]) -> Result<bool, DirFault> {
     let names = dir.list(alloc)?;
     for (name, (expected, bytes)) in names.as_slice().iter().zip(files) {

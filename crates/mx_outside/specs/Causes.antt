@@ -1,4 +1,4 @@
--- When a call on an object outside may answer that it failed.
+-- When a call on an object outside may fail.
 use Rattle.std.specs.Prelude.{◌≡◌, ℕ, ◌+◌, ◌-◌, ◌^◌, ◌≤◌, min, Result, OnOk, OnErr, IsErrOf}
 
 -- A count of faults rose. One that stands at its last value counts as risen.
@@ -10,8 +10,8 @@ pub record HasCause {T E : Type 0} (before now : ℕ) (result : Result T E) : Ty
   pub later : before ≤ now
   pub failed : OnErr result (Rose before now)
 
--- The same where a call may also fail for want of memory: only this one failure tells that the count rose. Where the call
--- is done, nothing failed meanwhile.
+-- The same where a call may also run out of memory: only this one failure means that the count rose. A call that succeeds
+-- leaves the count as it was.
 pub record HasCauseOf {T E : Type 0} (failure : E) (before now : ℕ) (result : Result T E) : Type 0 where
   pub later : before ≤ now
   pub failed : IsErrOf result failure → Rose before now

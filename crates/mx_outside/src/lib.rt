@@ -1,6 +1,6 @@
-//! The outside of a server: where bytes come from and go to, and where files are kept.
+//! The outside of a server: the source and the sink of its bytes, and the directory of its files.
 //!
-//! Each object counts its faults. A call answers `Failed` only where that count rose.
+//! Each object counts its faults. A call returns `Failed` only where that count rose.
 #![tactic(auto)]
 
 mod dir;

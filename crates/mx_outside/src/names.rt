@@ -6,7 +6,7 @@ ghost use Rattle.std.specs.String.{string_bytes};
 use std::alloc::{AllocError, Global};
 use std::marker::Model;
 
-/// A list of texts, as the words of a command line or the names of files.
+/// A list of texts, as the arguments of a command line or the names of files.
 #[derive(Debug, Drop)]
 pub struct Names {
     items: Vec<String>,
@@ -46,7 +46,7 @@ impl Names {
         items
     }
 
-    /// Puts a text at the end.
+    /// Appends a text.
     pub fn push(&mut self, text: String) -> Result<(), AllocError>
         ensures ok { OnOk result (self.new ≡ self.old ++ string_bytes text ∷ []) }
         ensures err { OnErr result (self.new ≡ self.old) }

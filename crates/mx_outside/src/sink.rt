@@ -1,4 +1,4 @@
-//! Where bytes go to.
+//! A stream that bytes are written to.
 
 ghost use Rattle.std.specs.Prelude.{ℕ, ◌<◌, List, Option, length, IfOk};
 ghost use Rattle.std.specs.Io.{WritesAtMost};
@@ -9,26 +9,23 @@ use crate::failed::Failed;
 
 /// A stream of bytes to be written.
 pub trait Sink {
-    /// The bytes that it holds, where the sink tells them.
+    /// The bytes that it holds, where they are known.
     ghost contents: { Self → Option (List ℕ) };
 
     /// How often a call failed.
     ghost faults: { Self → ℕ };
 
-    /// Takes a front of the bytes, and says how many. Of a piece that isn't empty it takes one at least.
+    /// Takes a prefix of the bytes, and returns how many: at least one where there are any.
     ///
     /// # Errors
-    /// `Failed` only where the count of faults rose; nothing was taken then.
+    /// Nothing was taken.
     fn write(&mut self, bytes: &[u8]) -> Result<usize, Failed>
         ensures bound { WritesAtMost result bytes.now }
         ensures some { 0 < length bytes.now → IfOk result (λ count. 0 < count) }
         ensures bytes { WriteAppends (contents self.old) (contents self.new) result bytes.now }
         ensures cause { HasCause (faults self.old) (faults self.new) result };
 
-    /// Passes on what was taken and is still held back.
-    ///
-    /// # Errors
-    /// `Failed` only where the count of faults rose.
+    /// Passes on what was taken and is still buffered.
     fn flush(&mut self) -> Result<(), Failed>
         ensures bytes { Keeps (contents self.old) (contents self.new) }
         ensures cause { HasCause (faults self.old) (faults self.new) result };

@@ -2,7 +2,7 @@
 use Rattle.std.specs.Prelude.{◌≢◌, ◌≡◌, ◌==◌, ℕ, List, [], false, codes}
 use Rattle.std.specs.List.{list_any}
 
--- not empty, not the folder or the one above it, and with no slash and no NUL
+-- not empty, not the folder or its parent, and with no slash and no NUL
 pub record IsFileName (name : List ℕ) : Type 0 where
   pub some : name ≢ []
   pub inside : name ≢ codes "."

@@ -11,10 +11,10 @@ use std::fs::{File, Files};
 use std::io;
 use std::io::ErrorKind;
 
-/// A folder of the system as a directory. No other process opens it while this is there.
+/// A folder of the system as a directory. No other process opens it while this value lives.
 ///
-/// It doesn't tell its files. A name is that of a plain file right in the folder: one that is empty,
-/// `.` or `..`, or that has a `/` or a NUL, is a fault, and so is a file that isn't there.
+/// Its files aren't known to contracts. A name is that of a plain file right in the folder: one that
+/// is empty, `.` or `..`, or that has a `/` or a NUL, is a fault, and so is a file that is missing.
 #[derive(Debug, Drop)]
 pub struct FolderDir<R> {
     folder: OpenFolder<R>,
@@ -22,11 +22,8 @@ pub struct FolderDir<R> {
 }
 
 impl<R: Files<File = File> + Clone + Drop> FolderDir<R> {
-    /// Opens a folder, and makes it first where it isn't there. The folder that it lies in is there.
-    ///
-    /// # Errors
-    /// It isn't a folder, the system doesn't open it, another process has it open, or memory ran
-    /// out.
+    /// Opens a folder, which is created if it is missing; its parent has to exist. The parent is
+    /// synced, so that the folder survives a crash.
     pub fn open(alloc: Global, files: R, path: &str) -> Result<FolderDir<R>, OpenFault>
         ensures faults { IfOk result (λ dir. dir.faults ≡ 0) }
     {
@@ -35,7 +32,7 @@ impl<R: Files<File = File> + Clone + Drop> FolderDir<R> {
     }
 }
 
-/// Counts a fault of the system. That memory ran out is none.
+/// Counts a fault of the system. An allocation failure is none.
 fn count<T>(faults: &mut u64, answer: io::Result<T>) -> Result<T, DirFault>
     ensures cause { HasCauseOf DirFault.Failed faults.old faults.new result }
 {

@@ -1,4 +1,4 @@
-//! The outside by std: readers, writers and the files of a folder.
+//! Sources, sinks and directories over the readers, writers and files of std.
 #![tactic(auto)]
 
 mod folder;

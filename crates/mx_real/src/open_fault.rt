@@ -17,7 +17,7 @@ pub enum OpenFault {
     /// Another process has it open, or this one has it open twice.
     #[error("another process uses the folder: end it first, or name another folder")]
     InUse,
-    /// Memory ran out.
+    /// An allocation failed.
     #[error("memory ran out")]
     NoMemory,
 }

@@ -34,10 +34,10 @@ struct Held {
 }
 
 impl<R: Files<File = File> + Clone + Drop> OpenFolder<R> {
-    /// Opens and locks a folder, which is made first where it isn't there.
+    /// Opens and locks a folder, which is created if it is missing, and makes its name durable.
     pub(crate) fn open(alloc: Global, files: R, path: &str) -> Result<OpenFolder<R>, OpenFault> {
-        let is_new = make_folder(&files, path)?;
-        // Seen first, as to open a pipe waits for its other end.
+        make_folder(&files, path)?;
+        // Tested first, since opening a pipe waits for its other end.
         if !fs::metadata(&files, path)?.is_dir() {
             return Err(OpenFault::NotFolder);
         }
@@ -47,9 +47,8 @@ impl<R: Files<File = File> + Clone + Drop> OpenFolder<R> {
             Err(TryLockError::WouldBlock) => return Err(OpenFault::InUse),
             Err(TryLockError::Error(error)) => return Err(OpenFault::from(error)),
         }
-        if is_new {
-            sync_parent(&files, path)?;
-        }
+        // At each opening, since a run that created the folder may have crashed before its own sync.
+        sync_parent(&files, path)?;
         Ok(OpenFolder {
             files,
             path: String::from_str(alloc, path)?,
@@ -58,20 +57,26 @@ impl<R: Files<File = File> + Clone + Drop> OpenFolder<R> {
         })
     }
 
-    /// The names of the plain files, by rising bytes. One that isn't text is an error.
+    /// The names of the plain files, in name order, without those that aren't UTF-8.
     pub(crate) fn list(&self, alloc: Global) -> io::Result<Names> {
         let mut names = Vec::new(alloc);
         for entry in fs::read_dir(&(self.files.clone()?, alloc), self.path.as_str())? {
-            let entry = entry?;
-            if entry.file_type()?.is_file() {
-                names.push(String::from_str(alloc, entry.file_name())?)?;
+            match entry {
+                Ok(entry) => {
+                    if entry.file_type()?.is_file() {
+                        names.push(String::from_str(alloc, entry.file_name())?)?;
+                    }
+                }
+                // The name isn't UTF-8.
+                Err(error) if error.kind() == ErrorKind::InvalidFilename => {}
+                Err(error) => return Err(error),
             }
         }
         names.sort()?;
         Ok(Names::from_vec(names))
     }
 
-    /// How many bytes a file has.
+    /// The size of a file in bytes.
     pub(crate) fn size(&self, alloc: Global, name: &str) -> io::Result<u64>
         ensures named { IfOk result (λ _. IsFileName name.now) }
     {
@@ -82,7 +87,7 @@ impl<R: Files<File = File> + Clone + Drop> OpenFolder<R> {
         Ok(found.len())
     }
 
-    /// Reads from a place on, and says how many bytes.
+    /// Reads from the offset `at`, and returns how many bytes.
     pub(crate) fn read(
         &self,
         alloc: Global,
@@ -98,7 +103,7 @@ impl<R: Files<File = File> + Clone + Drop> OpenFolder<R> {
         }
     }
 
-    /// Makes a file without bytes, or empties the one of this name.
+    /// Creates an empty file, or empties the one of this name.
     pub(crate) fn create(&mut self, alloc: Global, name: &str) -> io::Result<()>
         ensures named { IfOk result (λ _. IsFileName name.now) }
     {
@@ -137,12 +142,10 @@ impl<R: Files<File = File> + Clone + Drop> OpenFolder<R> {
         Ok(())
     }
 
-    /// Syncs the names.
     pub(crate) fn sync_names(&self) -> io::Result<()> {
         self.handle.sync_all()
     }
 
-    /// Gives a file another name.
     pub(crate) fn rename(&mut self, alloc: Global, from: &str, to: &str) -> io::Result<()>
         ensures named { IfOk result (λ _. IsFileName from.now × IsFileName to.now) }
     {
@@ -153,7 +156,6 @@ impl<R: Files<File = File> + Clone + Drop> OpenFolder<R> {
         fs::rename(&self.files, old_path.as_str(), new_path.as_str())
     }
 
-    /// Takes a file away.
     pub(crate) fn remove(&mut self, alloc: Global, name: &str) -> io::Result<()>
         ensures named { IfOk result (λ _. IsFileName name.now) }
     {
@@ -183,8 +185,8 @@ impl<R: Files<File = File> + Clone + Drop> OpenFolder<R> {
         File::open(&self.files, self.path_of(alloc, name)?.as_str())
     }
 
-    /// Opens a file whose writes go to its end, which is made first if `makes` says so.
-    fn open_to_append(&self, alloc: Global, name: &str, makes: bool) -> io::Result<Held>
+    /// Opens a file to append to, and with `create` creates it if it is missing.
+    fn open_to_append(&self, alloc: Global, name: &str, create: bool) -> io::Result<Held>
         ensures named { IfOk result (λ _. IsFileName name.now) }
     {
         let path = self.path_of(alloc, name)?;
@@ -192,12 +194,12 @@ impl<R: Files<File = File> + Clone + Drop> OpenFolder<R> {
         let file = OpenOptions::new()
             .read(true)
             .append(true)
-            .create(makes)
+            .create(create)
             .open(&self.files, path.as_str())?;
         Ok(Held { name, file })
     }
 
-    /// The path of a file. A name that can't be that of a file in the folder is an error.
+    /// The path of a file.
     fn path_of(&self, alloc: Global, name: &str) -> io::Result<String>
         ensures named { IfOk result (λ path. IsFileName name.now) }
         ensures path { IfOk result (λ path. string_bytes path ≡ string_bytes self.now.path ++ 47 ∷ name.now) }
@@ -214,7 +216,7 @@ impl<R: Files<File = File> + Clone + Drop> OpenFolder<R> {
     }
 }
 
-/// Whether a name says a file right in a folder.
+/// Whether a file right in a folder may have this name.
 fn is_file_name(name: &str) -> bool
     ensures { IsTrue result → IsFileName name.now }
 {
@@ -222,16 +224,16 @@ fn is_file_name(name: &str) -> bool
     !name.is_empty() && name != "." && name != ".." && !bytes.contains(&b'/') && !bytes.contains(&0)
 }
 
-/// Makes a folder where nothing has its name, and says whether it did.
-fn make_folder(files: &impl Files, path: &str) -> io::Result<bool> {
+/// Creates a folder where nothing has its name.
+fn make_folder(files: &impl Files, path: &str) -> io::Result<()> {
     match fs::create_dir(files, path) {
-        Ok(()) => Ok(true),
-        Err(error) if error.kind() == ErrorKind::AlreadyExists => Ok(false),
+        Ok(()) => Ok(()),
+        Err(error) if error.kind() == ErrorKind::AlreadyExists => Ok(()),
         Err(error) => Err(error),
     }
 }
 
-/// Syncs the names of the folder that a path lies in, so that a crash leaves the path's own.
+/// Syncs the folder that a path lies in, so that the path survives a crash.
 fn sync_parent<R: Files<File = File>>(files: &R, path: &str) -> io::Result<()> {
     let parent = match Path::new(path).parent() {
         Some(parent) if !parent.as_str().is_empty() => parent.as_str(),

@@ -107,7 +107,7 @@ fn make_three(dir: &mut FolderDir<&HostRuntime>, alloc: Global) -> Result<(), Di
 }
 
 #[test]
-fn lists_plain_files_by_rising_bytes(rt: HostRuntime) -> Result<(), Fail> {
+fn lists_plain_files_in_name_order(rt: HostRuntime) -> Result<(), Fail> {
     let alloc = rt.alloc();
     let path = fresh_path(&rt, "lists")?;
     let mut dir = FolderDir::open(alloc, &rt, path.as_str())?;

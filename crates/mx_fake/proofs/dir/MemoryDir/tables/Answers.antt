@@ -1,6 +1,6 @@
 use Rattle.std.proofs.Common.{ap, sym, ◌∙◌, subst, arith, length}
 use Rattle.std.proofs.lemmas.List.{take_all}
-use Rattle.mx_fake.specs.Changes.{after, no_files}
+use Rattle.mx_fake.specs.Changes.{replay, no_files}
 use Rattle.mx_fake.specs.Tables.{IsTablesOf}
 use Rattle.mx_fake.proofs.DirLaws.{newest_after, step_taken}
 use Rattle.mx_fake.proofs.dir.MemoryDir.tables.Goals as goal
@@ -16,4 +16,4 @@ returns c disk past told =
     let all = c.args.self.now.changes.items in
     let ends = c.loop-change-test.false in
     let whole = take_all c.loop-change.change-index all (omega (arith, c.loop-change-test.false, ap length c.deref-change-items.ensures.value)) in
-    subst (λ disk. IsTablesOf disk c.loop-change.tables) (ap (after no_files) whole ∙ newest_after all disk past told) c.loop-change.invariant
+    subst (λ disk. IsTablesOf disk c.loop-change.tables) (ap (replay no_files) whole ∙ newest_after all disk past told) c.loop-change.invariant

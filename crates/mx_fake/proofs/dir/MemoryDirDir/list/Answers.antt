@@ -1,10 +1,10 @@
 use Rattle.std.proofs.Common.{ap, ◌∙◌}
 use Rattle.std.specs.FinMap as map
 use Rattle.mx_fake.specs.Dirs.{dir_states}
-use Rattle.mx_fake.proofs.DirLaws.{where_told}
+use Rattle.mx_fake.proofs.DirLaws.{where_known}
 use Rattle.mx_fake.proofs.dir.MemoryDirDir.list.Goals as goal
 
 pub returns-in-Ok-clause-names : goal.returns-in-Ok-clause-names
 returns-in-Ok-clause-names c =
-    where_told (dir_states c.args.self.now) _ (λ disk past told.
+    where_known (dir_states c.args.self.now) _ (λ disk past told.
     c.in-Ok.ensures ∙ ap map.keys (c.files.ensures disk (c.in_ok-tables.ensures.tables disk past told)))

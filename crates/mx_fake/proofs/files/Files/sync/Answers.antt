@@ -1,6 +1,6 @@
 use Rattle.std.proofs.Common.{ap, sym, ◌∙◌}
 use Rattle.std.specs.Option.{option_copied_mut}
-use Rattle.mx_outside.specs.Disks.{File, on_disk}
+use Rattle.mx_outside.specs.Disks.{File, synced_file}
 use Rattle.mx_fake.specs.FileMaps.{files_of}
 use Rattle.mx_fake.proofs.FileLaws.{changed_there, changed_none}
 use Rattle.mx_fake.proofs.files.Files.sync.Goals as goal
@@ -8,7 +8,7 @@ use Rattle.mx_fake.proofs.files.Files.sync.Goals.{in-Some, in_default}
 
 pub returns : goal.returns
 returns c =
-    let changes : File → File = λ file. on_disk file.bytes in
+    let changes : File → File = λ file. synced_file file.bytes in
     let stored = c.self.inside.stored in
     let name = c.args.name.now in
     elim c.match-get_mut.branch [

@@ -1,6 +1,6 @@
 use Rattle.std.proofs.Common.{◌≡◌, ℕ, ◌+◌, List, ◌++◌, take, drop, ap, sym, ◌∙◌}
 use Rattle.std.proofs.lemmas.List.{drop-drop}
-use Rattle.mx_fake.proofs.Fronts.{front_copied}
+use Rattle.mx_fake.proofs.Prefixes.{prefix_copied}
 use Rattle.mx_fake.proofs.source.MemorySourceSource.read.Goals as goal
 
 pub returns-clause-bytes : goal.returns-clause-bytes
@@ -11,7 +11,7 @@ returns-clause-bytes c =
     let bytes = c.args.self.now.bytes.items in
     let is : rest ≡ drop at bytes = cc (c.rest-rest.ensures) in
     let moved : drop count rest ≡ drop (at + count) bytes = ap (λ (l : List ℕ). drop count l) is ∙ drop-drop count at bytes in
-    let copied = front_copied rest c.args.into.now c.copy_from_slice.new.self count c.min-count.ensures c.copy_from_slice.ensures.after in (
+    let copied = prefix_copied rest c.args.into.now c.copy_from_slice.new.self count c.min-count.ensures c.copy_from_slice.ensures.after in (
       sym is ∙ copied.0 ∙ ap (λ (l : List ℕ). take count (c.copy_from_slice.new.self ++ drop count c.args.into.now) ++ l) moved,
       λ none room. sym moved ∙ copied.1 none room,
     )

@@ -1,6 +1,6 @@
 use Rattle.std.proofs.Common.{refl}
 use Rattle.mx_fake.proofs.TableLaws.{noted}
-use Rattle.mx_fake.proofs.tables.Tables.unsettle.Goals as goal
+use Rattle.mx_fake.proofs.tables.Tables.save.Goals as goal
 
 pub returns : goal.returns
 returns c disk is =
