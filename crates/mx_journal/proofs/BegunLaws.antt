@@ -3,27 +3,28 @@ use Rattle.std.proofs.Common.{◌≡◌, ◌⊎◌, inl, inr, ℕ, zero, suc, Li
 use Rattle.std.proofs.lemmas.List.{append-nil, drop_all}
 use Rattle.std.proofs.Math.Seq.{take-length}
 use mathlib.Core.Path.{subst}
-use Rattle.mx_outside.specs.Disks.{Disk, Files, IfTold, on_disk}
+use Rattle.mx_outside.specs.Disks.{Disk, Files, IfKnown, synced_file}
 use Rattle.mx_outside.specs.Moments.{Moments}
 use Rattle.mx_xlog.specs.declared.head.Head.{Head}
 use Rattle.mx_xlog.specs.Headers.{IsHead, header_of}
 use Rattle.mx_xlog.specs.Reading.{blocks_of}
 use Rattle.mx_xlog.proofs.ReadingLaws.{blocks_of_nothing}
-use Rattle.mx_model.specs.Files.{ReadsAs}
-use Rattle.mx_journal.specs.Fair.{IsFair, IsFairEnd}
+use Rattle.mx_xlog.specs.Files.{ReadsAs}
+use Rattle.mx_images.specs.Fair.{IsFair, IsFairEnd}
 use Rattle.mx_journal.specs.Crashes.{HasBegun, MayBegin, read_of}
 use Rattle.mx_journal.specs.Making.{HasMade, MayMakeFile}
-use Rattle.mx_journal.specs.Written.{IsNow, name_of}
-use Rattle.mx_journal.proofs.MomentLaws.{weaker}
+use Rattle.mx_journal.specs.Written.{name_of}
+use Rattle.mx_images.specs.Changes.{IsNow}
+use Rattle.mx_images.proofs.MomentLaws.{weaker}
 use Rattle.mx_journal.proofs.MakeLaws.{MakesFile}
-use Rattle.mx_journal.proofs.ToldLaws.{told_weaker}
+use Rattle.mx_images.proofs.ToldLaws.{told_weaker}
 
 take_none : (count : ℕ) → ◌≡◌ {A = List (List ℕ)} (take count []) []
 take_none zero = refl
 take_none (suc count) = refl
 
--- what a crash may leave behind a header has no block
-header_alone : (head : Head) (end : List ℕ) → IsHead head → IsFairEnd (on_disk (header_of head)) end
+-- what a crash may leave after a header has no block
+header_alone : (head : Head) (end : List ℕ) → IsHead head → IsFairEnd (synced_file (header_of head)) end
     → ReadsAs (header_of head ++ end) (Some (read_of head []))
 header_alone head end fits fair =
     let header = header_of head in
@@ -36,7 +37,7 @@ header_alone head end fits fair =
 
 has_begun : (head : Head) (disk : Disk) (image : Files) → IsHead head → HasMade (name_of head) (header_of head) disk image → HasBegun head disk image
 has_begun head disk image fits (was, fair, same, end, ends, is) =
-    (was, fair, same, (on_disk (header_of head ++ end), is, header_alone head end fits ends))
+    (was, fair, same, (synced_file (header_of head ++ end), is, header_alone head end fits ends))
 
 may_begin : (head : Head) (older newer : Disk) → IsHead head → MayMakeFile (name_of head) (header_of head) older newer → MayBegin head older newer
 may_begin head older newer fits may image fair = by_file (may image fair)
@@ -48,14 +49,14 @@ may_begin head older newer fits may image fair = by_file (may image fair)
 -- ---- the states of a directory
 
 pub begins_moments : (head : Head) (name bytes : List ℕ) (before after : Option (List Disk)) → IsHead head → name ≡ name_of head → bytes ≡ header_of head
-    → MakesFile name bytes before after → IfTold before (λ disk past. Moments (MayBegin head disk) (MayBegin head) after disk past)
+    → MakesFile name bytes before after → IfKnown before (λ disk past. Moments (MayBegin head disk) (MayBegin head) after disk past)
 begins_moments head name bytes before after fits named same makes =
     told_weaker before (λ disk past. weaker (λ newer. may_begin head disk newer fits) (λ older newer here. may_begin head older newer fits) after disk past)
     (subst (λ n. MakesFile n (header_of head) before after) named (subst (λ b. MakesFile name b before after) same makes))
 
 pub begun_there : (head : Head) (name bytes : List ℕ) (before after : Option (List Disk)) → IsHead head → name ≡ name_of head → bytes ≡ header_of head
-    → IfTold before (λ disk past. IsNow after (λ now. (image : Files) → IsFair now image → HasMade name bytes disk image))
-    → IfTold before (λ disk past. IsNow after (λ now. (image : Files) → IsFair now image → HasBegun head disk image))
+    → IfKnown before (λ disk past. IsNow after (λ now. (image : Files) → IsFair now image → HasMade name bytes disk image))
+    → IfKnown before (λ disk past. IsNow after (λ now. (image : Files) → IsFair now image → HasBegun head disk image))
 begun_there head name bytes before after fits named same = told_weaker before begun
   where
     begun : (disk : Disk) (past : List Disk) → IsNow after (λ now. (image : Files) → IsFair now image → HasMade name bytes disk image)

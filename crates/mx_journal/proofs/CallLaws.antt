@@ -7,20 +7,20 @@ use Rattle.std.specs.FinMap.{FinMap, get-insert}
 use Rattle.std.specs.Cmp.Lexicographic.{slice_cmp, nat_list_cmp_total}
 use Rattle.std.specs.Ordering.{nat_cmp}
 use Rattle.std.proofs.lemmas.Map.Text.{is_eq-slice_cmp}
-use Rattle.mx_outside.specs.Disks.{Disk, File, Files, IfTold, Became, Stayed, change_file, longer_by, on_disk, outcomes, or_none, appended, created, file_synced}
+use Rattle.mx_outside.specs.Disks.{Disk, File, Files, IfKnown, Became, Stayed, change_file, longer_by, synced_file, outcomes, or_none, appended, created, file_synced}
 use Rattle.mx_outside.specs.Moments.{Moments}
-use Rattle.mx_model.specs.Files.{same_bytes}
-use Rattle.mx_journal.specs.Fair.{counts}
-use Rattle.mx_journal.specs.Making.{CountsSame, extended}
-use Rattle.mx_journal.proofs.DiskLaws.{same_self, same_name, get_inserted}
-use Rattle.mx_journal.proofs.ToldLaws.{told_weaker}
-use Rattle.mx_journal.proofs.MomentLaws.{moments_may, moments_none, moments_one, moments_two, joined_from}
+use Rattle.mx_files.specs.Names.{same_bytes, counts}
+use Rattle.mx_journal.specs.Making.{CountsSame}
+use Rattle.mx_images.specs.Changes.{with_appended}
+use Rattle.mx_images.proofs.DiskLaws.{same_self, same_name, get_inserted}
+use Rattle.mx_images.proofs.ToldLaws.{told_weaker}
+use Rattle.mx_images.proofs.MomentLaws.{moments_may, moments_none, moments_one, moments_two, joined_from}
 
--- ---- bytes that were put behind the others, and not synced
+-- ---- bytes that were put after the others, and not synced
 
-pub not_synced : (name more : List ℕ) (before middle after : Option (List Disk)) → IfTold before (λ disk past. Became middle (appended name more disk) disk past)
-    → IfTold middle (λ disk past. Stayed after disk past)
-    → IfTold before (λ disk past. Stayed after disk past ⊎ ((count : ℕ) × Became after (appended name (take count more) disk) disk past))
+pub not_synced : (name more : List ℕ) (before middle after : Option (List Disk)) → IfKnown before (λ disk past. Became middle (appended name more disk) disk past)
+    → IfKnown middle (λ disk past. Stayed after disk past)
+    → IfKnown before (λ disk past. Stayed after disk past ⊎ ((count : ℕ) × Became after (appended name (take count more) disk) disk past))
 not_synced name more before middle after became stayed = told_weaker before all became
   where
     all : (disk : Disk) (past : List Disk) → Became middle (appended name more disk) disk past
@@ -74,7 +74,7 @@ same_outcomes other older newer now was =
 created_same : (name : List ℕ) (disk : Disk) → counts name ≡ false → CountsSame disk (created name disk)
 created_same name disk not other counting =
     let differs = differs_by_count other name counting not in
-    same_outcomes other disk (created name disk) (get_other disk.now name (on_disk []) other differs) (get_older disk.older name (outcomes name disk) other differs)
+    same_outcomes other disk (created name disk) (get_other disk.now name (synced_file []) other differs) (get_older disk.older name (outcomes name disk) other differs)
 
 appended_same : (name more : List ℕ) (disk : Disk) → counts name ≡ false → CountsSame disk (appended name more disk)
 appended_same name more disk not other counting =
@@ -83,7 +83,7 @@ appended_same name more disk not other counting =
 synced_same : (name : List ℕ) (disk : Disk) → counts name ≡ false → CountsSame disk (file_synced name disk)
 synced_same name disk not other counting =
     same_outcomes other disk (file_synced name disk)
-    (get_change_other (λ file. on_disk file.bytes) name disk.now other (differs_by_count other name counting not)) refl
+    (get_change_other (λ file. synced_file file.bytes) name disk.now other (differs_by_count other name counting not)) refl
 
 itself_same : (disk : Disk) → CountsSame disk disk
 itself_same disk other counting = refl
@@ -94,15 +94,15 @@ chain_same first second third one two other counting = two other counting ∙ on
 -- ---- a draft
 
 abbrev pub KeepsCounting : (before after : Option (List Disk)) → Type 0
-KeepsCounting before after = IfTold before (λ disk past. Moments (CountsSame disk) CountsSame after disk past)
+KeepsCounting before after = IfKnown before (λ disk past. Moments (CountsSame disk) CountsSame after disk past)
 
 pub drafting_begun : (name : List ℕ) (before after : Option (List Disk)) → counts name ≡ false
-    → IfTold before (λ disk past. Stayed after disk past ⊎ Became after (created name disk) disk past) → KeepsCounting before after
+    → IfKnown before (λ disk past. Stayed after disk past ⊎ Became after (created name disk) disk past) → KeepsCounting before after
 drafting_begun name before after not = told_weaker before (λ disk past.
     moments_may (CountsSame disk) CountsSame (created name disk) after disk past (created_same name disk not) (created_same name disk not))
 
 drafting_made : (name : List ℕ) (before after : Option (List Disk)) → counts name ≡ false
-    → IfTold before (λ disk past. Became after (created name disk) disk past) → KeepsCounting before after
+    → IfKnown before (λ disk past. Became after (created name disk) disk past) → KeepsCounting before after
 drafting_made name before after not = told_weaker before (λ disk past.
     moments_one (CountsSame disk) CountsSame (created name disk) after disk past (created_same name disk not) (created_same name disk not))
 
@@ -111,23 +111,23 @@ drafting_then before middle after = joined_from CountsSame itself_same chain_sam
 
 -- bytes were put there, and synced
 pub drafting_done : (name more : List ℕ) (before middle after : Option (List Disk)) → counts name ≡ false
-    → IfTold before (λ disk past. Became middle (created name disk) disk past)
-    → IfTold middle (λ disk past. after ≡ Some (extended name more disk ∷ appended name more disk ∷ disk ∷ past)) → KeepsCounting before after
+    → IfKnown before (λ disk past. Became middle (created name disk) disk past)
+    → IfKnown middle (λ disk past. after ≡ Some (with_appended name more disk ∷ appended name more disk ∷ disk ∷ past)) → KeepsCounting before after
 drafting_done name more before middle after not made all =
     drafting_then before middle after (drafting_made name before middle not made) (told_weaker middle then all)
   where
-    then : (disk : Disk) (past : List Disk) → after ≡ Some (extended name more disk ∷ appended name more disk ∷ disk ∷ past)
+    then : (disk : Disk) (past : List Disk) → after ≡ Some (with_appended name more disk ∷ appended name more disk ∷ disk ∷ past)
         → Moments (CountsSame disk) CountsSame after disk past
     then disk past =
         let first = appended_same name more disk not in
         let second = synced_same name (appended name more disk) not in
-        moments_two (CountsSame disk) CountsSame (appended name more disk) (extended name more disk) after disk past first first
-        (chain_same disk (appended name more disk) (extended name more disk) first second) second
+        moments_two (CountsSame disk) CountsSame (appended name more disk) (with_appended name more disk) after disk past first first
+        (chain_same disk (appended name more disk) (with_appended name more disk) first second) second
 
--- a front of the bytes at most was put there
+-- a prefix of the bytes at most was put there
 pub drafting_failed : (name more : List ℕ) (before middle after : Option (List Disk)) → counts name ≡ false
-    → IfTold before (λ disk past. Became middle (created name disk) disk past)
-    → IfTold middle (λ disk past. Stayed after disk past ⊎ ((count : ℕ) × Became after (appended name (take count more) disk) disk past))
+    → IfKnown before (λ disk past. Became middle (created name disk) disk past)
+    → IfKnown middle (λ disk past. Stayed after disk past ⊎ ((count : ℕ) × Became after (appended name (take count more) disk) disk past))
     → KeepsCounting before after
 drafting_failed name more before middle after not made some =
     drafting_then before middle after (drafting_made name before middle not made) (told_weaker middle then some)

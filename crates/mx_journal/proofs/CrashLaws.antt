@@ -1,4 +1,4 @@
--- What a crash leaves of a journal's file while bytes are put behind it.
+-- What a crash leaves of a journal's file while bytes are put after it.
 use Rattle.std.proofs.Common.{◌≡◌, ℕ, ◌+◌, ◌≤◌, ◌<◌, Bool, true, false, cond, List, [], ◌∷◌, ◌++◌, length, map, take, drop, Option, Some, None, Any, Result, Ok, Err, MatchResult, string_bytes, refl, sym, ap, ◌∙◌, append_assoc, arith, ◌⊎◌, inl, inr}
 use Rattle.std.specs.List.{AllByRecursion}
 use Rattle.std.proofs.lemmas.Bool.{cases_lt}
@@ -9,32 +9,34 @@ use Rattle.std.specs.FinMap as finite
 use Rattle.mx_msgpack.specs.Readers.{all_from}
 use Rattle.mx_msgpack.proofs.Options.{same_some}
 use Rattle.mx_msgpack.proofs.ReaderLaws.{all_from-append}
-use Rattle.mx_outside.specs.Disks.{File, Files, Disk, Leaves, IfTold, Became, Stayed, on_disk, outcomes, or_none, appended, longer_by}
+use Rattle.mx_outside.specs.Disks.{File, Files, Disk, Leaves, IfKnown, Became, Stayed, synced_file, outcomes, or_none, appended, longer_by}
 use Rattle.mx_outside.specs.Moments.{Moments}
 use Rattle.mx_xlog.specs.declared.head.Head.{Head}
 use Rattle.mx_xlog.specs.Headers.{IsHead, IsHeader, header_of}
 use Rattle.mx_xlog.specs.Blocks.{end_marker}
 use Rattle.mx_xlog.specs.Reading.{block_at, blocks_of}
 use Rattle.mx_xlog.proofs.ReadingLaws.{block_at-Advances, block_at-IsStable, blocks_of_nothing, blocks_of_marker}
-use Rattle.mx_model.specs.declared.tx.Tx.{Tx}
-use Rattle.mx_model.specs.Rows.{IsTransaction, transaction_text}
-use Rattle.mx_model.specs.Files.{ReadsAs, same_bytes}
-use Rattle.mx_model.proofs.TransactionLaws.{blocks_again}
+use Rattle.mx_row.specs.declared.tx.Tx.{Tx}
+use Rattle.mx_row.specs.Rows.{IsTransaction, transaction_text}
+use Rattle.mx_xlog.specs.Files.{ReadsAs}
+use Rattle.mx_files.specs.Names.{same_bytes}
+use Rattle.mx_journal.proofs.BlockLaws.{blocks_again, all_joined, blocks_text-append, nothing_waits}
 use Rattle.mx_journal.specs.declared.journal.Journal.{Journal}
-use Rattle.mx_journal.specs.Fair.{IsFairEnd, IsFair}
+use Rattle.mx_images.specs.Fair.{IsFairEnd, IsFair}
 use Rattle.mx_journal.specs.Crashes.{read_of, HasAtLeast, NoFewer}
-use Rattle.mx_journal.specs.Making.{AppendsSynced, Changed, extended}
-use Rattle.mx_journal.specs.Written.{IsNow, IsWritten, Waits, SameOthers, name_of, file_text, blocks_text}
-use Rattle.mx_journal.proofs.BlockLaws.{all_joined, blocks_text-append, nothing_waits}
-use Rattle.mx_journal.proofs.DiskLaws.{same_self, same_name, get_inserted, get_changed, only_one, first_one}
-use Rattle.mx_journal.proofs.MomentLaws.{moments_none, moments_one, moments_two}
-use Rattle.mx_journal.proofs.ToldLaws.{told_weaker, where_told, now_changed}
+use Rattle.mx_journal.specs.Making.{AppendsSynced}
+use Rattle.mx_images.specs.Changes.{Changed, with_appended, IsNow, SameOthers}
+use Rattle.mx_journal.specs.Written.{IsWritten, Waits, name_of, file_text, blocks_text}
+use Rattle.mx_images.proofs.DiskLaws.{same_self, same_name, get_inserted, get_changed, only_one, first_one}
+use Rattle.mx_images.proofs.MomentLaws.{moments_none, moments_one, moments_two}
+use Rattle.mx_images.proofs.ToldLaws.{told_weaker, where_told, now_changed}
 use Rattle.mx_journal.proofs.WrittenLaws.{bytes_extended, extended_as, others_extended}
-use Rattle.mx_journal.proofs.FairLaws.{fair_nothing, front_of_blocks, name_counts}
+use Rattle.mx_images.proofs.FairLaws.{fair_nothing, front_of_blocks}
+use Rattle.mx_journal.proofs.NameLaws.{name_counts}
 
--- ---- fronts of lists
+-- ---- prefixes of lists
 
--- a front of a front is a front
+-- a prefix of a prefix is a prefix
 two_fronts : {X : Type 0} (k n : ℕ) (xs : List X) → (m : ℕ) × (take k (take n xs) ≡ take m xs)
 two_fronts k n xs = by_less (cases_lt k n)
   where
@@ -42,7 +44,7 @@ two_fronts k n xs = by_less (cases_lt k n)
     by_less (inl less) = (k, take-take k n xs (omega arith))
     by_less (inr above) = (n, take_all k (take n xs) (omega (arith, length-take n xs)))
 
--- a front is the one of its own length
+-- a prefix is the one of its own length
 own_front : {X : Type 0} (m : ℕ) (xs ys : List X) → ys ≡ take m xs → (ys ≡ take (length ys) xs) × (length ys ≤ length xs)
 own_front m xs ys is = (
   is ∙ sym (take_min m xs) ∙ ap (λ n. take n xs) (sym (length-take m xs) ∙ sym (ap length is)),
@@ -58,14 +60,14 @@ blocks_first body end = (
   ap (λ (x : List (List ℕ) × List ℕ). x.0) (all_from-append block_at block_at-Advances block_at-IsStable body end),
 )
 
--- where a front of the bytes that follow was put behind them, the blocks are a front of all
+-- where a prefix of the bytes that follow was put after them, the blocks are a prefix of all
 front_put : (body more : List ℕ) (count : ℕ) (all : List (List ℕ)) → blocks_of (body ++ more) ≡ all
     → (n : ℕ) × (blocks_of (body ++ take count more) ≡ take n all)
 front_put body more count all is =
     let (n, front) = front_of_blocks (length body + count) (body ++ more) in
     (n, ap blocks_of (sym (take-append-add body more count)) ∙ front ∙ ap (take n) is)
 
--- a file of this header and body, which are on the disk, and of more bytes
+-- a file of this header and body, which are durable, and of more bytes
 abbrev pub kept : Head → List ℕ → List ℕ → File
 kept head body more = record { bytes = (header_of head ++ body) ++ more; synced = length (header_of head ++ body) }
 
@@ -84,10 +86,10 @@ FileHas head txs image = (file : File) × (image ≡ Some file) × ReadsAs file.
 abbrev HasSome : Head → List Tx → ℕ → Option File → Type 0
 HasSome head all least image = (count : ℕ) × (least ≤ count) × (count ≤ length all) × FileHas head (take count all) image
 
--- blocks that are a front of all transactions, and have the first ones
+-- blocks that are a prefix of all transactions, and have the first ones
 read_back : (head : Head) (body end : List ℕ) (txs all : List Tx) (m : ℕ) (image : Option File) → IsHead head
     → blocks_of body ≡ map transaction_text txs → blocks_of (body ++ end) ≡ take m (map transaction_text all)
-    → image ≡ Some (on_disk ((header_of head ++ body) ++ end)) → HasSome head all (length txs) image
+    → image ≡ Some (synced_file ((header_of head ++ body) ++ end)) → HasSome head all (length txs) image
 read_back head body end txs all m image fits first front is =
     let found = blocks_of (body ++ end) in
     let texts = map transaction_text all in
@@ -102,7 +104,7 @@ read_back head body end txs all m image fits first front is =
       length found,
       omega (arith, long),
       omega (arith, short, total),
-      (on_disk ((header_of head ++ body) ++ end), is, (header_is head body end fits, blocks)),
+      (synced_file ((header_of head ++ body) ++ end), is, (header_is head body end fits, blocks)),
     )
 
 -- what a crash leaves of such a file
@@ -118,19 +120,19 @@ file_left head body more txs all n image fits first front (end, fair, is) =
     let seen : blocks_of (body ++ end) ≡ take m texts =
     ap blocks_of (sym (behind_header head body end)) ∙ ap (λ front. blocks_of (drop (length (header_of head)) (front ++ end))) (sym synced)
     ∙ read ∙ ap (λ bytes. take k (blocks_of bytes)) (behind_header head body more) ∙ ap (take k) front ∙ both in
-    read_back head body end txs all m image fits first seen (is ∙ ap (λ front. Some (on_disk (front ++ end))) synced)
+    read_back head body end txs all m image fits first seen (is ∙ ap (λ front. Some (synced_file (front ++ end))) synced)
 
 -- ---- a directory with such a file
 
--- the journal's file has this body on the disk, and more bytes, and its name is on the disk
+-- this body of the journal's file is durable, and so is its name; more bytes follow
 pub record Keeps (head : Head) (body more : List ℕ) (disk : Disk) : Type 0 where
   pub file : finite.get disk.now (name_of head) ≡ Some (kept head body more)
-  pub settled : finite.get disk.older (name_of head) ≡ None
+  pub no_older : finite.get disk.older (name_of head) ≡ None
 
 -- it is nothing else after a crash
 one_outcome : (head : Head) (body more : List ℕ) (disk : Disk) → Keeps head body more disk → outcomes (name_of head) disk ≡ Some (kept head body more) ∷ []
 one_outcome head body more disk keeps =
-    ap (λ file. file ∷ or_none (finite.get disk.older (name_of head))) keeps.file ∙ ap (λ older. Some (kept head body more) ∷ or_none older) keeps.settled
+    ap (λ file. file ∷ or_none (finite.get disk.older (name_of head))) keeps.file ∙ ap (λ older. Some (kept head body more) ∷ or_none older) keeps.no_older
 
 pub left_at_least : (head : Head) (body more : List ℕ) (txs all : List Tx) (n : ℕ) (disk : Disk) → IsHead head
     → blocks_of body ≡ map transaction_text txs → blocks_of (body ++ more) ≡ take n (map transaction_text all) → Keeps head body more disk
@@ -147,9 +149,9 @@ same_outcomes : (name q : List ℕ) (older newer : Disk) → SameOthers name old
 same_outcomes name q older newer same differs =
     ap (λ file. file ∷ or_none (finite.get newer.older q)) (same.files q differs) ∙ ap (λ files. finite.get older.now q ∷ or_none (finite.get files q)) same.older
 
--- the files with the journal's one as it is on the disk
+-- the files, of the journal's file only what is durable
 abbrev put_back : Head → List ℕ → Files → Files
-put_back head body image = finite.insert image (name_of head) (on_disk (header_of head ++ body))
+put_back head body image = finite.insert image (name_of head) (synced_file (header_of head ++ body))
 
 -- a crash might have left them before
 fair_back : (head : Head) (body more : List ℕ) (older newer : Disk) (image : Files) → Keeps head body more older
@@ -157,8 +159,8 @@ fair_back : (head : Head) (body more : List ℕ) (older newer : Disk) (image : F
 fair_back head body more older newer image keeps same fair q counted = by_name (same_bytes q (name_of head)) refl
   where
     got : finite.get (put_back head body image) q
-        ≡ cond (same_bytes q (name_of head)) (Some (on_disk (header_of head ++ body))) (finite.get image q)
-    got = get_inserted image (name_of head) (on_disk (header_of head ++ body)) q
+        ≡ cond (same_bytes q (name_of head)) (Some (synced_file (header_of head ++ body))) (finite.get image q)
+    got = get_inserted image (name_of head) (synced_file (header_of head ++ body)) q
 
     synced : take (length (header_of head ++ body)) ((header_of head ++ body) ++ more) ++ [] ≡ header_of head ++ body
     synced =
@@ -170,20 +172,20 @@ fair_back head body more older newer image keeps same fair q counted = by_name (
     by_name true is =
         let left = λ (was : Option File). Leaves IsFairEnd was (finite.get (put_back head body image) q) in
         let alone = ap (λ name. outcomes name older) (same_name q (name_of head) is) ∙ one_outcome head body more older keeps in
-        let now = got ∙ ap (λ b. cond b (Some (on_disk (header_of head ++ body))) (finite.get image q)) is
-        ∙ ap (λ bytes. Some (on_disk bytes)) (sym synced) in
+        let now = got ∙ ap (λ b. cond b (Some (synced_file (header_of head ++ body))) (finite.get image q)) is
+        ∙ ap (λ bytes. Some (synced_file bytes)) (sym synced) in
         subst (Any left) (sym alone) (first_one left (Some (kept head body more)) [] ([], fair_nothing (kept head body more), now))
     by_name false differs =
-        let now = got ∙ ap (λ b. cond b (Some (on_disk (header_of head ++ body))) (finite.get image q)) differs in
+        let now = got ∙ ap (λ b. cond b (Some (synced_file (header_of head ++ body))) (finite.get image q)) differs in
         subst (λ file. Any (λ was. Leaves IsFairEnd was file) (outcomes q older)) (sym now)
         (subst (Any (λ was. Leaves IsFairEnd was (finite.get image q))) (same_outcomes (name_of head) q older newer same differs) (fair q counted))
 
--- a bound is no more than what the file has on the disk
+-- a bound is at most what is durable of the file
 bounded : (head : Head) (body : List ℕ) (txs all : List Tx) (least : ℕ) (disk : Disk) (files : Files) → blocks_of body ≡ map transaction_text txs
-    → HasAtLeast head all least disk → IsFair disk files → finite.get files (name_of head) ≡ Some (on_disk (header_of head ++ body)) → least ≤ length txs
+    → HasAtLeast head all least disk → IsFair disk files → finite.get files (name_of head) ≡ Some (synced_file (header_of head ++ body)) → least ≤ length txs
 bounded head body txs all least disk files first has fair is =
     let (count, enough, short, (file, found, (header, read))) = has files fair in
-    let same : file ≡ on_disk (header_of head ++ body) = same_some file (on_disk (header_of head ++ body)) (sym found ∙ is) in
+    let same : file ≡ synced_file (header_of head ++ body) = same_some file (synced_file (header_of head ++ body)) (sym found ∙ is) in
     let blocks : map transaction_text (take count all) ≡ map transaction_text txs =
     read ∙ ap (λ (f : File). blocks_of (drop (length (header_of head)) f.bytes)) same
     ∙ ap blocks_of (drop_at (header_of head) body (length (header_of head)) refl) ∙ first in
@@ -191,11 +193,11 @@ bounded head body txs all least disk files first has fair is =
     sym (length-map (take count all) transaction_text) ∙ ap length blocks ∙ length-map txs transaction_text in
     omega (arith, enough, short, long, length-take count all)
 
--- where the newer file has those that are on the disk of the older one, each bound still holds
+-- where the newer file has those that are durable of the older one, each bound still holds
 pub no_fewer : (head : Head) (body more : List ℕ) (txs all : List Tx) (older newer : Disk) → blocks_of body ≡ map transaction_text txs
     → Keeps head body more older → SameOthers (name_of head) older newer → HasAtLeast head all (length txs) newer → NoFewer head all older newer
 no_fewer head body more txs all older newer first keeps same now least before image fair =
-    let file = on_disk (header_of head ++ body) in
+    let file = synced_file (header_of head ++ body) in
     let there : finite.get (put_back head body image) (name_of head) ≡ Some file =
     get_inserted image (name_of head) file (name_of head) ∙ ap (λ b. cond b (Some file) (finite.get image (name_of head))) (same_self (name_of head)) in
     let below = bounded head body txs all least older (put_back head body image) first before
@@ -208,21 +210,21 @@ at_least_weaker head all least fewer disk less has image fair =
     let (count, enough, short, there) = has image fair in
     (count, omega (arith, less, enough), short, there)
 
--- ---- bytes that are put behind a journal's file
+-- ---- bytes that are put after a journal's file
 
--- the file has these transactions and all of it is on the disk, and with these bytes more it has all of those
+-- the file has these transactions and all of it is durable, and with these bytes more it has all of those
 pub record Puts (head : Head) (more : List ℕ) (txs all : List Tx) (disk : Disk) : Type 0 where
   pub fits : IsHead head
-  pub file : finite.get disk.now (name_of head) ≡ Some (on_disk (file_text head txs))
-  pub settled : finite.get disk.older (name_of head) ≡ None
+  pub file : finite.get disk.now (name_of head) ≡ Some (synced_file (file_text head txs))
+  pub no_older : finite.get disk.older (name_of head) ≡ None
   pub before : blocks_of (blocks_text txs) ≡ map transaction_text txs
   pub after : blocks_of (blocks_text txs ++ more) ≡ map transaction_text all
 
-keeps_synced : (head : Head) (body : List ℕ) (disk : Disk) → finite.get disk.now (name_of head) ≡ Some (on_disk (header_of head ++ body))
+keeps_synced : (head : Head) (body : List ℕ) (disk : Disk) → finite.get disk.now (name_of head) ≡ Some (synced_file (header_of head ++ body))
     → finite.get disk.older (name_of head) ≡ None → Keeps head body [] disk
-keeps_synced head body disk file settled = record {
+keeps_synced head body disk file no_older = record {
   file = file ∙ ap (λ bytes. Some (record { bytes = bytes; synced = length (header_of head ++ body) })) (sym (append-nil (header_of head ++ body)));
-  settled = settled;
+  no_older = no_older;
 }
 
 others_appended : (name more : List ℕ) (disk : Disk) (file : File) → finite.get disk.now name ≡ Some file → SameOthers name disk (appended name more disk)
@@ -234,7 +236,7 @@ others_appended name more disk file is = record {
 
 -- syncing changes no other file
 others_synced : (name more : List ℕ) (disk : Disk) (file : File) → finite.get disk.now name ≡ Some file
-    → SameOthers name (appended name more disk) (extended name more disk)
+    → SameOthers name (appended name more disk) (with_appended name more disk)
 others_synced name more disk file is = record {
   files = λ other differs. (others_extended name more disk file is).files other differs ∙ sym ((others_appended name more disk file is).files other differs);
   older = refl;
@@ -253,13 +255,13 @@ module _ (head : Head) (more : List ℕ) (txs all : List Tx) (disk : Disk) (puts
       omega (arith, long)
 
   keeps_before : Keeps head body [] disk
-  keeps_before = keeps_synced head body disk puts.file puts.settled
+  keeps_before = keeps_synced head body disk puts.file puts.no_older
 
   keeps_appended : (front : List ℕ) → Keeps head body front (appended (name_of head) front disk)
   keeps_appended front = record {
-    file = get_changed (longer_by front) (name_of head) disk.now (on_disk (file_text head txs)) (name_of head) puts.file
+    file = get_changed (longer_by front) (name_of head) disk.now (synced_file (file_text head txs)) (name_of head) puts.file
         ∙ ap (λ same. cond same (Some (kept head body front)) (finite.get disk.now (name_of head))) (same_self (name_of head));
-    settled = puts.settled;
+    no_older = puts.no_older;
   }
 
   -- nothing was put
@@ -268,7 +270,7 @@ module _ (head : Head) (more : List ℕ) (txs all : List Tx) (disk : Disk) (puts
       let (n, front) = front_put body more 0 (map transaction_text all) puts.after in
       left_at_least head body [] txs all n disk puts.fits puts.before front keeps_before
 
-  -- a front of the bytes was put
+  -- a prefix of the bytes was put
   pub has_between : (count : ℕ) → HasAtLeast head all (length txs) (appended (name_of head) (take count more) disk)
   has_between count =
       let (n, front) = front_put body more count (map transaction_text all) puts.after in
@@ -283,14 +285,14 @@ module _ (head : Head) (more : List ℕ) (txs all : List Tx) (disk : Disk) (puts
       (puts.after ∙ sym (take_all (length texts) texts (omega arith))) (keeps_appended more)
 
   -- and synced
-  pub has_all : HasAtLeast head all (length all) (extended (name_of head) more disk)
+  pub has_all : HasAtLeast head all (length all) (with_appended (name_of head) more disk)
   has_all =
       let texts = map transaction_text all in
       let file = bytes_extended (name_of head) more (file_text head txs) disk puts.file
-      ∙ ap (λ bytes. Some (on_disk bytes)) (append_assoc (header_of head) body more) in
-      left_at_least head (body ++ more) [] all all (length texts) (extended (name_of head) more disk) puts.fits puts.after
+      ∙ ap (λ bytes. Some (synced_file bytes)) (append_assoc (header_of head) body more) in
+      left_at_least head (body ++ more) [] all all (length texts) (with_appended (name_of head) more disk) puts.fits puts.after
       (ap blocks_of (append-nil (body ++ more)) ∙ puts.after ∙ sym (take_all (length texts) texts (omega arith)))
-      (keeps_synced head (body ++ more) (extended (name_of head) more disk) file puts.settled)
+      (keeps_synced head (body ++ more) (with_appended (name_of head) more disk) file puts.no_older)
 
   -- the states in between: no other file changes, and this one has no fewer each time
   abbrev pub Grows : Option (List Disk) → List Disk → Type 0
@@ -304,16 +306,16 @@ module _ (head : Head) (more : List ℕ) (txs all : List Tx) (disk : Disk) (puts
       → Became after (appended (name_of head) (take count more) disk) disk past → Grows after past
   grew_some count after past became =
       let next = appended (name_of head) (take count more) disk in
-      let others = others_appended (name_of head) (take count more) disk (on_disk (file_text head txs)) puts.file in
+      let others = others_appended (name_of head) (take count more) disk (synced_file (file_text head txs)) puts.file in
       moments_one _ _ next after disk past (others, has_between count)
       (no_fewer head body [] txs all disk next puts.before keeps_before others (has_between count)) became
 
   pub grew_all : (after : Option (List Disk)) (past : List Disk)
-      → after ≡ Some (extended (name_of head) more disk ∷ appended (name_of head) more disk ∷ disk ∷ past) → Grows after past
+      → after ≡ Some (with_appended (name_of head) more disk ∷ appended (name_of head) more disk ∷ disk ∷ past) → Grows after past
   grew_all after past told =
-      let file = on_disk (file_text head txs) in
+      let file = synced_file (file_text head txs) in
       let next = appended (name_of head) more disk in
-      let last = extended (name_of head) more disk in
+      let last = with_appended (name_of head) more disk in
       let others = others_appended (name_of head) more disk file puts.file in
       let has = at_least_weaker head all (length all) (length txs) last no_less has_all in
       moments_two _ _ next last after disk past (others, has_appended)
@@ -322,12 +324,12 @@ module _ (head : Head) (more : List ℕ) (txs all : List Tx) (disk : Disk) (puts
       (no_fewer head body more txs all next last puts.before (keeps_appended more) (others_synced (name_of head) more disk file puts.file) has) told
 
   pub grew : {T E : Type 0} (wanted bytes : List ℕ) (after : Option (List Disk)) (past : List Disk) (result : Result T E) → wanted ≡ name_of head → bytes ≡ more
-      → MatchResult result (λ value. after ≡ Some (extended wanted bytes disk ∷ appended wanted bytes disk ∷ disk ∷ past))
+      → MatchResult result (λ value. after ≡ Some (with_appended wanted bytes disk ∷ appended wanted bytes disk ∷ disk ∷ past))
       (λ error. Stayed after disk past ⊎ ((count : ℕ) × Became after (appended wanted (take count bytes) disk) disk past))
       → Grows after past
   grew wanted bytes after past (Ok value) named same told =
-      grew_all after past (told ∙ ap (λ n. Some (extended n bytes disk ∷ appended n bytes disk ∷ disk ∷ past)) named
-      ∙ ap (λ b. Some (extended (name_of head) b disk ∷ appended (name_of head) b disk ∷ disk ∷ past)) same)
+      grew_all after past (told ∙ ap (λ n. Some (with_appended n bytes disk ∷ appended n bytes disk ∷ disk ∷ past)) named
+      ∙ ap (λ b. Some (with_appended (name_of head) b disk ∷ appended (name_of head) b disk ∷ disk ∷ past)) same)
   grew wanted bytes after past (Err error) named same (inl stayed) = grew_none after past stayed
   grew wanted bytes after past (Err error) named same (inr (count, became)) =
       grew_some count after past (became ∙ ap (λ n. Some (appended n (take count bytes) disk ∷ disk ∷ past)) named
@@ -345,7 +347,7 @@ pub puts_waiting : (journal : Journal) (disk : Disk) (txs waits : List Tx) → I
 puts_waiting journal disk txs waits written waiting = record {
   fits = written.fits;
   file = written.file;
-  settled = written.settled;
+  no_older = written.no_older;
   before = alone txs written.sound;
   after = ap (λ bytes. blocks_of (blocks_text txs ++ bytes)) waiting.bytes ∙ ap blocks_of (sym (blocks_text-append txs waits))
       ∙ alone (txs ++ waits) (all_joined txs waits written.sound waiting.sound);
@@ -356,14 +358,14 @@ pub puts_marker : (journal : Journal) (disk : Disk) (txs : List Tx) → IsWritte
 puts_marker journal disk txs written = record {
   fits = written.fits;
   file = written.file;
-  settled = written.settled;
+  no_older = written.no_older;
   before = alone txs written.sound;
   after = blocks_again txs end_marker written.sound blocks_of_marker;
 }
 
 pub wrote_moments : {T E : Type 0} (journal : Journal) (name bytes : List ℕ) (before after : Option (List Disk)) (result : Result T E) (txs waits : List Tx)
     → name ≡ string_bytes journal.name → bytes ≡ journal.waiting → AppendsSynced name bytes before after result
-    → IfTold before (λ disk past. IsWritten journal disk txs → Waits journal waits
+    → IfKnown before (λ disk past. IsWritten journal disk txs → Waits journal waits
     → Moments (λ now. SameOthers (name_of journal.head) disk now × HasAtLeast journal.head (txs ++ waits) (length txs) now)
     (NoFewer journal.head (txs ++ waits)) after disk past)
 wrote_moments journal name bytes before after result txs waits named same =
@@ -373,7 +375,7 @@ wrote_moments journal name bytes before after result txs waits named same =
 
 pub ended_moments : {T E : Type 0} (journal : Journal) (name bytes : List ℕ) (before after : Option (List Disk)) (result : Result T E) (txs : List Tx)
     → name ≡ string_bytes journal.name → bytes ≡ end_marker → AppendsSynced name bytes before after result
-    → IfTold before (λ disk past. IsWritten journal disk txs
+    → IfKnown before (λ disk past. IsWritten journal disk txs
     → Moments (λ now. SameOthers (name_of journal.head) disk now × HasAtLeast journal.head txs (length txs) now) (NoFewer journal.head txs) after disk past)
 ended_moments journal name bytes before after result txs named same =
     told_weaker before (λ disk past appends written.
@@ -385,8 +387,8 @@ counted journal disk txs waits written waiting =
     waiting.pushed ∙ ap (λ n. n + length waits) written.synced ∙ sym (length-append txs waits)
 
 pub wrote_synced : (journal : Journal) (name bytes : List ℕ) (before after : Option (List Disk)) (count : ℕ) (txs waits : List Tx)
-    → name ≡ string_bytes journal.name → bytes ≡ journal.waiting → count ≡ journal.pushed → Changed (extended name bytes) before after
-    → IfTold before (λ disk past. IsWritten journal disk txs → Waits journal waits
+    → name ≡ string_bytes journal.name → bytes ≡ journal.waiting → count ≡ journal.pushed → Changed (with_appended name bytes) before after
+    → IfKnown before (λ disk past. IsWritten journal disk txs → Waits journal waits
     → (count ≡ length (txs ++ waits)) × IsNow after (HasAtLeast journal.head (txs ++ waits) count))
 wrote_synced journal name bytes before after count txs waits named same pushed =
     told_weaker before (λ disk past changed written waiting.
@@ -394,13 +396,13 @@ wrote_synced journal name bytes before after count txs waits named same pushed =
     let is = extended_as name (name_of journal.head) bytes journal.waiting disk (named ∙ written.named) same in
     let has = has_all journal.head journal.waiting txs (txs ++ waits) disk (puts_waiting journal disk txs waits written waiting) in (
       total,
-      now_changed (extended name bytes disk) after changed
-          (subst (λ n. HasAtLeast journal.head (txs ++ waits) n (extended name bytes disk)) (sym total)
+      now_changed (with_appended name bytes disk) after changed
+          (subst (λ n. HasAtLeast journal.head (txs ++ waits) n (with_appended name bytes disk)) (sym total)
           (subst (HasAtLeast journal.head (txs ++ waits) (length (txs ++ waits))) (sym is) has)),
     ))
 
 pub caught_up_synced : (journal : Journal) (states : Option (List Disk)) (count : ℕ) (txs waits : List Tx) → journal.waiting ≡ [] → count ≡ journal.pushed
-    → IfTold states (λ disk past. IsWritten journal disk txs → Waits journal waits
+    → IfKnown states (λ disk past. IsWritten journal disk txs → Waits journal waits
     → (count ≡ length (txs ++ waits)) × IsNow states (HasAtLeast journal.head (txs ++ waits) count))
 caught_up_synced journal states count txs waits none pushed =
     where_told states _ (λ disk past told written waiting.

@@ -9,18 +9,17 @@ use Rattle.std.specs.FinMap as finite
 use Rattle.std.specs.FinMap.{get-empty}
 use Rattle.std.specs.Cmp.Lexicographic.{slice_cmp}
 use Rattle.std.specs.Ordering.{nat_cmp}
-use Rattle.mx_outside.specs.Disks.{Disk, File, Files, IfTold, ToldAlike, Became, Stayed, Leaves, on_disk, outcomes, or_none, names_synced, renamed, unsettled}
+use Rattle.mx_outside.specs.Disks.{Disk, File, Files, IfKnown, KnownAlike, Became, Stayed, Leaves, synced_file, outcomes, or_none, names_synced, renamed, unsynced}
 use Rattle.mx_outside.specs.Moments.{Moments}
-use Rattle.mx_model.specs.Files.{draft_ending, is_numbered, is_snapshot, same_bytes}
-use Rattle.mx_journal.specs.Fair.{counts, IsFair, IsFairEnd}
-use Rattle.mx_journal.specs.Crashes.{SameBut}
-use Rattle.mx_journal.specs.Making.{Changed, CountsSame, HasMade, MayMakeFile, drafted, settled}
-use Rattle.mx_journal.specs.Written.{IsNow}
+use Rattle.mx_files.specs.Names.{draft_ending, is_numbered, is_snapshot, same_bytes, counts}
+use Rattle.mx_images.specs.Fair.{IsFair, IsFairEnd}
+use Rattle.mx_images.specs.Changes.{SameBut, Changed, with_draft, renamed_durably, IsNow}
+use Rattle.mx_journal.specs.Making.{CountsSame, HasMade, MayMakeFile}
 use Rattle.mx_journal.proofs.CallLaws.{KeepsCounting, differs_by_count, get_older, get_older_itself, same_outcomes}
-use Rattle.mx_journal.proofs.DiskLaws.{same_name, get_inserted, get_removed, get_drafted, get_moved, get_made, at_itself, only_one, first_one}
-use Rattle.mx_journal.proofs.FairLaws.{fair_nothing}
-use Rattle.mx_journal.proofs.MomentLaws.{moments_may, moments_two, joined_from, weaker}
-use Rattle.mx_journal.proofs.ToldLaws.{told_weaker, told_both, told_after, told_nothing, now_changed}
+use Rattle.mx_images.proofs.DiskLaws.{same_name, get_inserted, get_removed, get_drafted, get_moved, get_made, at_itself, only_one, first_one}
+use Rattle.mx_images.proofs.FairLaws.{fair_nothing}
+use Rattle.mx_images.proofs.MomentLaws.{moments_may, moments_two, joined_from, weaker}
+use Rattle.mx_images.proofs.ToldLaws.{told_weaker, told_both, told_after, told_nothing, now_changed}
 
 -- ---- a draft's name never counts
 
@@ -55,19 +54,19 @@ first_or_later : (P : Option File → Type 0) (first : Option File) (others : Li
 first_or_later P first others (zero, file, inside, is, here) = inl (subst P (sym is) here)
 first_or_later P first others (suc place, file, inside, is, here) = inr (place, file, omega (arith, inside), is, here)
 
--- where all names are on the disk, a name may be only what it is
+-- where all names are durable, a name may be only what it is
 alone : (name : List ℕ) (disk : Disk) → outcomes name (names_synced disk) ≡ finite.get disk.now name ∷ []
 alone name disk = ap (λ older. finite.get disk.now name ∷ or_none older) (get-empty (slice_cmp nat_cmp) name)
 
 -- the files with the least that a crash leaves of this name, where it was this
 abbrev least : List ℕ → Option File → Files → Files
 least name None files = finite.remove files name
-least name (Some file) files = finite.insert files name (on_disk (take file.synced file.bytes ++ []))
+least name (Some file) files = finite.insert files name (synced_file (take file.synced file.bytes ++ []))
 
 least_fair : (name : List ℕ) (was : Option File) (files : Files) → Fair (least name was files) name was
 least_fair name None files = get_removed files name name ∙ at_itself name None (finite.get files name)
 least_fair name (Some file) files =
-    let left = on_disk (take file.synced file.bytes ++ []) in
+    let left = synced_file (take file.synced file.bytes ++ []) in
     ([], fair_nothing file, get_inserted files name left name ∙ at_itself name (Some left) (finite.get files name))
 
 least_other : (name : List ℕ) (was : Option File) (files : Files) (other : List ℕ) → same_bytes other name ≡ false
@@ -75,13 +74,13 @@ least_other : (name : List ℕ) (was : Option File) (files : Files) (other : Lis
 least_other name None files other differs =
     get_removed files name other ∙ ap (λ same. cond same None (finite.get files other)) differs
 least_other name (Some file) files other differs =
-    let left = on_disk (take file.synced file.bytes ++ []) in
+    let left = synced_file (take file.synced file.bytes ++ []) in
     get_inserted files name left other ∙ ap (λ same. cond same (Some left) (finite.get files other)) differs
 
 -- where a crash might have left all names but one, and leaves the new file at that one
 made_from : (name bytes : List ℕ) (older : Disk) (image : Files)
     → ((other : List ℕ) → counts other ≡ true → same_bytes other name ≡ false → Any (Fair image other) (outcomes other older))
-    → Fair image name (Some (on_disk bytes)) → HasMade name bytes older image
+    → Fair image name (Some (synced_file bytes)) → HasMade name bytes older image
 made_from name bytes older image others (end, fair, is) =
     let found = finite.get older.now name in
     let was = least name found image in (
@@ -90,7 +89,7 @@ made_from name bytes older image others (end, fair, is) =
       λ other counting differs. sym (least_other name found image other differs),
       end,
       fair,
-      is ∙ ap (λ front. Some (on_disk (front ++ end))) (take-length bytes),
+      is ∙ ap (λ front. Some (synced_file (front ++ end))) (take-length bytes),
     )
   where
     itself : Any (Fair (least name (finite.get older.now name) image) name) (outcomes name older)
@@ -114,7 +113,7 @@ chain_may : (name bytes : List ℕ) (first second third : Disk) → MayMakeFile 
 chain_may name bytes first second third one two image fair = by_second (two image fair)
   where
     by_first : (was : Files) → IsFair first was ⊎ HasMade name bytes first was → SameBut name was image
-        → (end : List ℕ) → IsFairEnd (on_disk bytes) end → finite.get image name ≡ Some (on_disk (bytes ++ end))
+        → (end : List ℕ) → IsFairEnd (synced_file bytes) end → finite.get image name ≡ Some (synced_file (bytes ++ end))
         → IsFair first image ⊎ HasMade name bytes first image
     by_first was (inl fair) same end ends is = inr (was, fair, same, end, ends, is)
     by_first was (inr (before, fair, earlier, left, lefts, had)) same end ends is =
@@ -139,7 +138,7 @@ renamed_other from to disk file other is apart away =
     (get_moved from to disk.now file other is
     ∙ ap (λ same. cond same (Some file) (cond (same_bytes other from) None (finite.get disk.now other))) apart
     ∙ ap (λ same. cond same None (finite.get disk.now other)) away)
-    (get_older (unsettled from disk).older to (outcomes to (unsettled from disk)) other apart
+    (get_older (unsynced from disk).older to (outcomes to (unsynced from disk)) other apart
     ∙ get_older disk.older from (outcomes from disk) other away)
 
 renamed_itself : (from to : List ℕ) (disk : Disk) (file : File) → finite.get disk.now from ≡ Some file → same_bytes to from ≡ false
@@ -147,21 +146,21 @@ renamed_itself : (from to : List ℕ) (disk : Disk) (file : File) → finite.get
 renamed_itself from to disk file is away =
     let now : finite.get (renamed from to disk).now to ≡ Some file =
     get_moved from to disk.now file to is ∙ at_itself to (Some file) (cond (same_bytes to from) None (finite.get disk.now to)) in
-    let before : outcomes to (unsettled from disk) ≡ outcomes to disk =
-    same_outcomes to disk (unsettled from disk) refl (get_older disk.older from (outcomes from disk) to away) in
-    let was : finite.get (renamed from to disk).older to ≡ Some (outcomes to (unsettled from disk)) =
-    get_older_itself (unsettled from disk).older to (outcomes to (unsettled from disk)) in
+    let before : outcomes to (unsynced from disk) ≡ outcomes to disk =
+    same_outcomes to disk (unsynced from disk) refl (get_older disk.older from (outcomes from disk) to away) in
+    let was : finite.get (renamed from to disk).older to ≡ Some (outcomes to (unsynced from disk)) =
+    get_older_itself (unsynced from disk).older to (outcomes to (unsynced from disk)) in
     ap (λ found. found ∷ or_none (finite.get (renamed from to disk).older to)) now
     ∙ ap (λ files. Some file ∷ or_none files) was ∙ ap (λ files. Some file ∷ files) before
 
--- a draft that is on the disk gets the name
-renamed_may : (draft name bytes : List ℕ) (disk : Disk) → counts draft ≡ false → finite.get disk.now draft ≡ Some (on_disk bytes)
+-- a draft that is durable gets the name
+renamed_may : (draft name bytes : List ℕ) (disk : Disk) → counts draft ≡ false → finite.get disk.now draft ≡ Some (synced_file bytes)
     → MayMakeFile name bytes disk (renamed draft name disk)
 renamed_may draft name bytes disk not is image fair = by_count (counts name) refl
   where
     others : (other : List ℕ) → counts other ≡ true → same_bytes other name ≡ false → Any (Fair image other) (outcomes other disk)
     others other counting differs =
-        subst (Any (Fair image other)) (renamed_other draft name disk (on_disk bytes) other is differs (differs_by_count other draft counting not))
+        subst (Any (Fair image other)) (renamed_other draft name disk (synced_file bytes) other is differs (differs_by_count other draft counting not))
         (fair other counting)
 
     by_name : Any (Fair image name) (outcomes name disk) → (other : List ℕ) → counts other ≡ true → (same : Bool) → same_bytes other name ≡ same
@@ -169,33 +168,33 @@ renamed_may draft name bytes disk not is image fair = by_count (counts name) ref
     by_name before other counting true same = subst (λ q. Any (Fair image q) (outcomes q disk)) (sym (same_name other name same)) before
     by_name before other counting false differs = others other counting differs
 
-    by_first : Fair image name (Some (on_disk bytes)) ⊎ Any (Fair image name) (outcomes name disk) → IsFair disk image ⊎ HasMade name bytes disk image
+    by_first : Fair image name (Some (synced_file bytes)) ⊎ Any (Fair image name) (outcomes name disk) → IsFair disk image ⊎ HasMade name bytes disk image
     by_first (inl made) = inr (made_from name bytes disk image others made)
     by_first (inr before) = inl (λ other counting. by_name before other counting (same_bytes other name) refl)
 
     by_count : (counting : Bool) → counts name ≡ counting → IsFair disk image ⊎ HasMade name bytes disk image
     by_count false none = inl (λ other counting. others other counting (differs_by_count other name counting none))
     by_count true counting =
-        by_first (first_or_later (Fair image name) (Some (on_disk bytes)) (outcomes name disk)
-        (subst (Any (Fair image name)) (renamed_itself draft name disk (on_disk bytes) is (differs_by_count name draft counting not)) (fair name counting)))
+        by_first (first_or_later (Fair image name) (Some (synced_file bytes)) (outcomes name disk)
+        (subst (Any (Fair image name)) (renamed_itself draft name disk (synced_file bytes) is (differs_by_count name draft counting not)) (fair name counting)))
 
 -- the file is there, whatever a crash leaves
 made_there : (draft name bytes : List ℕ) (disk : Disk) → counts draft ≡ false → counts name ≡ true → (image : Files)
-    → IsFair (settled draft name (drafted draft bytes disk)) image → HasMade name bytes disk image
+    → IsFair (renamed_durably draft name (with_draft draft bytes disk)) image → HasMade name bytes disk image
 made_there draft name bytes disk not counting image fair =
     made_from name bytes disk image others
-    (subst (Fair image name) (get_made draft name bytes disk name ∙ at_itself name (Some (on_disk bytes)) _) (now name counting))
+    (subst (Fair image name) (get_made draft name bytes disk name ∙ at_itself name (Some (synced_file bytes)) _) (now name counting))
   where
-    now : (other : List ℕ) → counts other ≡ true → Fair image other (finite.get (settled draft name (drafted draft bytes disk)).now other)
+    now : (other : List ℕ) → counts other ≡ true → Fair image other (finite.get (renamed_durably draft name (with_draft draft bytes disk)).now other)
     now other counting =
-        only_one (Fair image other) (finite.get (settled draft name (drafted draft bytes disk)).now other)
-        (subst (Any (Fair image other)) (alone other (renamed draft name (drafted draft bytes disk))) (fair other counting))
+        only_one (Fair image other) (finite.get (renamed_durably draft name (with_draft draft bytes disk)).now other)
+        (subst (Any (Fair image other)) (alone other (renamed draft name (with_draft draft bytes disk))) (fair other counting))
 
     others : (other : List ℕ) → counts other ≡ true → same_bytes other name ≡ false → Any (Fair image other) (outcomes other disk)
     others other counting differs =
-        let same : finite.get (settled draft name (drafted draft bytes disk)).now other ≡ finite.get disk.now other =
+        let same : finite.get (renamed_durably draft name (with_draft draft bytes disk)).now other ≡ finite.get disk.now other =
         get_made draft name bytes disk other
-        ∙ ap (λ same. cond same (Some (on_disk bytes)) (cond (same_bytes other draft) None (finite.get disk.now other))) differs
+        ∙ ap (λ same. cond same (Some (synced_file bytes)) (cond (same_bytes other draft) None (finite.get disk.now other))) differs
         ∙ ap (λ same. cond same None (finite.get disk.now other)) (differs_by_count other draft counting not) in
         first_one (Fair image other) (finite.get disk.now other) (or_none (finite.get disk.older other))
         (subst (Fair image other) same (now other counting))
@@ -203,57 +202,57 @@ made_there draft name bytes disk not counting image fair =
 -- ---- the states of a directory
 
 abbrev pub MakesFile : (name bytes : List ℕ) → (before after : Option (List Disk)) → Type 0
-MakesFile name bytes before after = IfTold before (λ disk past. Moments (MayMakeFile name bytes disk) (MayMakeFile name bytes) after disk past)
+MakesFile name bytes before after = IfKnown before (λ disk past. Moments (MayMakeFile name bytes disk) (MayMakeFile name bytes) after disk past)
 
 -- while the draft is written
 pub drafts_may : (name bytes : List ℕ) (before after : Option (List Disk)) → KeepsCounting before after → MakesFile name bytes before after
 drafts_may name bytes before after =
     told_weaker before (λ disk past. weaker (same_may name bytes disk) (λ older newer here. same_may name bytes older newer) after disk past)
 
-draft_there : (draft bytes : List ℕ) (before middle : Option (List Disk)) → ToldAlike before middle → Changed (drafted draft bytes) before middle
-    → IfTold middle (λ disk past. finite.get disk.now draft ≡ Some (on_disk bytes))
+draft_there : (draft bytes : List ℕ) (before middle : Option (List Disk)) → KnownAlike before middle → Changed (with_draft draft bytes) before middle
+    → IfKnown middle (λ disk past. finite.get disk.now draft ≡ Some (synced_file bytes))
 draft_there draft bytes before middle alike made =
-    told_after (drafted draft bytes) before middle (λ disk. Unit {0}) (λ disk. finite.get disk.now draft ≡ Some (on_disk bytes)) alike made (told_nothing before)
-    (λ disk none. get_drafted draft bytes disk draft ∙ at_itself draft (Some (on_disk bytes)) (finite.get disk.now draft))
+    told_after (with_draft draft bytes) before middle (λ disk. Unit {0}) (λ disk. finite.get disk.now draft ≡ Some (synced_file bytes)) alike made (told_nothing before)
+    (λ disk none. get_drafted draft bytes disk draft ∙ at_itself draft (Some (synced_file bytes)) (finite.get disk.now draft))
 
 -- while it gets its name, and that is synced
 names_may : (draft name bytes : List ℕ) (middle after : Option (List Disk)) → counts draft ≡ false
-    → IfTold middle (λ disk past. finite.get disk.now draft ≡ Some (on_disk bytes))
-    → IfTold middle (λ disk past. after ≡ Some (settled draft name disk ∷ renamed draft name disk ∷ disk ∷ past)) → MakesFile name bytes middle after
+    → IfKnown middle (λ disk past. finite.get disk.now draft ≡ Some (synced_file bytes))
+    → IfKnown middle (λ disk past. after ≡ Some (renamed_durably draft name disk ∷ renamed draft name disk ∷ disk ∷ past)) → MakesFile name bytes middle after
 names_may draft name bytes middle after not = told_both middle (λ disk past is.
     let first = renamed_may draft name bytes disk not is in
     let second = synced_may name bytes (renamed draft name disk) in
-    moments_two (MayMakeFile name bytes disk) (MayMakeFile name bytes) (renamed draft name disk) (settled draft name disk) after disk past first first
-    (chain_may name bytes disk (renamed draft name disk) (settled draft name disk) first second) second)
+    moments_two (MayMakeFile name bytes disk) (MayMakeFile name bytes) (renamed draft name disk) (renamed_durably draft name disk) after disk past first first
+    (chain_may name bytes disk (renamed draft name disk) (renamed_durably draft name disk) first second) second)
 
 names_failed : (draft name bytes : List ℕ) (middle after : Option (List Disk)) → counts draft ≡ false
-    → IfTold middle (λ disk past. finite.get disk.now draft ≡ Some (on_disk bytes))
-    → IfTold middle (λ disk past. Stayed after disk past ⊎ Became after (renamed draft name disk) disk past) → MakesFile name bytes middle after
+    → IfKnown middle (λ disk past. finite.get disk.now draft ≡ Some (synced_file bytes))
+    → IfKnown middle (λ disk past. Stayed after disk past ⊎ Became after (renamed draft name disk) disk past) → MakesFile name bytes middle after
 names_failed draft name bytes middle after not = told_both middle (λ disk past is.
     let first = renamed_may draft name bytes disk not is in
     moments_may (MayMakeFile name bytes disk) (MayMakeFile name bytes) (renamed draft name disk) after disk past first first)
 
 -- both, where the draft's name is this
 pub made_moments : (draft again name bytes : List ℕ) (before middle after : Option (List Disk)) → draft ≡ name ++ draft_ending → again ≡ name ++ draft_ending
-    → ToldAlike before middle → Changed (drafted draft bytes) before middle → KeepsCounting before middle
-    → IfTold middle (λ disk past. after ≡ Some (settled again name disk ∷ renamed again name disk ∷ disk ∷ past)) → MakesFile name bytes before after
+    → KnownAlike before middle → Changed (with_draft draft bytes) before middle → KeepsCounting before middle
+    → IfKnown middle (λ disk past. after ≡ Some (renamed_durably again name disk ∷ renamed again name disk ∷ disk ∷ past)) → MakesFile name bytes before after
 made_moments draft again name bytes before middle after one two alike made keeps put =
     joined_from (MayMakeFile name bytes) (itself_may name bytes) (chain_may name bytes) before middle after (drafts_may name bytes before middle keeps)
     (names_may again name bytes middle after (ap counts two ∙ draft_counts name)
-    (draft_there again bytes before middle alike (subst (λ d. Changed (drafted d bytes) before middle) (one ∙ sym two) made)) put)
+    (draft_there again bytes before middle alike (subst (λ d. Changed (with_draft d bytes) before middle) (one ∙ sym two) made)) put)
 
 pub failed_moments : (draft again name bytes : List ℕ) (before middle after : Option (List Disk)) → draft ≡ name ++ draft_ending → again ≡ name ++ draft_ending
-    → ToldAlike before middle → Changed (drafted draft bytes) before middle → KeepsCounting before middle
-    → IfTold middle (λ disk past. Stayed after disk past ⊎ Became after (renamed again name disk) disk past) → MakesFile name bytes before after
+    → KnownAlike before middle → Changed (with_draft draft bytes) before middle → KeepsCounting before middle
+    → IfKnown middle (λ disk past. Stayed after disk past ⊎ Became after (renamed again name disk) disk past) → MakesFile name bytes before after
 failed_moments draft again name bytes before middle after one two alike made keeps put =
     joined_from (MayMakeFile name bytes) (itself_may name bytes) (chain_may name bytes) before middle after (drafts_may name bytes before middle keeps)
     (names_failed again name bytes middle after (ap counts two ∙ draft_counts name)
-    (draft_there again bytes before middle alike (subst (λ d. Changed (drafted d bytes) before middle) (one ∙ sym two) made)) put)
+    (draft_there again bytes before middle alike (subst (λ d. Changed (with_draft d bytes) before middle) (one ∙ sym two) made)) put)
 
 -- at the end
 pub there_now : (name bytes : List ℕ) (before after : Option (List Disk)) → counts name ≡ true
-    → Changed (λ disk. settled (name ++ draft_ending) name (drafted (name ++ draft_ending) bytes disk)) before after
-    → IfTold before (λ disk past. IsNow after (λ now. (image : Files) → IsFair now image → HasMade name bytes disk image))
+    → Changed (λ disk. renamed_durably (name ++ draft_ending) name (with_draft (name ++ draft_ending) bytes disk)) before after
+    → IfKnown before (λ disk past. IsNow after (λ now. (image : Files) → IsFair now image → HasMade name bytes disk image))
 there_now name bytes before after counting = told_weaker before (λ disk past step.
-    now_changed (settled (name ++ draft_ending) name (drafted (name ++ draft_ending) bytes disk)) after step
+    now_changed (renamed_durably (name ++ draft_ending) name (with_draft (name ++ draft_ending) bytes disk)) after step
     (made_there (name ++ draft_ending) name bytes disk (draft_counts name) counting))

@@ -9,21 +9,21 @@ use Rattle.std.specs.Cmp.Lexicographic.{slice_cmp}
 use Rattle.std.specs.Ordering.{nat_cmp, is_eq}
 use Rattle.std.specs.declared.cmp.Ordering.TheVariants.{Greater}
 use Rattle.std.proofs.lemmas.Map.Text.{is_eq-slice_cmp}
-use Rattle.mx_outside.specs.Disks.{File, Disk, IfTold, on_disk, outcomes, or_none}
+use Rattle.mx_outside.specs.Disks.{File, Disk, IfKnown, synced_file, outcomes, or_none}
 use Rattle.mx_xlog.specs.declared.head.Head.{Head}
 use Rattle.mx_xlog.specs.Headers.{IsHead, header_of}
 use Rattle.mx_xlog.specs.Blocks.{end_marker}
-use Rattle.mx_model.specs.declared.tx.Tx.{Tx}
-use Rattle.mx_model.specs.Files.{same_bytes, draft_ending}
-use Rattle.mx_model.specs.Transactions.{clock_after}
-use Rattle.mx_model.proofs.HistoryLaws.{clock_after-append}
+use Rattle.mx_row.specs.declared.tx.Tx.{Tx}
+use Rattle.mx_files.specs.Names.{same_bytes, draft_ending}
+use Rattle.mx_row.specs.Clocks.{clock_after}
+use Rattle.mx_row.proofs.ClockLaws.{clock_after-append}
 use Rattle.mx_journal.specs.declared.journal.Journal.{Journal}
 use Rattle.mx_journal.specs.Counting.{SameButPushed, caught_up}
-use Rattle.mx_journal.specs.Making.{Changed, drafted, extended, settled}
-use Rattle.mx_journal.specs.Written.{IsNow, IsWritten, Waits, IsNewest, SameOthers, Created, file_text, name_of, draft_name_of, blocks_text}
+use Rattle.mx_images.specs.Changes.{Changed, with_draft, with_appended, renamed_durably, IsNow, SameOthers}
+use Rattle.mx_journal.specs.Written.{IsWritten, Waits, IsNewest, Created, file_text, name_of, draft_name_of, blocks_text}
 use Rattle.mx_journal.proofs.BlockLaws.{all_joined, blocks_text-append, nothing_waits}
-use Rattle.mx_journal.proofs.DiskLaws.{same_self, same_name, get_extended, get_made, only_one, first_one}
-use Rattle.mx_journal.proofs.ToldLaws.{told_both, told_weaker, where_told, now_changed}
+use Rattle.mx_images.proofs.DiskLaws.{same_self, same_name, get_extended, get_made, only_one, first_one}
+use Rattle.mx_images.proofs.ToldLaws.{told_both, told_weaker, where_told, now_changed}
 
 -- ---- the newest file
 
@@ -43,13 +43,13 @@ newest_kept name before after newest earlier other kind there = by_name (same_by
 -- ---- a journal that was begun
 
 made_earlier : (draft name bytes : List ℕ) (disk : Disk) (other : List ℕ) → same_bytes other name ≡ false
-    → Any IsSome (outcomes other (settled draft name (drafted draft bytes disk))) → Any IsSome (outcomes other disk)
+    → Any IsSome (outcomes other (renamed_durably draft name (with_draft draft bytes disk))) → Any IsSome (outcomes other disk)
 made_earlier draft name bytes disk other differs there =
-    let now = settled draft name (drafted draft bytes disk) in
+    let now = renamed_durably draft name (with_draft draft bytes disk) in
     let alone : outcomes other now ≡ finite.get now.now other ∷ [] = ap (λ older. finite.get now.now other ∷ or_none older) (get-empty (slice_cmp nat_cmp) other) in
     let some : IsSome (finite.get now.now other) = only_one IsSome (finite.get now.now other) (subst (Any IsSome) alone there) in
     let found : finite.get now.now other ≡ cond (same_bytes other draft) None (finite.get disk.now other) = get_made draft name bytes disk other
-    ∙ ap (λ same. cond same (Some (on_disk bytes)) (cond (same_bytes other draft) None (finite.get disk.now other))) differs in
+    ∙ ap (λ same. cond same (Some (synced_file bytes)) (cond (same_bytes other draft) None (finite.get disk.now other))) differs in
     by_draft (same_bytes other draft) (subst IsSome found some)
   where
     by_draft : (same : Bool) → IsSome (cond same None (finite.get disk.now other)) → Any IsSome (outcomes other disk)
@@ -58,7 +58,7 @@ made_earlier draft name bytes disk other differs there =
 
 -- the disk after a file was made in the place of its draft
 abbrev pub begun : Head → Disk → Disk
-begun head disk = settled (draft_name_of head) (name_of head) (drafted (draft_name_of head) (header_of head) disk)
+begun head disk = renamed_durably (draft_name_of head) (name_of head) (with_draft (draft_name_of head) (header_of head) disk)
 
 pub begun_written : (journal : Journal) (disk : Disk) → IsHead journal.head → journal.head.snapshot ≡ false → string_bytes journal.name ≡ name_of journal.head
     → journal.clock ≡ journal.head.clock → journal.length ≡ length (header_of journal.head) → journal.synced ≡ 0
@@ -73,9 +73,9 @@ begun_written journal disk fits kind named clock long synced newest =
         kind = kind;
         named = named;
         file = get_made draft name header disk name
-            ∙ ap (λ same. cond same (Some (on_disk header)) (cond (same_bytes name draft) None (finite.get disk.now name))) (same_self name)
-            ∙ ap (λ bytes. Some (on_disk bytes)) (sym all);
-        settled = get-empty (slice_cmp nat_cmp) name;
+            ∙ ap (λ same. cond same (Some (synced_file header)) (cond (same_bytes name draft) None (finite.get disk.now name))) (same_self name)
+            ∙ ap (λ bytes. Some (synced_file bytes)) (sym all);
+        no_older = get-empty (slice_cmp nat_cmp) name;
         newest = newest_kept name disk (begun journal.head disk) newest (made_earlier draft name header disk);
         clock = clock;
         long = long ∙ ap length (sym all);
@@ -88,39 +88,39 @@ begun_written journal disk fits kind named clock long synced newest =
       },
     )
 
--- ---- what is put behind the others
+-- ---- what is put after the others
 
-pub others_extended : (name more : List ℕ) (disk : Disk) (file : File) → finite.get disk.now name ≡ Some file → SameOthers name disk (extended name more disk)
+pub others_extended : (name more : List ℕ) (disk : Disk) (file : File) → finite.get disk.now name ≡ Some file → SameOthers name disk (with_appended name more disk)
 others_extended name more disk file is = record {
   files = λ other differs. get_extended name more disk file other is
-      ∙ ap (λ same. cond same (Some (on_disk (file.bytes ++ more))) (finite.get disk.now other)) differs;
+      ∙ ap (λ same. cond same (Some (synced_file (file.bytes ++ more))) (finite.get disk.now other)) differs;
   older = refl;
 }
 
-newest_extended : (name more : List ℕ) (disk : Disk) (file : File) → finite.get disk.now name ≡ Some file → IsNewest name disk → IsNewest name (extended name more disk)
+newest_extended : (name more : List ℕ) (disk : Disk) (file : File) → finite.get disk.now name ≡ Some file → IsNewest name disk → IsNewest name (with_appended name more disk)
 newest_extended name more disk file is newest =
-    newest_kept name disk (extended name more disk) newest (λ other differs there.
+    newest_kept name disk (with_appended name more disk) newest (λ other differs there.
     subst (Any IsSome) (ap (λ found. found ∷ or_none (finite.get disk.older other)) ((others_extended name more disk file is).files other differs)) there)
 
 -- the bytes of a file that was made longer
-pub bytes_extended : (name more bytes : List ℕ) (disk : Disk) → finite.get disk.now name ≡ Some (on_disk bytes)
-    → finite.get (extended name more disk).now name ≡ Some (on_disk (bytes ++ more))
+pub bytes_extended : (name more bytes : List ℕ) (disk : Disk) → finite.get disk.now name ≡ Some (synced_file bytes)
+    → finite.get (with_appended name more disk).now name ≡ Some (synced_file (bytes ++ more))
 bytes_extended name more bytes disk is =
-    get_extended name more disk (on_disk bytes) name is
-    ∙ ap (λ same. cond same (Some (on_disk (bytes ++ more))) (finite.get disk.now name)) (same_self name)
+    get_extended name more disk (synced_file bytes) name is
+    ∙ ap (λ same. cond same (Some (synced_file (bytes ++ more))) (finite.get disk.now name)) (same_self name)
 
 file_text-append : (head : Head) (txs waits : List Tx) → file_text head txs ++ blocks_text waits ≡ file_text head (txs ++ waits)
 file_text-append head txs waits =
     append_assoc (header_of head) (blocks_text txs) (blocks_text waits) ∙ ap (λ text. header_of head ++ text) (sym (blocks_text-append txs waits))
 
--- a journal that put what waited behind its file
+-- a journal that put what waited after its file
 abbrev pub wrote : Journal → ℕ → Journal
 wrote journal long = caught_up (record journal { length = long; waiting = [] })
 
 pub wrote_written : (journal : Journal) (long : ℕ) (disk : Disk) (txs waits : List Tx) → long ≡ journal.length + length journal.waiting
     → IsWritten journal disk txs → Waits journal waits
-    → IsWritten (wrote journal long) (extended (name_of journal.head) journal.waiting disk) (txs ++ waits)
-    × SameOthers (name_of journal.head) disk (extended (name_of journal.head) journal.waiting disk)
+    → IsWritten (wrote journal long) (with_appended (name_of journal.head) journal.waiting disk) (txs ++ waits)
+    × SameOthers (name_of journal.head) disk (with_appended (name_of journal.head) journal.waiting disk)
 wrote_written journal long disk txs waits sum written waiting =
     let name = name_of journal.head in
     let all : file_text journal.head txs ++ journal.waiting ≡ file_text journal.head (txs ++ waits) =
@@ -129,15 +129,15 @@ wrote_written journal long disk txs waits sum written waiting =
         fits = written.fits;
         kind = written.kind;
         named = written.named;
-        file = bytes_extended name journal.waiting (file_text journal.head txs) disk written.file ∙ ap (λ bytes. Some (on_disk bytes)) all;
-        settled = written.settled;
-        newest = newest_extended name journal.waiting disk (on_disk (file_text journal.head txs)) written.file written.newest;
+        file = bytes_extended name journal.waiting (file_text journal.head txs) disk written.file ∙ ap (λ bytes. Some (synced_file bytes)) all;
+        no_older = written.no_older;
+        newest = newest_extended name journal.waiting disk (synced_file (file_text journal.head txs)) written.file written.newest;
         clock = waiting.next ∙ ap (λ clock. clock_after clock waits) written.clock ∙ sym (clock_after-append journal.head.clock txs waits);
         long = sum ∙ ap (λ n. n + length journal.waiting) written.long ∙ sym (length-append (file_text journal.head txs) journal.waiting) ∙ ap length all;
         synced = waiting.pushed ∙ ap (λ n. n + length waits) written.synced ∙ sym (length-append txs waits);
         sound = all_joined txs waits written.sound waiting.sound;
       },
-      others_extended name journal.waiting disk (on_disk (file_text journal.head txs)) written.file,
+      others_extended name journal.waiting disk (synced_file (file_text journal.head txs)) written.file,
     )
 
 -- a journal in which nothing waited
@@ -150,8 +150,8 @@ caught_up_written journal disk txs waits none written waiting =
         fits = written.fits;
         kind = written.kind;
         named = written.named;
-        file = written.file ∙ ap (λ all. Some (on_disk (file_text journal.head all))) (sym same);
-        settled = written.settled;
+        file = written.file ∙ ap (λ all. Some (synced_file (file_text journal.head all))) (sym same);
+        no_older = written.no_older;
         newest = written.newest;
         clock = waiting.next ∙ ap (clock_after journal.clock) nothing ∙ written.clock ∙ ap (clock_after journal.head.clock) (sym same);
         long = written.long ∙ ap (λ all. length (file_text journal.head all)) (sym same);
@@ -167,47 +167,47 @@ file_there journal disk (txs, written) = rw (ap (finite.get disk.now) written.na
 
 -- a file that was ended
 pub ended : (journal : Journal) (disk : Disk) (txs : List Tx) → IsWritten journal disk txs
-    → (finite.get (extended (name_of journal.head) end_marker disk).now (name_of journal.head) ≡ Some (on_disk (file_text journal.head txs ++ end_marker)))
-    × SameOthers (name_of journal.head) disk (extended (name_of journal.head) end_marker disk)
+    → (finite.get (with_appended (name_of journal.head) end_marker disk).now (name_of journal.head) ≡ Some (synced_file (file_text journal.head txs ++ end_marker)))
+    × SameOthers (name_of journal.head) disk (with_appended (name_of journal.head) end_marker disk)
 ended journal disk txs written = (
   bytes_extended (name_of journal.head) end_marker (file_text journal.head txs) disk written.file,
-  others_extended (name_of journal.head) end_marker disk (on_disk (file_text journal.head txs)) written.file,
+  others_extended (name_of journal.head) end_marker disk (synced_file (file_text journal.head txs)) written.file,
 )
 
 -- ---- the same of a directory's newest state
 
 -- a change of a file whose name and bytes are these
-pub extended_as : (name wanted bytes more : List ℕ) (disk : Disk) → name ≡ wanted → bytes ≡ more → extended name bytes disk ≡ extended wanted more disk
-extended_as name wanted bytes more disk named same = ap (λ n. extended n bytes disk) named ∙ ap (λ b. extended wanted b disk) same
+pub extended_as : (name wanted bytes more : List ℕ) (disk : Disk) → name ≡ wanted → bytes ≡ more → with_appended name bytes disk ≡ with_appended wanted more disk
+extended_as name wanted bytes more disk named same = ap (λ n. with_appended n bytes disk) named ∙ ap (λ b. with_appended wanted b disk) same
 
 pub begun_now : (journal : Journal) (name bytes : List ℕ) (before after : Option (List Disk)) → IsHead journal.head → journal.head.snapshot ≡ false
     → string_bytes journal.name ≡ name_of journal.head → journal.clock ≡ journal.head.clock → journal.length ≡ length (header_of journal.head)
     → journal.synced ≡ 0 → name ≡ name_of journal.head → bytes ≡ header_of journal.head
-    → Changed (λ disk. settled (name ++ draft_ending) name (drafted (name ++ draft_ending) bytes disk)) before after
-    → IfTold before (λ disk past. IsNewest (name_of journal.head) disk)
-    → IfTold before (λ disk past. IsNow after (λ now. IsWritten journal now [] × Created journal.head disk now))
+    → Changed (λ disk. renamed_durably (name ++ draft_ending) name (with_draft (name ++ draft_ending) bytes disk)) before after
+    → IfKnown before (λ disk past. IsNewest (name_of journal.head) disk)
+    → IfKnown before (λ disk past. IsNow after (λ now. IsWritten journal now [] × Created journal.head disk now))
 begun_now journal name bytes before after fits kind named clock long synced is same changed newest =
     told_both before (λ disk past step newest.
-    now_changed (settled (name ++ draft_ending) name (drafted (name ++ draft_ending) bytes disk)) after step
+    now_changed (renamed_durably (name ++ draft_ending) name (with_draft (name ++ draft_ending) bytes disk)) after step
     (subst (λ now. IsWritten journal now [] × Created journal.head disk now)
-    (sym (ap (λ n. settled (n ++ draft_ending) n (drafted (n ++ draft_ending) bytes disk)) is
-    ∙ ap (λ b. settled (draft_name_of journal.head) (name_of journal.head) (drafted (draft_name_of journal.head) b disk)) same))
+    (sym (ap (λ n. renamed_durably (n ++ draft_ending) n (with_draft (n ++ draft_ending) bytes disk)) is
+    ∙ ap (λ b. renamed_durably (draft_name_of journal.head) (name_of journal.head) (with_draft (draft_name_of journal.head) b disk)) same))
     (begun_written journal disk fits kind named clock long synced newest))) changed newest
 
 pub wrote_now : (journal new : Journal) (long : ℕ) (name bytes : List ℕ) (before after : Option (List Disk)) (txs waits : List Tx)
     → new ≡ wrote journal long → long ≡ journal.length + length journal.waiting → name ≡ string_bytes journal.name → bytes ≡ journal.waiting
-    → Changed (extended name bytes) before after → IfTold before (λ disk past. IsWritten journal disk txs → Waits journal waits
+    → Changed (with_appended name bytes) before after → IfKnown before (λ disk past. IsWritten journal disk txs → Waits journal waits
     → IsNow after (λ now. IsWritten new now (txs ++ waits) × SameOthers (name_of journal.head) disk now))
 wrote_now journal new long name bytes before after txs waits is sum named same changed =
-    told_weaker before (λ disk past step written waiting. now_changed (extended name bytes disk) after step
+    told_weaker before (λ disk past step written waiting. now_changed (with_appended name bytes disk) after step
     (subst (λ now. IsWritten new now (txs ++ waits) × SameOthers (name_of journal.head) disk now)
     (sym (extended_as name (name_of journal.head) bytes journal.waiting disk (named ∙ written.named) same))
-    (subst (λ j. IsWritten j (extended (name_of journal.head) journal.waiting disk) (txs ++ waits)
-    × SameOthers (name_of journal.head) disk (extended (name_of journal.head) journal.waiting disk)) (sym is)
+    (subst (λ j. IsWritten j (with_appended (name_of journal.head) journal.waiting disk) (txs ++ waits)
+    × SameOthers (name_of journal.head) disk (with_appended (name_of journal.head) journal.waiting disk)) (sym is)
     (wrote_written journal long disk txs waits sum written waiting)))) changed
 
 pub caught_up_now : (journal new : Journal) (states : Option (List Disk)) (txs waits : List Tx) → new ≡ caught_up journal → journal.waiting ≡ []
-    → IfTold states (λ disk past. IsWritten journal disk txs → Waits journal waits
+    → IfKnown states (λ disk past. IsWritten journal disk txs → Waits journal waits
     → IsNow states (λ now. IsWritten new now (txs ++ waits) × SameOthers (name_of journal.head) disk now))
 caught_up_now journal new states txs waits is none =
     where_told states _ (λ disk past told written waiting. (
@@ -219,13 +219,13 @@ caught_up_now journal new states txs waits is none =
     ))
 
 pub ended_now : (journal : Journal) (name bytes : List ℕ) (before after : Option (List Disk)) (txs : List Tx)
-    → name ≡ string_bytes journal.name → bytes ≡ end_marker → Changed (extended name bytes) before after
-    → IfTold before (λ disk past. IsWritten journal disk txs
-    → IsNow after (λ now. (finite.get now.now (name_of journal.head) ≡ Some (on_disk (file_text journal.head txs ++ end_marker)))
+    → name ≡ string_bytes journal.name → bytes ≡ end_marker → Changed (with_appended name bytes) before after
+    → IfKnown before (λ disk past. IsWritten journal disk txs
+    → IsNow after (λ now. (finite.get now.now (name_of journal.head) ≡ Some (synced_file (file_text journal.head txs ++ end_marker)))
     × SameOthers (name_of journal.head) disk now))
 ended_now journal name bytes before after txs named same changed =
-    told_weaker before (λ disk past step written. now_changed (extended name bytes disk) after step
-    (subst (λ now. (finite.get now.now (name_of journal.head) ≡ Some (on_disk (file_text journal.head txs ++ end_marker))) × SameOthers (name_of journal.head) disk now)
+    told_weaker before (λ disk past step written. now_changed (with_appended name bytes disk) after step
+    (subst (λ now. (finite.get now.now (name_of journal.head) ≡ Some (synced_file (file_text journal.head txs ++ end_marker))) × SameOthers (name_of journal.head) disk now)
     (sym (extended_as name (name_of journal.head) bytes end_marker disk (named ∙ written.named) same))
     (ended journal disk txs written))) changed
 
@@ -237,7 +237,7 @@ pushed_written journal after waiting disk txs same written = record {
   kind = rw same.head written.kind;
   named = rw (same.name, same.head) written.named;
   file = rw same.head written.file;
-  settled = rw same.head written.settled;
+  no_older = rw same.head written.no_older;
   newest = rw same.head written.newest;
   clock = rw (same.clock, same.head) written.clock;
   long = rw (same.length, same.head) written.long;

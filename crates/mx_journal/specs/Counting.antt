@@ -1,4 +1,4 @@
--- How a journal counts its transactions.
+-- Only private functions and proofs need these: how a journal counts its transactions.
 use Rattle.std.specs.Prelude.{◌≡◌}
 use Rattle.mx_journal.specs.declared.journal.Journal.{Journal}
 
@@ -11,6 +11,6 @@ pub record SameButPushed (before after : Journal) : Type 0 where
   pub synced : after.synced ≡ before.synced
   pub waiting : after.waiting ≡ before.waiting
 
--- the journal with all that was pushed on the disk
+-- the journal once all that was pushed is durable
 abbrev pub caught_up : Journal → Journal
 caught_up journal = record journal { clock = journal.next; synced = journal.pushed }

@@ -1,14 +1,15 @@
 -- What a crash leaves of a journal's file, and of the journals and snapshots beside it.
-use Rattle.std.specs.Prelude.{◌≡◌, ◌⊎◌, ℕ, ◌≤◌, true, false, List, [], length, map, take, Some}
+use Rattle.std.specs.Prelude.{◌≡◌, ◌⊎◌, ℕ, ◌≤◌, List, [], length, map, take, Some}
 use Rattle.std.specs.FinMap as finite
 use Rattle.mx_outside.specs.Disks.{Disk, File, Files}
 use Rattle.mx_xlog.specs.declared.head.Head.{Head}
 use Rattle.mx_xlog.specs.Headers.{header_of}
-use Rattle.mx_model.specs.declared.tx.Tx.{Tx}
-use Rattle.mx_model.specs.Rows.{transaction_text}
-use Rattle.mx_model.specs.Files.{FileRead, ReadsAs, same_bytes}
-use Rattle.mx_journal.specs.Fair.{counts, IsFair}
+use Rattle.mx_row.specs.declared.tx.Tx.{Tx}
+use Rattle.mx_row.specs.Rows.{transaction_text}
+use Rattle.mx_xlog.specs.Files.{FileRead, ReadsAs}
+use Rattle.mx_images.specs.Fair.{IsFair}
 use Rattle.mx_journal.specs.Written.{name_of}
+use Rattle.mx_images.specs.Changes.{SameBut}
 
 -- a journal's file of these transactions, a block each, as it reads
 abbrev pub read_of : Head → List Tx → FileRead
@@ -27,11 +28,6 @@ HasAtLeast head transactions least disk =
 -- it has no fewer than before: each bound that held still holds
 abbrev pub NoFewer : Head → List Tx → Disk → Disk → Type 0
 NoFewer head transactions older newer = (least : ℕ) → HasAtLeast head transactions least older → HasAtLeast head transactions least newer
-
--- the journals and snapshots but the one of this name are the same
-abbrev pub SameBut : List ℕ → Files → Files → Type 0
-SameBut name one other =
-    (q : List ℕ) → counts q ≡ true → same_bytes q name ≡ false → finite.get other q ≡ finite.get one q
 
 -- a crash might have left these files, but for the journal's file, which has no transaction
 abbrev pub HasBegun : Head → Disk → Files → Type 0

@@ -1,5 +1,5 @@
 -- What a journal has written.
-use Rattle.std.specs.Prelude.{◌≡◌, ◌⊎◌, ℕ, ◌+◌, true, false, List, ◌∷◌, ◌++◌, length, map, take, sum, Any, Option, Some, None, IsSome, if◌then◌else◌, string_bytes}
+use Rattle.std.specs.Prelude.{◌≡◌, ◌⊎◌, ℕ, ◌+◌, true, false, List, ◌++◌, length, map, take, sum, Any, Some, None, IsSome, if◌then◌else◌, string_bytes}
 use Rattle.std.specs.List.{concat, AllByRecursion}
 use Rattle.std.specs.Ordering.{nat_cmp}
 use Rattle.std.specs.Cmp.Lexicographic.{slice_cmp}
@@ -8,11 +8,11 @@ use Rattle.std.specs.FinMap as finite
 use Rattle.mx_xlog.specs.declared.head.Head.{Head}
 use Rattle.mx_xlog.specs.Headers.{IsHead, header_of}
 use Rattle.mx_xlog.specs.Blocks.{block_of}
-use Rattle.mx_outside.specs.Disks.{Disk, on_disk, outcomes}
-use Rattle.mx_model.specs.declared.tx.Tx.{Tx}
-use Rattle.mx_model.specs.Transactions.{clock_after}
-use Rattle.mx_model.specs.Rows.{IsTransaction, transaction_text}
-use Rattle.mx_model.specs.Files.{journal_name, draft_ending, is_journal, is_snapshot, same_bytes}
+use Rattle.mx_outside.specs.Disks.{Disk, synced_file, outcomes}
+use Rattle.mx_row.specs.declared.tx.Tx.{Tx}
+use Rattle.mx_row.specs.Clocks.{clock_after}
+use Rattle.mx_row.specs.Rows.{IsTransaction, transaction_text}
+use Rattle.mx_files.specs.Names.{journal_name, draft_ending, is_journal, is_snapshot, same_bytes}
 use Rattle.mx_journal.specs.declared.journal.Journal.{Journal}
 
 -- a block for each transaction
@@ -35,14 +35,14 @@ IsNewest name disk =
     (other : List ℕ) → ((is_journal other ≡ true) ⊎ (is_snapshot other ≡ true)) → Any IsSome (outcomes other disk)
     → ¬ (slice_cmp nat_cmp (take 20 other) (take 20 name) ≡ Greater)
 
--- The journal's file has these transactions, all of it is on the disk, and no other file is newer. The journal keeps the
+-- The journal's file has these transactions, all of it is durable, and no other file is newer. The journal keeps the
 -- file's name, its length, its vclock and how many transactions it has.
 pub record IsWritten (journal : Journal) (disk : Disk) (transactions : List Tx) : Type 0 where
   pub fits : IsHead journal.head
   pub kind : journal.head.snapshot ≡ false
   pub named : string_bytes journal.name ≡ name_of journal.head
-  pub file : finite.get disk.now (name_of journal.head) ≡ Some (on_disk (file_text journal.head transactions))
-  pub settled : finite.get disk.older (name_of journal.head) ≡ None
+  pub file : finite.get disk.now (name_of journal.head) ≡ Some (synced_file (file_text journal.head transactions))
+  pub no_older : finite.get disk.older (name_of journal.head) ≡ None
   pub newest : IsNewest (name_of journal.head) disk
   pub clock : journal.clock ≡ clock_after journal.head.clock transactions
   pub long : journal.length ≡ length (file_text journal.head transactions)
@@ -56,19 +56,10 @@ pub record Waits (journal : Journal) (transactions : List Tx) : Type 0 where
   pub pushed : journal.pushed ≡ journal.synced + length transactions
   pub sound : AllByRecursion IsTransaction transactions
 
--- the newest state has this
-abbrev pub IsNow : Option (List Disk) → (Disk → Type 0) → Type 0
-IsNow states P = (disk : Disk) × (past : List Disk) × (states ≡ Some (disk ∷ past)) × P disk
-
--- the files but this one, and all names on the disk, are as they were
-pub record SameOthers (name : List ℕ) (before after : Disk) : Type 0 where
-  pub files : (other : List ℕ) → same_bytes other name ≡ false → finite.get after.now other ≡ finite.get before.now other
-  pub older : after.older ≡ before.older
-
--- the file of this head was made in place of its draft and of the file that had its name; all names are on the disk
+-- the file of this head was made in place of its draft and of the file that had its name; all names are durable
 pub record Created (head : Head) (before after : Disk) : Type 0 where
   pub files : (other : List ℕ) → finite.get after.now other
-      ≡ (if same_bytes other (name_of head) then Some (on_disk (header_of head))
+      ≡ (if same_bytes other (name_of head) then Some (synced_file (header_of head))
       else if same_bytes other (draft_name_of head) then None
       else finite.get before.now other)
   pub older : after.older ≡ finite.empty

@@ -1,4 +1,4 @@
-//! Why a journal's call on a directory gave nothing.
+//! Why a call of a journal failed.
 
 ghost use Rattle.std.specs.Prelude.{◌≡◌};
 ghost use Rattle.mx_journal.specs.Faults.{fault_of};
@@ -8,13 +8,13 @@ use mx_outside::DirFault;
 use std::alloc::AllocError;
 use thiserror::Error;
 
-/// Why a journal's call on a directory gave nothing. The journal is of no use then.
+/// Why a call of a journal failed. The journal can't be used any more.
 #[derive(Clone, Copy, Debug, Drop, PartialEq, Eq, Error)]
 pub enum JournalFault {
-    /// The disk failed.
+    /// A call on the directory failed.
     #[error("the disk failed")]
     Failed,
-    /// Memory ran out.
+    /// An allocation failed.
     #[error("memory ran out")]
     NoMemory,
 }

@@ -3,27 +3,26 @@
 ghost use Rattle.std.specs.Prelude.{◌≡◌, ◌+◌, ◌++◌, ◌∷◌, [], false, true, List, length, Some, IfOk, OnOk};
 ghost use Rattle.std.specs.FinMap as finite;
 ghost use Rattle.mx_outside.specs.Causes.{HasCauseOf};
-ghost use Rattle.mx_outside.specs.Disks.{Disk, Files, IfTold, ToldAlike, on_disk};
+ghost use Rattle.mx_outside.specs.Disks.{Disk, Files, IfKnown, KnownAlike, synced_file};
 ghost use Rattle.mx_outside.specs.Moments.{Moments};
 ghost use Rattle.mx_xlog.specs.Headers.{IsHead};
 ghost use Rattle.mx_xlog.specs.Blocks.{end_marker};
-ghost use Rattle.mx_model.specs.declared.tx.Tx.{Tx};
-ghost use Rattle.mx_model.specs.Rows.{IsTransaction};
-ghost use Rattle.mx_model.specs.Files.{follows};
-ghost use Rattle.mx_model.specs.Transactions.{clock_after_one};
+ghost use Rattle.mx_row.specs.declared.tx.Tx.{Tx};
+ghost use Rattle.mx_row.specs.Rows.{IsTransaction};
+ghost use Rattle.mx_row.specs.Clocks.{follows, clock_after_one};
 ghost use Rattle.mx_journal.specs.Counting.{SameButPushed, caught_up};
 ghost use Rattle.mx_journal.specs.declared.fault.JournalFault.TheVariants.{Failed};
-ghost use Rattle.mx_journal.specs.Fair.{IsFair};
+ghost use Rattle.mx_images.specs.Fair.{IsFair};
 ghost use Rattle.mx_journal.specs.Crashes.{HasAtLeast, HasBegun, MayBegin, NoFewer};
-ghost use Rattle.mx_journal.specs.Written.{IsWritten, Waits, IsNow, IsNewest, SameOthers, Created, file_text, name_of};
+ghost use Rattle.mx_journal.specs.Written.{IsWritten, Waits, IsNewest, Created, file_text, name_of};
+ghost use Rattle.mx_images.specs.Changes.{IsNow, SameOthers};
 
 use crate::fault::JournalFault;
 use crate::making::{append_synced, make_file};
-use crate::names::journal_name;
-use crate::row_writing::write_tx;
-use mx_model::Tx;
+use mx_files::journal_name;
 use mx_msgpack::Bytes;
 use mx_outside::Dir;
+use mx_row::{Tx, write_tx};
 use mx_vclock::Vclock;
 use mx_xlog::{Head, write_block, write_end, write_header};
 use std::alloc::{AllocError, Global};
@@ -45,23 +44,23 @@ pub struct Journal {
 }
 
 impl Journal {
-    /// Begins a journal: a file that has a header and no block. It gets its name once it is on the
-    /// disk, in the place of the file that has this name.
+    /// Begins a journal: a file that has a header and no block. It gets its name once it is durable,
+    /// in the place of the file that has this name.
     ///
-    /// Whatever a crash leaves meanwhile, it might have left before, but for this file; at `Ok` it
+    /// A crash meanwhile leaves what one before might have left, but for this file; after `Ok` it
     /// leaves this file too.
     ///
     /// # Errors
-    /// The disk failed, or memory ran out.
+    /// A call on the directory failed, or out of memory.
     pub fn create<D: Dir>(alloc: Global, dir: &mut D, head: Head) -> Result<Journal, JournalFault>
         requires fits { IsHead head }
         requires kind { head.snapshot ≡ false }
-        requires newest { IfTold (D.states dir.old) (λ disk past. IsNewest (name_of head) disk) }
-        ensures told { ToldAlike (D.states dir.old) (D.states dir.new) }
-        ensures created { IfTold (D.states dir.old) (λ disk past. IfOk result (λ journal.
+        requires newest { IfKnown (D.states dir.old) (λ disk past. IsNewest (name_of head) disk) }
+        ensures told { KnownAlike (D.states dir.old) (D.states dir.new) }
+        ensures created { IfKnown (D.states dir.old) (λ disk past. IfOk result (λ journal.
             IsNow (D.states dir.new) (λ now. IsWritten journal now [] × Created head disk now))) }
-        ensures moments { IfTold (D.states dir.old) (λ disk past. Moments (MayBegin head disk) (MayBegin head) (D.states dir.new) disk past) }
-        ensures there { IfTold (D.states dir.old) (λ disk past. IfOk result (λ journal.
+        ensures moments { IfKnown (D.states dir.old) (λ disk past. Moments (MayBegin head disk) (MayBegin head) (D.states dir.new) disk past) }
+        ensures there { IfKnown (D.states dir.old) (λ disk past. IfOk result (λ journal.
             IsNow (D.states dir.new) (λ now. (image : Files) → IsFair now image → HasBegun head disk image))) }
         ensures begins { IfOk result (λ journal. (journal.head ≡ head) × (journal.clock ≡ head.clock) × Waits journal []) }
         ensures cause { HasCauseOf Failed (D.faults dir.old) (D.faults dir.new) result }
@@ -85,7 +84,7 @@ impl Journal {
     /// Adds a transaction to those that wait. It has the next lsn of its replica.
     ///
     /// # Errors
-    /// Memory ran out. The journal is of no use then.
+    /// Out of memory. The journal can't be used any more.
     pub fn push(&mut self, alloc: Global, tx: &Tx) -> Result<(), AllocError>
         requires sound { IsTransaction tx.now }
         requires follows { follows self.old.next tx.now ≡ true }
@@ -102,7 +101,7 @@ impl Journal {
         Ok(())
     }
 
-    /// Counts a transaction that was put behind those that wait.
+    /// Counts a transaction that was put after those that wait.
     fn note_pushed(&mut self, tx: &Tx) -> Result<(), AllocError>
         requires sound { IsTransaction tx.now }
         requires follows { follows self.old.next tx.now ≡ true }
@@ -120,22 +119,22 @@ impl Journal {
         Ok(())
     }
 
-    /// Writes what waits, and syncs it. Says how many transactions the journal has on the disk.
+    /// Writes what waits, and syncs it. Says how many of its transactions are durable.
     ///
-    /// Whatever a crash leaves meanwhile, the journal's file has those that it had, and perhaps the
-    /// first ones of those that wait; no other file changes.
+    /// After a crash meanwhile the journal's file has those that it had, and perhaps a prefix of those
+    /// that wait; no other file changes.
     ///
     /// # Errors
-    /// The disk failed, or memory ran out. The journal is of no use then.
+    /// A call on the directory failed, or out of memory. The journal can't be used any more.
     pub fn write_out<D: Dir>(&mut self, alloc: Global, dir: &mut D) -> Result<u64, JournalFault>
-        requires { IfTold (D.states dir.old) (λ disk past. (txs : List Tx) × IsWritten self.old disk txs) }
-        ensures told { ToldAlike (D.states dir.old) (D.states dir.new) }
-        ensures written { (txs waits : List Tx) → IfTold (D.states dir.old) (λ disk past. IsWritten self.old disk txs → Waits self.old waits
+        requires { IfKnown (D.states dir.old) (λ disk past. (txs : List Tx) × IsWritten self.old disk txs) }
+        ensures told { KnownAlike (D.states dir.old) (D.states dir.new) }
+        ensures written { (txs waits : List Tx) → IfKnown (D.states dir.old) (λ disk past. IsWritten self.old disk txs → Waits self.old waits
             → OnOk result (IsNow (D.states dir.new) (λ now. IsWritten self.new now (txs ++ waits) × SameOthers (name_of self.old.head) disk now))) }
-        ensures moments { (txs waits : List Tx) → IfTold (D.states dir.old) (λ disk past. IsWritten self.old disk txs → Waits self.old waits
+        ensures moments { (txs waits : List Tx) → IfKnown (D.states dir.old) (λ disk past. IsWritten self.old disk txs → Waits self.old waits
             → Moments (λ now. SameOthers (name_of self.old.head) disk now × HasAtLeast self.old.head (txs ++ waits) (length txs) now)
             (NoFewer self.old.head (txs ++ waits)) (D.states dir.new) disk past) }
-        ensures synced { (txs waits : List Tx) → IfTold (D.states dir.old) (λ disk past. IsWritten self.old disk txs → Waits self.old waits
+        ensures synced { (txs waits : List Tx) → IfKnown (D.states dir.old) (λ disk past. IsWritten self.old disk txs → Waits self.old waits
             → IfOk result (λ count. (count ≡ length (txs ++ waits)) × IsNow (D.states dir.new) (HasAtLeast self.old.head (txs ++ waits) count))) }
         ensures none { IfOk result (λ count. Waits self.new [] × (count ≡ self.old.pushed) × (self.new.clock ≡ self.old.next)) }
         ensures head { self.new.head ≡ self.old.head }
@@ -153,7 +152,7 @@ impl Journal {
         Ok(self.note_written())
     }
 
-    /// Notes that all transactions that were pushed are on the disk, and says how many they are.
+    /// Notes that all transactions that were pushed are durable, and says how many they are.
     fn note_written(&mut self) -> u64
         ensures journal { self.new ≡ caught_up self.old }
         ensures count { result ≡ self.old.pushed }
@@ -163,19 +162,19 @@ impl Journal {
         self.synced
     }
 
-    /// Ends the journal in order: puts the marker of its file's end behind the blocks, and syncs it.
-    /// Whatever a crash leaves meanwhile, the file has all of its transactions.
+    /// Ends the journal in order: puts the marker of its file's end after the blocks, and syncs it.
+    /// After a crash meanwhile the file has all of its transactions.
     ///
     /// # Errors
-    /// The disk failed, or memory ran out.
+    /// A call on the directory failed, or out of memory.
     pub fn end<D: Dir>(self, alloc: Global, dir: &mut D) -> Result<(), JournalFault>
-        requires written { IfTold (D.states dir.old) (λ disk past. (txs : List Tx) × IsWritten self disk txs) }
+        requires written { IfKnown (D.states dir.old) (λ disk past. (txs : List Tx) × IsWritten self disk txs) }
         requires none { self.waiting ≡ [] }
-        ensures told { ToldAlike (D.states dir.old) (D.states dir.new) }
-        ensures ended { (txs : List Tx) → IfTold (D.states dir.old) (λ disk past. IsWritten self disk txs
-            → OnOk result (IsNow (D.states dir.new) (λ now. (finite.get now.now (name_of self.head) ≡ Some (on_disk (file_text self.head txs ++ end_marker)))
+        ensures told { KnownAlike (D.states dir.old) (D.states dir.new) }
+        ensures ended { (txs : List Tx) → IfKnown (D.states dir.old) (λ disk past. IsWritten self disk txs
+            → OnOk result (IsNow (D.states dir.new) (λ now. (finite.get now.now (name_of self.head) ≡ Some (synced_file (file_text self.head txs ++ end_marker)))
             × SameOthers (name_of self.head) disk now))) }
-        ensures moments { (txs : List Tx) → IfTold (D.states dir.old) (λ disk past. IsWritten self disk txs
+        ensures moments { (txs : List Tx) → IfKnown (D.states dir.old) (λ disk past. IsWritten self disk txs
             → Moments (λ now. SameOthers (name_of self.head) disk now × HasAtLeast self.head txs (length txs) now)
             (NoFewer self.head txs) (D.states dir.new) disk past) }
         ensures cause { HasCauseOf Failed (D.faults dir.old) (D.faults dir.new) result }

@@ -3,20 +3,7 @@
 
 mod fault;
 mod journal;
-mod laws;
 mod making;
-mod maps;
-mod names;
-mod row_reading;
-mod row_writing;
 
 pub use fault::JournalFault;
 pub use journal::Journal;
-pub use laws::images_are_fair;
-pub use names::journal_name;
-pub use row_reading::{TxRef, read_tx};
-
-#[cfg(test)]
-mod row_tests;
-#[cfg(test)]
-mod tests;

@@ -1,9 +1,9 @@
 use Rattle.std.proofs.lemmas.Result.{err_from_is_err_and}
 use Rattle.mx_outside.specs.Disks.{appended, file_synced}
-use Rattle.mx_journal.specs.Making.{extended}
-use Rattle.mx_journal.proofs.ToldLaws.{became_changed, then_changed, told_after, told_chain}
+use Rattle.mx_images.specs.Changes.{with_appended}
+use Rattle.mx_images.proofs.ToldLaws.{became_changed, then_changed, told_after, told_chain}
 use Rattle.mx_journal.proofs.CallLaws.{not_synced}
-use Rattle.mx_journal.proofs.DiskLaws.{has, there_appended, there_extended}
+use Rattle.mx_images.proofs.DiskLaws.{has, there_appended, there_extended}
 use Rattle.mx_journal.proofs.making.append_synced.Goals as goal
 
 pub sync-requires : goal.sync-requires
@@ -34,7 +34,7 @@ returns-clause-there g c =
     let before = g.D.Dir.states c.args.dir.now in
     let middle = g.D.Dir.states c.append.new.self in
     let after = g.D.Dir.states c.sync.new.self in
-    told_after (extended name bytes) before after (has name) (has name) (told_chain before middle after c.in_ok-append.ensures.told c.in_ok-sync.ensures.told)
+    told_after (with_appended name bytes) before after (has name) (has name) (told_chain before middle after c.in_ok-append.ensures.told c.in_ok-sync.ensures.told)
     (then_changed (appended name bytes) (file_synced name) before middle after
     (became_changed (appended name bytes) _ _ c.in_ok-append.ensures.bytes) (became_changed (file_synced name) _ _ c.in_ok-sync.ensures.synced))
     c.requires (there_extended name bytes)

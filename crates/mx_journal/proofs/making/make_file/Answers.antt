@@ -1,15 +1,14 @@
 use Rattle.std.proofs.Common.{◌++◌, ap, ◌∙◌}
-use Rattle.mx_model.specs.Files.{draft_ending}
-use Rattle.mx_journal.specs.Fair.{counts}
+use Rattle.mx_files.specs.Names.{draft_ending, counts}
 use Rattle.mx_journal.proofs.MakeLaws.{draft_counts, drafts_may, made_moments, failed_moments, there_now}
-use Rattle.mx_journal.proofs.ToldLaws.{made_changed}
+use Rattle.mx_images.proofs.ToldLaws.{made_changed}
 use Rattle.mx_journal.proofs.making.make_file.Goals as goal
 
 pub returns-clause-made : goal.returns-clause-made
 returns-clause-made g c =
     made_changed (c.args.name.now ++ draft_ending) c.as_str.result.now c.as_str-2.result.now c.args.name.now c.args.bytes.now
-    (g.D.Dir.states c.args.dir.now) (g.D.Dir.states c.write_draft.new.dir) (g.D.Dir.states c.settle.new.dir)
-    (c.as_str.ensures.value ∙ c.in_ok-draft.ensures) (c.as_str-2.ensures.value ∙ c.in_ok-draft.ensures) c.in_ok-write_draft.ensures.made c.in_ok-settle.ensures.made
+    (g.D.Dir.states c.args.dir.now) (g.D.Dir.states c.write_draft.new.dir) (g.D.Dir.states c.rename_durably.new.dir)
+    (c.as_str.ensures.value ∙ c.in_ok-draft.ensures) (c.as_str-2.ensures.value ∙ c.in_ok-draft.ensures) c.in_ok-write_draft.ensures.made c.in_ok-rename_durably.ensures.made
 
 pub write_draft-requires : goal.write_draft-requires
 write_draft-requires g c = ap counts (c.as_str.ensures.value ∙ c.in_ok-draft.ensures) ∙ draft_counts c.args.name.now
@@ -18,23 +17,23 @@ pub returns-in_err-write_draft-clause-moments : goal.returns-in_err-write_draft-
 returns-in_err-write_draft-clause-moments g c =
     drafts_may c.args.name.now c.args.bytes.now (g.D.Dir.states c.args.dir.now) (g.D.Dir.states c.write_draft.new.dir) c.in_err-write_draft.ensures.moments
 
-pub returns-in_err-settle-clause-moments : goal.returns-in_err-settle-clause-moments
-returns-in_err-settle-clause-moments g c =
+pub returns-in_err-rename_durably-clause-moments : goal.returns-in_err-rename_durably-clause-moments
+returns-in_err-rename_durably-clause-moments g c =
     failed_moments c.as_str.result.now c.as_str-2.result.now c.args.name.now c.args.bytes.now
-    (g.D.Dir.states c.args.dir.now) (g.D.Dir.states c.write_draft.new.dir) (g.D.Dir.states c.settle.new.dir)
+    (g.D.Dir.states c.args.dir.now) (g.D.Dir.states c.write_draft.new.dir) (g.D.Dir.states c.rename_durably.new.dir)
     (c.as_str.ensures.value ∙ c.in_ok-draft.ensures) (c.as_str-2.ensures.value ∙ c.in_ok-draft.ensures)
-    c.in_ok-write_draft.ensures.told c.in_ok-write_draft.ensures.made c.in_ok-write_draft.ensures.moments c.in_err-settle.ensures.states
+    c.in_ok-write_draft.ensures.told c.in_ok-write_draft.ensures.made c.in_ok-write_draft.ensures.moments c.in_err-rename_durably.ensures.states
 
 pub returns-clause-moments : goal.returns-clause-moments
 returns-clause-moments g c =
     made_moments c.as_str.result.now c.as_str-2.result.now c.args.name.now c.args.bytes.now
-    (g.D.Dir.states c.args.dir.now) (g.D.Dir.states c.write_draft.new.dir) (g.D.Dir.states c.settle.new.dir)
+    (g.D.Dir.states c.args.dir.now) (g.D.Dir.states c.write_draft.new.dir) (g.D.Dir.states c.rename_durably.new.dir)
     (c.as_str.ensures.value ∙ c.in_ok-draft.ensures) (c.as_str-2.ensures.value ∙ c.in_ok-draft.ensures)
-    c.in_ok-write_draft.ensures.told c.in_ok-write_draft.ensures.made c.in_ok-write_draft.ensures.moments c.in_ok-settle.ensures.states
+    c.in_ok-write_draft.ensures.told c.in_ok-write_draft.ensures.made c.in_ok-write_draft.ensures.moments c.in_ok-rename_durably.ensures.states
 
 pub returns-clause-there : goal.returns-clause-there
 returns-clause-there g c = λ counting.
-    there_now c.args.name.now c.args.bytes.now (g.D.Dir.states c.args.dir.now) (g.D.Dir.states c.settle.new.dir) counting
+    there_now c.args.name.now c.args.bytes.now (g.D.Dir.states c.args.dir.now) (g.D.Dir.states c.rename_durably.new.dir) counting
     (made_changed (c.args.name.now ++ draft_ending) c.as_str.result.now c.as_str-2.result.now c.args.name.now c.args.bytes.now
-    (g.D.Dir.states c.args.dir.now) (g.D.Dir.states c.write_draft.new.dir) (g.D.Dir.states c.settle.new.dir)
-    (c.as_str.ensures.value ∙ c.in_ok-draft.ensures) (c.as_str-2.ensures.value ∙ c.in_ok-draft.ensures) c.in_ok-write_draft.ensures.made c.in_ok-settle.ensures.made)
+    (g.D.Dir.states c.args.dir.now) (g.D.Dir.states c.write_draft.new.dir) (g.D.Dir.states c.rename_durably.new.dir)
+    (c.as_str.ensures.value ∙ c.in_ok-draft.ensures) (c.as_str-2.ensures.value ∙ c.in_ok-draft.ensures) c.in_ok-write_draft.ensures.made c.in_ok-rename_durably.ensures.made)

@@ -1,8 +1,8 @@
 use Rattle.mx_outside.specs.Disks.{created}
-use Rattle.mx_journal.specs.Making.{extended}
-use Rattle.mx_journal.proofs.ToldLaws.{became_changed, then_changed, told_after, told_nothing}
+use Rattle.mx_images.specs.Changes.{with_appended}
+use Rattle.mx_images.proofs.ToldLaws.{became_changed, then_changed, told_after, told_nothing}
 use Rattle.mx_journal.proofs.CallLaws.{drafting_begun, drafting_done, drafting_failed}
-use Rattle.mx_journal.proofs.DiskLaws.{has, there_created}
+use Rattle.mx_images.proofs.DiskLaws.{has, there_created}
 use Rattle.mx_journal.proofs.making.write_draft.Goals as goal
 
 pub append_synced-requires : goal.append_synced-requires
@@ -14,7 +14,7 @@ append_synced-requires g c =
 pub returns-clause-made : goal.returns-clause-made
 returns-clause-made g c =
     let name = c.args.name.now in
-    then_changed (created name) (extended name c.args.bytes.now) (g.D.Dir.states c.args.dir.now) (g.D.Dir.states c.create.new.self) (g.D.Dir.states c.append_synced.new.dir)
+    then_changed (created name) (with_appended name c.args.bytes.now) (g.D.Dir.states c.args.dir.now) (g.D.Dir.states c.create.new.self) (g.D.Dir.states c.append_synced.new.dir)
     (became_changed (created name) _ _ c.in_ok-create.ensures.made) c.in_ok-append_synced.ensures.made
 
 pub returns-in_err-create-clause-moments : goal.returns-in_err-create-clause-moments

@@ -1,11 +1,10 @@
 use Rattle.std.proofs.Common.{◌≡◌, ◌++◌, length, string_bytes, refl, ap, ◌∙◌}
 use Rattle.mx_xlog.specs.Headers.{header_of}
-use Rattle.mx_model.specs.Files.{journal_name}
+use Rattle.mx_files.specs.Names.{journal_name, counts}
 use Rattle.mx_journal.specs.declared.journal.Journal.{Journal}
-use Rattle.mx_journal.specs.Fair.{counts}
 use Rattle.mx_journal.specs.Written.{name_of}
 use Rattle.mx_journal.proofs.BegunLaws.{begins_moments, begun_there}
-use Rattle.mx_journal.proofs.FairLaws.{name_counts}
+use Rattle.mx_journal.proofs.NameLaws.{name_counts}
 use Rattle.mx_journal.proofs.WrittenLaws.{begun_now}
 use Rattle.mx_journal.proofs.journal.Journal.create.Goals as goal
 

@@ -1,16 +1,15 @@
 use Rattle.std.proofs.Common.{◌++◌, sym, ap, ◌∙◌}
 use mathlib.Core.Path.{subst}
 use Rattle.mx_xlog.specs.Blocks.{IsData, block_of}
-use Rattle.mx_model.specs.Rows.{transaction_text}
-use Rattle.mx_journal.proofs.BlockLaws.{waits_pushed}
-use Rattle.mx_journal.proofs.RowLaws.{transaction_fits}
+use Rattle.mx_row.specs.Rows.{transaction_text}
+use Rattle.mx_journal.proofs.BlockLaws.{transaction_data, waits_pushed}
 use Rattle.mx_journal.proofs.WrittenLaws.{pushed_written}
 use Rattle.mx_journal.proofs.journal.Journal.push.Goals as goal
 
 pub write_block-requires : goal.write_block-requires
 write_block-requires c =
     let rows = c.as_slice.ensures ∙ c.in_ok-write_tx.ensures ∙ ap (λ front. front ++ transaction_text c.args.tx.now) c.new-rows.ensures in
-    subst IsData (sym rows) (transaction_fits c.args.tx.now c.requires.sound)
+    subst IsData (sym rows) (transaction_data c.args.tx.now c.requires.sound)
 
 pub returns-clause-waits : goal.returns-clause-waits
 returns-clause-waits c = λ waits waiting.

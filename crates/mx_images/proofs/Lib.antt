@@ -1,0 +1,4 @@
+pub mod ToldLaws
+pub mod MomentLaws
+pub mod DiskLaws
+pub mod FairLaws

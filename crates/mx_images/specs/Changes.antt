@@ -1,0 +1,35 @@
+-- What calls on a directory make of its disk.
+use Rattle.std.specs.Prelude.{◌≡◌, ℕ, true, false, List, ◌∷◌, Option, Some}
+use Rattle.std.specs.FinMap as finite
+use Rattle.mx_outside.specs.Disks.{Disk, Files, IfKnown, appended, created, file_synced, names_synced, renamed}
+use Rattle.mx_files.specs.Names.{same_bytes, counts}
+
+-- the newest state has this
+abbrev pub IsNow : Option (List Disk) → (Disk → Type 0) → Type 0
+IsNow states P = (disk : Disk) × (past : List Disk) × (states ≡ Some (disk ∷ past)) × P disk
+
+-- the files but this one, and all durable names, are as they were
+pub record SameOthers (name : List ℕ) (before after : Disk) : Type 0 where
+  pub files : (other : List ℕ) → same_bytes other name ≡ false → finite.get after.now other ≡ finite.get before.now other
+  pub older : after.older ≡ before.older
+
+-- the newest state is this change of the one before
+abbrev pub Changed : (Disk → Disk) → (before after : Option (List Disk)) → Type 0
+Changed change before after = IfKnown before (λ disk past. IsNow after (λ now. now ≡ change disk))
+
+-- the file with these bytes after the others, durable
+abbrev pub with_appended : List ℕ → List ℕ → Disk → Disk
+with_appended name more disk = file_synced name (appended name more disk)
+
+-- a file of these bytes, durable
+abbrev pub with_draft : List ℕ → List ℕ → Disk → Disk
+with_draft name bytes disk = with_appended name bytes (created name disk)
+
+-- the file under its new name; all names are durable
+abbrev pub renamed_durably : List ℕ → List ℕ → Disk → Disk
+renamed_durably from to disk = names_synced (renamed from to disk)
+
+-- the journals and snapshots but the one of this name are the same
+abbrev pub SameBut : List ℕ → Files → Files → Type 0
+SameBut name one other =
+    (q : List ℕ) → counts q ≡ true → same_bytes q name ≡ false → finite.get other q ≡ finite.get one q

@@ -1,0 +1,9 @@
+use Rattle.std.proofs.Common.{◌≡◌, ◌+◌, ◌++◌, take}
+use Rattle.mx_row.specs.Rows.{rows_text}
+use Rattle.mx_row.proofs.writing.write_tx.Given as goal
+
+abbrev pub invariant-loop-row : goal.invariant-loop-row
+invariant-loop-row l = record {
+  written : l.out ≡ l.initial.out ++ rows_text l.tx.replica l.tx.first (take l.row-index l.tx.rows);
+  lsn : l.lsn ≡ l.tx.first + l.row-index;
+}

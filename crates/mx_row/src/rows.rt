@@ -1,0 +1,52 @@
+//! Rows in order, which a contract sees as a list.
+
+ghost use Rattle.std.specs.Prelude.{◌≡◌, [], ◌∷◌, ◌++◌, OnOk, OnErr};
+
+use crate::row::Row;
+use std::alloc::{AllocError, Global};
+use std::marker::Model;
+
+/// Rows in order.
+#[derive(Debug, Drop)]
+pub struct Rows {
+    items: Vec<Row>,
+}
+
+impl Model for Rows {
+    ghost use Rattle.std.specs.Prelude.{List};
+    ghost use Rattle.mx_row.specs.declared.row.Row.{Row};
+
+    ghost Value = { List Row };
+
+    ghost view = { λ r. r.items.items };
+}
+
+impl Rows {
+    /// No row.
+    pub fn new(alloc: Global) -> Rows
+        ensures { result ≡ [] }
+    {
+        Rows {
+            items: Vec::new(alloc),
+        }
+    }
+
+    /// The rows in place.
+    pub fn as_slice(&self) -> &[Row]
+        ensures { result.now ≡ self.now }
+    {
+        self.items.as_slice()
+    }
+
+    /// Adds a row at the end.
+    ///
+    /// # Errors
+    /// Out of memory. The rows are then as they were.
+    pub fn push(&mut self, row: Row) -> Result<(), AllocError>
+        ensures ok { OnOk result (self.new ≡ self.old ++ row ∷ []) }
+        ensures err { OnErr result (self.new ≡ self.old) }
+    {
+        self.items.push(row)?;
+        Ok(())
+    }
+}

@@ -1,0 +1,70 @@
+//! Rows of a journal, written in their shortest spelling.
+
+ghost use Rattle.std.specs.Prelude.{◌≡◌, ◌++◌, ◌∷◌, OnOk};
+ghost use Rattle.mx_msgpack.specs.Spelling.{shortest_unsigned};
+ghost use Rattle.mx_base.specs.Keys.{type_key, replica_key, lsn_key};
+ghost use Rattle.mx_row.specs.Rows.{IsTransaction, transaction_text, row_text, row_body_text, replace_type};
+
+use crate::row::Row;
+use crate::tx::Tx;
+use mx_base::keys;
+use mx_msgpack::{Bytes, write_unsigned};
+use std::alloc::AllocError;
+
+/// The leading byte of a map of two pairs.
+const MAP_OF_TWO: u8 = 0x82;
+
+/// The leading byte of a map of three pairs.
+const MAP_OF_THREE: u8 = 0x83;
+
+/// The type of a row that puts a tuple in the place of another one.
+const REPLACE: u8 = 3;
+
+/// Adds the rows of a transaction.
+pub fn write_tx(tx: &Tx, out: &mut Bytes) -> Result<(), AllocError>
+    requires { IsTransaction tx.now }
+    ensures { OnOk result (out.new ≡ out.old ++ transaction_text tx.now) }
+{
+    let mut lsn = tx.first;
+    for row in tx.rows.as_slice() {
+        write_row(tx.replica, lsn, row, out)?;
+        lsn += 1;
+    }
+    Ok(())
+}
+
+/// Adds a row: its header and its body.
+fn write_row(replica: u8, lsn: u64, row: &Row, out: &mut Bytes) -> Result<(), AllocError>
+    ensures { OnOk result (out.new ≡ out.old ++ row_text replica lsn row.now) }
+{
+    write_head(replica, lsn, out)?;
+    write_body(row, out)?;
+    Ok(())
+}
+
+/// Adds the header of a row.
+fn write_head(replica: u8, lsn: u64, out: &mut Bytes) -> Result<(), AllocError>
+    ensures { OnOk result (out.new ≡ out.old
+        ++ ((0x83 ∷ type_key ∷ replace_type ∷ replica_key ∷ shortest_unsigned replica) ++ (lsn_key ∷ shortest_unsigned lsn))) }
+{
+    out.extend_from_slice(&[MAP_OF_THREE, keys::TYPE, REPLACE, keys::REPLICA])?;
+    write_unsigned(u64::from(replica), out)?;
+    out.extend_from_slice(&[keys::LSN])?;
+    write_unsigned(lsn, out)?;
+    Ok(())
+}
+
+/// Adds the body of a row.
+fn write_body(row: &Row, out: &mut Bytes) -> Result<(), AllocError>
+    ensures { OnOk result (out.new ≡ out.old ++ row_body_text row.now) }
+{
+    match row {
+        Row::Replaced { space, tuple } => {
+            out.extend_from_slice(&[MAP_OF_TWO, keys::SPACE])?;
+            write_unsigned(u64::from(*space), out)?;
+            out.extend_from_slice(&[keys::TUPLE])?;
+            out.extend_from_slice(tuple.as_slice())?;
+            Ok(())
+        }
+    }
+}
