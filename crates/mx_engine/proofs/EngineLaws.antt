@@ -1,5 +1,5 @@
 -- What a step makes of an engine, and of what it stands for.
-use Rattle.std.proofs.Common.{◌≡◌, ◌⊎◌, inl, inr, ℕ, suc, ◌+◌, ◌-◌, ◌<◌, ◌≤◌, length, pos, Bool, true, false, not, List, [], ◌∷◌, ◌++◌, refl, true≢false, sym, ap, ◌∙◌, subst, append-nil, arith}
+use Rattle.std.proofs.Common.{◌≡◌, ◌⊎◌, inl, inr, ℕ, suc, ◌+◌, ◌-◌, ◌<◌, ◌≤◌, Bool, true, false, not, List, [], ◌∷◌, ◌++◌, refl, true≢false, sym, ap, ◌∙◌, subst, append-nil, arith}
 use Rattle.std.specs.FinMap.{get}
 use Rattle.std.specs.Prelude.{Ok, Err, ◌==◌, ◌&&◌, ◌||◌, Some, None, nat_lt, slice_index, slice_set, if◌then◌else◌}
 use Rattle.std.proofs.lemmas.Bool.{eqb-true, lt-ltb, le-ltb}
@@ -8,36 +8,38 @@ use Rattle.mx_base.specs.declared.ids.SpaceId.{SpaceId}
 use Rattle.mx_base.specs.declared.ids.IndexId.{IndexId}
 use Rattle.mx_base.specs.declared.ids.TxnName.{TxnName}
 use Rattle.mx_base.specs.declared.refusal.Refusal.{Refusal}
-use Rattle.mx_base.specs.declared.refusal.Refusal.TheVariants.{OutOfMemory, ReadOnly, SpaceMissing, UnknownRequestType, TupleTooLong, LsnsUsedUp, ResultTooLong}
+use Rattle.mx_base.specs.declared.refusal.Refusal.TheVariants.{OutOfMemory, ReadOnly, UnknownRequestType, LsnsUsedUp, ResultTooLong}
 use Rattle.mx_request.specs.declared.request.Ask.TheVariants as ask
 use Rattle.mx_request.specs.declared.request.Request.{Request}
 use Rattle.mx_request.specs.declared.request.Request.TheVariants as request
-use Rattle.mx_request.specs.Spelling.{kind_number, IsAskable}
+use Rattle.mx_request.specs.Spelling.{type_number, IsAskable}
 use Rattle.mx_model.specs.declared.reply.Reply.{Reply}
 use Rattle.mx_model.specs.declared.reply.Reply.TheVariants.{Tuples, Refused}
-use Rattle.mx_model.specs.declared.row.Row.TheVariants.{Replaced}
-use Rattle.mx_model.specs.declared.tx.Tx.{Tx}
+use Rattle.mx_row.specs.declared.row.Row.TheVariants.{Replaced}
+use Rattle.mx_row.specs.declared.tx.Tx.{Tx}
 use Rattle.mx_model.specs.declared.state.State as coded
-use Rattle.mx_key.specs.declared.fault.KeyFault.{KeyFault}
-use Rattle.mx_key.specs.declared.fault.KeyFault.TheVariants.{NoMemory}
 use Rattle.mx_key.specs.declared.iterator.IterKind.{IterKind}
 use Rattle.mx_key.specs.declared.fault.Misfit.{Misfit}
-use Rattle.mx_key.specs.Keys.{Key, AreFit}
-use Rattle.mx_key.specs.Parts.{given}
-use Rattle.mx_model.specs.declared.selecting.SelectStop.{SelectStop}
-use Rattle.mx_model.specs.declared.selecting.SelectStop.TheVariants.{TooLong, NoMemory as NoRoom}
+use Rattle.mx_key.specs.Keys.{Key}
+use Rattle.mx_key.specs.Parts.{key_of_array}
+use Rattle.mx_model.specs.declared.pick.SelectStop.{SelectStop}
+use Rattle.mx_model.specs.declared.pick.SelectStop.TheVariants.{TooLong, NoMemory as NoRoom}
 use Rattle.mx_model.specs.Picks.{pick, entries_of, total_bytes, max_result_size}
-use Rattle.mx_model.specs.State.{State, test_space, test_parts, key_in}
+use Rattle.mx_model.specs.State.{State, test_space, test_parts}
 use Rattle.mx_model.specs.Stored.{Holds}
-use Rattle.mx_model.specs.Answers.{Answer, Read, space_read, answer_to, refused, refused_after, not_built, schema_reads, in_space, selected, iterator_of, replaced, max_tuple_size, fault_refusal, misfit_refusal, state_after_row}
-use Rattle.mx_model.specs.Transactions.{state_after, clock_after}
-use Rattle.mx_model.specs.Histories.{Base, History, Asked, Left, node_answer, answer_in, numbered, committed, is_write, commits_of, writable_node, is_out_of_memory, ledger_of, state_of, clock_of}
-use Rattle.mx_model.proofs.StateLaws.{HasOneSpace}
-use Rattle.mx_model.proofs.AnswerLaws.{space_is_missing, key_is_misfit, tuples_are_picked, result_is_too_long, tuple_is_too_long, tuple_has_no_key, tuple_is_replaced}
+use Rattle.mx_model.specs.Answers.{answer_to, state_after_row}
+use Rattle.mx_model.specs.statements.Replace.{replace_answer_in, replaced}
+use Rattle.mx_model.specs.statements.Select.{select_answer, iterator_of, misfit_refusal}
+use Rattle.mx_model.specs.statements.Lookup.{schema_reads, in_space}
+use Rattle.mx_model.specs.statements.Answer.{Answer, Read, refusal_alone, refusal_after, not_built}
+use Rattle.mx_model.specs.Transactions.{state_after}
+use Rattle.mx_row.specs.Clocks.{clock_after}
+use Rattle.mx_model.specs.Histories.{Base, History, Asked, Left, node_answer, answer_in, with_lsn, commit_of, is_write, commits_of, writable_node, is_out_of_memory, ledger_of, state_of, clock_of}
+use Rattle.mx_model.proofs.AnswerLaws.{one_space, key_is_misfit, tuples_are_picked, result_is_too_long}
 use Rattle.mx_model.proofs.HistoryLaws.{select_no_row, committed-no_row, state_of-asked, clock_of-asked, untaken-asked, untaken}
 use Rattle.mx_engine.specs.declared.engine.Engine.{Engine}
 use Rattle.mx_engine.specs.Standing.{EngineStandsFor}
-use Rattle.mx_engine.specs.Steps.{IsTold, Keeps, Stores, Answers, transaction_of, lsn_after, answer_by, commits_by, takes}
+use Rattle.mx_engine.specs.Steps.{IsReplyOf, SameNode, Stores, AnswersRequest, transaction_of, lsn_after, answer_by, commits_by, accepts}
 
 both_tests : (mine writes : Bool) → (mine || not writes) ≡ true → (writes && not mine) ≡ false
 both_tests true true taken = refl
@@ -57,32 +59,32 @@ writer false false taken write = write
 
 module _ (engine : Engine) (before : State) (asked : Request) where
   -- what a node that is only read tells of a request that writes
-  pub answer_read_only : takes engine.ids asked ≡ false → answer_by engine before asked ≡ refused (ReadOnly (record { 0 = writable_node }))
+  pub answer_read_only : accepts engine.ids asked ≡ false → answer_by engine before asked ≡ refusal_alone (ReadOnly (record { 0 = writable_node }))
   answer_read_only other =
-      ap (λ b. if b then refused (ReadOnly (record { 0 = writable_node }))
-      else numbered (lsn_after engine) (answer_to before asked) (answer_to before asked).row)
+      ap (λ b. if b then refusal_alone (ReadOnly (record { 0 = writable_node }))
+      else with_lsn (lsn_after engine) (answer_to before asked) (answer_to before asked).row)
       (neither_test (engine.ids.me == writable_node) (is_write asked) other)
 
-  -- what the node tells of a request that it takes
-  pub answer_taken : (answer : Answer) → takes engine.ids asked ≡ true → answer_to before asked ≡ answer
-      → answer_by engine before asked ≡ numbered (lsn_after engine) answer answer.row
+  -- what the node tells of a request that it accepts
+  pub answer_taken : (answer : Answer) → accepts engine.ids asked ≡ true → answer_to before asked ≡ answer
+      → answer_by engine before asked ≡ with_lsn (lsn_after engine) answer answer.row
   answer_taken answer taken is =
-      ap (λ b. if b then refused (ReadOnly (record { 0 = writable_node }))
-      else numbered (lsn_after engine) (answer_to before asked) (answer_to before asked).row)
+      ap (λ b. if b then refusal_alone (ReadOnly (record { 0 = writable_node }))
+      else with_lsn (lsn_after engine) (answer_to before asked) (answer_to before asked).row)
       (both_tests (engine.ids.me == writable_node) (is_write asked) taken)
-      ∙ ap (λ a. numbered (lsn_after engine) a a.row) is
+      ∙ ap (λ a. with_lsn (lsn_after engine) a a.row) is
 
   -- the same of an answer that leaves no row
-  pub answer_without_row : (answer : Answer) → takes engine.ids asked ≡ true → answer_to before asked ≡ answer → answer.row ≡ None
+  pub answer_without_row : (answer : Answer) → accepts engine.ids asked ≡ true → answer_to before asked ≡ answer → answer.row ≡ None
       → answer_by engine before asked ≡ answer
-  answer_without_row answer taken is none = answer_taken answer taken is ∙ ap (numbered (lsn_after engine) answer) none
+  answer_without_row answer taken is none = answer_taken answer taken is ∙ ap (with_lsn (lsn_after engine) answer) none
 
 -- an answer without a row stores nothing
-pub answers_no_row : (old new : Engine) (before : State) (request : Request) (reply : Reply) → IsTold reply (answer_by old before request)
-    → (answer_by old before request).row ≡ None → Stores old new before [] → new.clock ≡ old.clock → Answers old new before request reply
+pub answers_no_row : (old new : Engine) (before : State) (request : Request) (reply : Reply) → IsReplyOf reply (answer_by old before request)
+    → (answer_by old before request).row ≡ None → Stores old new before [] → new.clock ≡ old.clock → AnswersRequest old new before request reply
 answers_no_row old new before request reply told none stores clock =
     let nothing : [] ≡ commits_by old before request reply =
-    sym (ap (committed old.ids.me (lsn_after old) (is_out_of_memory reply)) none
+    sym (ap (commit_of old.ids.me (lsn_after old) (is_out_of_memory reply)) none
     ∙ committed-no_row old.ids.me (lsn_after old) (is_out_of_memory reply)) in
     record {
       told = told;
@@ -108,123 +110,94 @@ stores_one old new before lsn tuple transaction is holds pending = record {
 }
 
 pub answers_refused : (engine : Engine) (before : State) (request : Request) (reads : List Read) (refusal : Refusal)
-    → answer_by engine before request ≡ refused_after reads refusal → Holds engine.state before → Answers engine engine before request (Refused refusal)
+    → answer_by engine before request ≡ refusal_after reads refusal → Holds engine.state before → AnswersRequest engine engine before request (Refused refusal)
 answers_refused engine before request reads refusal is holds =
     answers_no_row engine engine before request (Refused refusal) (inl (sym (ap (λ a. a.reply) is))) (ap (λ a. a.row) is)
     (stores_nothing engine before holds) refl
 
--- the one space is there
-abbrev pub one_space : (memory : coded.State) (before : State) → Holds memory before → HasOneSpace before
-one_space memory before holds = record { tuples = holds.keeps.tuples; there = holds.keeps.there; others = holds.keeps.others }
-
--- a request that the node takes, that leaves no row and needs no memory
-pub answers_told : (engine : Engine) (before : State) (asked : Request) (reply : Reply) → takes engine.ids asked ≡ true → Holds engine.state before
-    → IsTold reply (answer_to before asked) → (answer_to before asked).row ≡ None → Answers engine engine before asked reply
+-- a request that the node accepts, that leaves no row and needs no memory
+pub answers_told : (engine : Engine) (before : State) (asked : Request) (reply : Reply) → accepts engine.ids asked ≡ true → Holds engine.state before
+    → IsReplyOf reply (answer_to before asked) → (answer_to before asked).row ≡ None → AnswersRequest engine engine before asked reply
 answers_told engine before asked reply taken holds told none =
     let is = answer_without_row engine before asked (answer_to before asked) taken refl none in
-    answers_no_row engine engine before asked reply (subst (IsTold reply) (sym is) told) (ap (λ a. a.row) is ∙ none) (stores_nothing engine before holds) refl
+    answers_no_row engine engine before asked reply (subst (IsReplyOf reply) (sym is) told) (ap (λ a. a.row) is ∙ none) (stores_nothing engine before holds) refl
 
 -- the same of a request that isn't built
-pub answers_not_built : (engine : Engine) (before : State) (asked : Request) → takes engine.ids asked ≡ true → Holds engine.state before
-    → answer_to before asked ≡ not_built asked → Answers engine engine before asked (Refused (UnknownRequestType (kind_number asked)))
+pub answers_not_built : (engine : Engine) (before : State) (asked : Request) → accepts engine.ids asked ≡ true → Holds engine.state before
+    → answer_to before asked ≡ not_built asked → AnswersRequest engine engine before asked (Refused (UnknownRequestType (type_number asked)))
 answers_not_built engine before asked taken holds is =
-    answers_told engine before asked (Refused (UnknownRequestType (kind_number asked))) taken holds (inl (sym (ap (λ a. a.reply) is))) (ap (λ a. a.row) is)
+    answers_told engine before asked (Refused (UnknownRequestType (type_number asked))) taken holds (inl (sym (ap (λ a. a.reply) is))) (ap (λ a. a.row) is)
 
 -- a SELECT
 pub answers_selected : (engine : Engine) (before : State) (asked : Request) (reply : Reply) (space : SpaceId) (index : IndexId)
-    (limit offset iterator : ℕ) (key sought : List ℕ) (kind : IterKind) → takes engine.ids asked ≡ true → Holds engine.state before
+    (limit offset iterator : ℕ) (key sought : List ℕ) (kind : IterKind) → accepts engine.ids asked ≡ true → Holds engine.state before
     → asked ≡ request.Select space index limit offset iterator key → sought ≡ key → kind ≡ iterator_of iterator
-    → IsTold reply (in_space space.0 (get before space.0) (selected space.0 index.0 limit offset kind sought))
-    → Answers engine engine before asked reply
+    → IsReplyOf reply (in_space space.0 (get before space.0) (select_answer space.0 index.0 limit offset kind sought))
+    → AnswersRequest engine engine before asked reply
 answers_selected engine before asked reply space index limit offset iterator key sought kind taken holds is same by told =
-    let answer : answer_to before asked ≡ in_space space.0 (get before space.0) (selected space.0 index.0 limit offset kind sought) =
+    let answer : answer_to before asked ≡ in_space space.0 (get before space.0) (select_answer space.0 index.0 limit offset kind sought) =
     ap (answer_to before) is
-    ∙ ap (λ k. in_space space.0 (get before space.0) (selected space.0 index.0 limit offset k key)) (sym by)
-    ∙ ap (λ k. in_space space.0 (get before space.0) (selected space.0 index.0 limit offset kind k)) (sym same) in
-    answers_told engine before asked reply taken holds (subst (IsTold reply) (sym answer) told)
+    ∙ ap (λ k. in_space space.0 (get before space.0) (select_answer space.0 index.0 limit offset k key)) (sym by)
+    ∙ ap (λ k. in_space space.0 (get before space.0) (select_answer space.0 index.0 limit offset kind k)) (sym same) in
+    answers_told engine before asked reply taken holds (subst (IsReplyOf reply) (sym answer) told)
     (ap (λ a. a.row) answer ∙ select_no_row space.0 index.0 limit offset kind sought (get before space.0))
 
--- a REPLACE, by the first test that it fails
+-- a REPLACE
 module _ (engine : Engine) (before : State) (space : SpaceId) (tuple : List ℕ)
-    (taken : takes engine.ids (request.Replace space tuple) ≡ true) (holds : Holds engine.state before) where
+    (taken : accepts engine.ids (request.Replace space tuple) ≡ true) (holds : Holds engine.state before) where
   abbrev asked : Request
   asked = request.Replace space tuple
 
-  refused_by : (reads : List Read) (refusal : Refusal) → answer_to before asked ≡ refused_after reads refusal
-      → Answers engine engine before asked (Refused refusal)
-  refused_by reads refusal put =
-      answers_refused engine before asked reads refusal (answer_without_row engine before asked (refused_after reads refusal) taken put refl) holds
+  -- it is refused, or memory ran out
+  pub answers_unchecked : (refusal : Refusal) → ((reads : List Read) × (replace_answer_in before space.0 tuple ≡ refusal_after reads refusal)) ⊎ (refusal ≡ OutOfMemory)
+      → AnswersRequest engine engine before asked (Refused refusal)
+  answers_unchecked refusal (inl (reads, is)) =
+      answers_refused engine before asked reads refusal (answer_without_row engine before asked (refusal_after reads refusal) taken is refl) holds
+  answers_unchecked refusal (inr none) =
+      subst (λ r. AnswersRequest engine engine before asked (Refused r)) (sym none)
+      record { told = inr refl; stores = stores_nothing engine before holds; clock = refl }
 
-  pub answers_missing : (space.0 ≡ test_space → ⊥) → Answers engine engine before asked (Refused (SpaceMissing space))
-  answers_missing other =
-      refused_by (space_read space.0 ∷ []) (SpaceMissing space)
-      (space_is_missing before (one_space engine.state before holds) space.0 (λ _. replaced space.0 tuple) other)
+  module _ (put : replace_answer_in before space.0 tuple ≡ replaced space.0 tuple) where
+    -- the node is the one that may be written
+    pub writes_here : engine.ids.me ≡ writable_node
+    writes_here = eqb-true engine.ids.me writable_node (writer (engine.ids.me == writable_node) true taken refl)
 
-  module _ (same : space.0 ≡ test_space) where
-    pub answers_too_long : max_tuple_size < length tuple → Answers engine engine before asked (Refused (TupleTooLong (length tuple)))
-    answers_too_long above =
-        refused_by (schema_reads space.0) (TupleTooLong (length tuple))
-        (tuple_is_too_long before (one_space engine.state before holds) space.0 tuple same above)
+    abbrev answer : Bool → Answer
+    answer used_up = if used_up then refusal_after (schema_reads space.0) LsnsUsedUp else replaced space.0 tuple
 
-    module _ (short : length tuple ≤ max_tuple_size) where
-      -- it has no primary key, or memory was missing
-      pub answers_no_key : (fault : KeyFault) (refusal : Refusal) → refusal ≡ fault_refusal fault → (key_in test_parts tuple ≡ Err fault) ⊎ (fault ≡ NoMemory)
-          → Answers engine engine before asked (Refused refusal)
-      answers_no_key fault refusal is (inl faulty) =
-          subst (λ r. Answers engine engine before asked (Refused r)) (sym is)
-          (refused_by (schema_reads space.0) (fault_refusal fault)
-          (tuple_has_no_key before (one_space engine.state before holds) space.0 tuple same short fault faulty))
-      answers_no_key fault refusal is (inr none) =
-          subst (λ r. Answers engine engine before asked (Refused r)) (sym (is ∙ ap fault_refusal none))
-          record { told = inr refl; stores = stores_nothing engine before holds; clock = refl }
+    pub replaced_by : (used_up : Bool) → nat_lt max_lsn (lsn_after engine) ≡ used_up → answer_by engine before asked ≡ answer used_up
+    replaced_by used_up test = answer_taken engine before asked (answer false) taken put ∙ ap answer test
 
-      module _ (key : Key) (keyed : key_in test_parts tuple ≡ Ok key) where
-        -- the node is the one that may be written
-        pub writes_here : engine.ids.me ≡ writable_node
-        writes_here = eqb-true engine.ids.me writable_node (writer (engine.ids.me == writable_node) true taken refl)
+    pub answers_used_up : max_lsn < suc (slice_index engine.clock writable_node) → AnswersRequest engine engine before asked (Refused LsnsUsedUp)
+    answers_used_up above =
+        let lsn = ap (λ id. suc (slice_index engine.clock id)) writes_here in
+        answers_refused engine before asked (schema_reads space.0) LsnsUsedUp
+        (replaced_by true (ap (nat_lt max_lsn) lsn ∙ lt-ltb max_lsn _ above)) holds
 
-        abbrev answer : Bool → Answer
-        answer used_up =
-            if used_up then refused_after (schema_reads space.0) LsnsUsedUp
-            else record { reply = Tuples (tuple ∷ []); row = Some (Replaced space.0 tuple); reads = schema_reads space.0 }
-
-        pub replaced_by : (used_up : Bool) → nat_lt max_lsn (lsn_after engine) ≡ used_up → answer_by engine before asked ≡ answer used_up
-        replaced_by used_up test =
-            answer_taken engine before asked (answer false) taken
-            (tuple_is_replaced before (one_space engine.state before holds) space.0 tuple same short key keyed)
-            ∙ ap answer test
-
-        pub answers_used_up : max_lsn < suc (slice_index engine.clock writable_node) → Answers engine engine before asked (Refused LsnsUsedUp)
-        answers_used_up above =
-            let lsn = ap (λ id. suc (slice_index engine.clock id)) writes_here in
-            answers_refused engine before asked (schema_reads space.0) LsnsUsedUp
-            (replaced_by true (ap (nat_lt max_lsn) lsn ∙ lt-ltb max_lsn _ above)) holds
-
--- memory was missing
+-- memory ran out
 pub answers_no_memory : (old new : Engine) (before : State) (request : Request) → Stores old new before [] → new.clock ≡ old.clock
-    → Answers old new before request (Refused OutOfMemory)
+    → AnswersRequest old new before request (Refused OutOfMemory)
 answers_no_memory old new before request stores clock = record { told = inr refl; stores = stores; clock = clock }
 
 -- a REPLACE that is taken
-pub answers_replaced : (old put : Engine) (before : State) (clock : List ℕ) (lsn : ℕ) (space : SpaceId) (tuple copy : List ℕ) (tuples : List (List ℕ)) (key : Key)
-    → takes old.ids (request.Replace space tuple) ≡ true → Holds old.state before → space.0 ≡ test_space → length tuple ≤ max_tuple_size
-    → key_in test_parts tuple ≡ Ok key → copy ≡ tuple → IsNext old.clock writable_node lsn → tuples ≡ copy ∷ []
+pub answers_replaced : (old put : Engine) (before : State) (clock : List ℕ) (lsn : ℕ) (space : SpaceId) (tuple copy : List ℕ) (tuples : List (List ℕ))
+    → accepts old.ids (request.Replace space tuple) ≡ true → Holds old.state before → space.0 ≡ test_space
+    → replace_answer_in before space.0 tuple ≡ replaced space.0 tuple → copy ≡ tuple → IsNext old.clock writable_node lsn → tuples ≡ copy ∷ []
     → Stores old put before (transaction_of lsn copy ∷ []) → clock ≡ slice_set old.clock writable_node lsn
-    → Answers old (record put { clock = clock }) before (request.Replace space tuple) (Tuples tuples)
-answers_replaced old put before clock lsn space tuple copy tuples key taken holds there short keyed same next shown stores reached =
+    → AnswersRequest old (record put { clock = clock }) before (request.Replace space tuple) (Tuples tuples)
+answers_replaced old put before clock lsn space tuple copy tuples taken holds there is_put same next shown stores reached =
     let asked = request.Replace space tuple in
-    let me = writes_here old before space tuple taken holds there short key keyed in
+    let me = writes_here old before space tuple taken holds is_put in
     let number : lsn_after old ≡ lsn = ap (λ id. suc (slice_index old.clock id)) me ∙ sym next.follows in
-    let answer : Answer = record { reply = Tuples (tuple ∷ []); row = Some (Replaced space.0 tuple); reads = schema_reads space.0 } in
-    let is : answer_by old before asked ≡ answer =
-    replaced_by old before space tuple taken holds there short key keyed false
+    let is : answer_by old before asked ≡ replaced space.0 tuple =
+    replaced_by old before space tuple taken holds is_put false
     (ap (nat_lt max_lsn) number ∙ le-ltb max_lsn lsn next.allowed) in
     let commits : transaction_of lsn copy ∷ [] ≡ commits_by old before asked (Tuples tuples) =
-    sym (ap (λ a. committed old.ids.me (lsn_after old) false a.row) is
-    ∙ ap (λ id. committed id (lsn_after old) false (Some (Replaced space.0 tuple))) me
-    ∙ ap (λ first. committed writable_node first false (Some (Replaced space.0 tuple))) number
-    ∙ ap (λ s. committed writable_node lsn false (Some (Replaced s tuple))) there
-    ∙ ap (λ t. committed writable_node lsn false (Some (Replaced test_space t))) (sym same)) in
+    sym (ap (λ a. commit_of old.ids.me (lsn_after old) false a.row) is
+    ∙ ap (λ id. commit_of id (lsn_after old) false (Some (Replaced space.0 tuple))) me
+    ∙ ap (λ first. commit_of writable_node first false (Some (Replaced space.0 tuple))) number
+    ∙ ap (λ s. commit_of writable_node lsn false (Some (Replaced s tuple))) there
+    ∙ ap (λ t. commit_of writable_node lsn false (Some (Replaced test_space t))) (sym same)) in
     let last : lsn ≡ (lsn + 1) - 1 = omega arith in
     record {
       told = inl (ap (λ t. Tuples t) (shown ∙ ap (λ t. t ∷ []) same) ∙ sym (ap (λ a. a.reply) is));
@@ -234,7 +207,7 @@ answers_replaced old put before clock lsn space tuple copy tuples key taken hold
 
 -- an engine that answered a request stands for one step more
 pub stands_answered : (old new : Engine) (base : Base) (history : History) (name : TxnName) (request : Request) (reply : Reply)
-    → EngineStandsFor old base history → IsAskable request → Answers old new (state_of base history) request reply
+    → EngineStandsFor old base history → IsAskable request → AnswersRequest old new (state_of base history) request reply
     → new.ids ≡ old.ids → new.count ≡ old.count + 1 → new.durable ≡ old.durable
     → EngineStandsFor new base (Asked name (ask.Request request) reply ∷ history)
 stands_answered old new base history name request reply stands can answers ids count durable =
@@ -245,11 +218,11 @@ stands_answered old new base history name request reply stands can answers ids c
     ap (λ ids. node_answer ids before (suc (slice_index old.clock ids.me)) request) stands.ids
     ∙ ap (λ clock. node_answer base.ids before (suc (slice_index clock base.ids.me)) request) stands.clock in
     let commits : commits_by old before request reply ≡ commits_of base ledger (ask.Request request) reply =
-    ap (λ a. committed old.ids.me (lsn_after old) memory a.row) answer
-    ∙ ap (λ ids. committed ids.me (suc (slice_index old.clock ids.me)) memory (answer_in base ledger request).row) stands.ids
-    ∙ ap (λ clock. committed base.ids.me (suc (slice_index clock base.ids.me)) memory (answer_in base ledger request).row) stands.clock in
+    ap (λ a. commit_of old.ids.me (lsn_after old) memory a.row) answer
+    ∙ ap (λ ids. commit_of ids.me (suc (slice_index old.clock ids.me)) memory (answer_in base ledger request).row) stands.ids
+    ∙ ap (λ clock. commit_of base.ids.me (suc (slice_index clock base.ids.me)) memory (answer_in base ledger request).row) stands.clock in
     record {
-      legal = (stands.legal, (can, subst (IsTold reply) answer answers.told));
+      legal = (stands.legal, (can, subst (IsReplyOf reply) answer answers.told));
       holds = subst (Holds new.state) (ap (state_after before) commits ∙ sym (state_of-asked base name (ask.Request request) reply history)) answers.stores.holds;
       clock = answers.clock ∙ ap (λ c. clock_after c (commits_by old before request reply)) stands.clock ∙ ap (clock_after (clock_of base history)) commits
           ∙ sym (clock_of-asked base name (ask.Request request) reply history);
@@ -292,8 +265,8 @@ stands_left engine base history connection stands = record {
 
 -- an engine that counted a request and then answered it stands for one step more
 pub stands_counted : (engine new : Engine) (base : Base) (history : History) (name : TxnName) (asked : Request) (reply : Reply)
-    → EngineStandsFor engine base history → IsAskable asked → Answers (counted engine) new (state_of base history) asked reply
-    → Keeps (counted engine) new → EngineStandsFor new base (Asked name (ask.Request asked) reply ∷ history)
+    → EngineStandsFor engine base history → IsAskable asked → AnswersRequest (counted engine) new (state_of base history) asked reply
+    → SameNode (counted engine) new → EngineStandsFor new base (Asked name (ask.Request asked) reply ∷ history)
 stands_counted engine new base history name asked reply stands can answers keeps =
     stands_answered engine new base history name asked reply stands can
     record { told = answers.told; stores = record { holds = answers.stores.holds; pending = answers.stores.pending }; clock = answers.clock }
@@ -301,7 +274,7 @@ stands_counted engine new base history name asked reply stands can answers keeps
 
 -- an engine that counted a request that it doesn't take stands for one step more
 pub stands_read_only : (engine : Engine) (base : Base) (history : History) (name : TxnName) (asked : Request)
-    → EngineStandsFor engine base history → IsAskable asked → takes engine.ids asked ≡ false
+    → EngineStandsFor engine base history → IsAskable asked → accepts engine.ids asked ≡ false
     → EngineStandsFor (counted engine) base (Asked name (ask.Request asked) (Refused (ReadOnly (record { 0 = writable_node }))) ∷ history)
 stands_read_only engine base history name asked stands can other =
     let before = state_of base history in
@@ -314,31 +287,31 @@ stands_read_only engine base history name asked stands can other =
 module _ (memory : coded.State) (before : State) (holds : Holds memory before) (space : SpaceId) (index : IndexId) (limit offset : ℕ) (iterator : IterKind) (key : List ℕ)
     (same : space.0 ≡ test_space) (first : index.0 ≡ 0) where
   abbrev select : Answer
-  select = in_space space.0 (get before space.0) (selected space.0 index.0 limit offset iterator key)
+  select = in_space space.0 (get before space.0) (select_answer space.0 index.0 limit offset iterator key)
 
-  pub tells_misfit : (misfit : Misfit) (refusal : Refusal) → refusal ≡ misfit_refusal misfit → given test_parts key ≡ Err misfit → IsTold (Refused refusal) select
+  pub tells_misfit : (misfit : Misfit) (refusal : Refusal) → refusal ≡ misfit_refusal misfit → key_of_array test_parts key ≡ Err misfit → IsReplyOf (Refused refusal) select
   tells_misfit misfit refusal is gives =
       inl (ap (λ r. Refused r) is
       ∙ sym (ap (λ a. a.reply) (key_is_misfit before (one_space memory before holds) space.0 index.0 limit offset iterator key same first misfit gives)))
 
-  module _ (fitting : Key) (gives : given test_parts key ≡ Ok fitting) where
+  module _ (fitting : Key) (gives : key_of_array test_parts key ≡ Ok fitting) where
     abbrev picked : List (List ℕ)
     picked = (pick (entries_of holds.keeps.tuples) iterator fitting offset limit).tuples
 
-    pub tells_tuples : (tuples : List (List ℕ)) → tuples ≡ picked → total_bytes tuples ≤ max_result_size → IsTold (Tuples tuples) select
+    pub tells_tuples : (tuples : List (List ℕ)) → tuples ≡ picked → total_bytes tuples ≤ max_result_size → IsReplyOf (Tuples tuples) select
     tells_tuples tuples is short =
         inl (ap (λ t. Tuples t) is
         ∙ sym (ap (λ a. a.reply) (tuples_are_picked before (one_space memory before holds) space.0 index.0 limit offset iterator key same first fitting gives
         (subst (λ t. total_bytes t ≤ max_result_size) is short))))
 
     pub tells_too_long : (stop : SelectStop) → stop ≡ TooLong → ((stop ≡ TooLong) × (max_result_size < total_bytes picked)) ⊎ (stop ≡ NoRoom)
-        → IsTold (Refused ResultTooLong) select
+        → IsReplyOf (Refused ResultTooLong) select
     tells_too_long stop is (inl (same_stop, above)) =
         inl (sym (ap (λ a. a.reply) (result_is_too_long before (one_space memory before holds) space.0 index.0 limit offset iterator key same first fitting gives above)))
     tells_too_long stop is (inr none) = absurd cc
 
 -- a REPLACE as it was asked
 pub answers_asked : (old new : Engine) (before : State) (wanted : Request) (reply : Reply) (space : SpaceId) (tuple shown : List ℕ)
-    → wanted ≡ request.Replace space tuple → shown ≡ tuple → Answers old new before (request.Replace space shown) reply → Answers old new before wanted reply
+    → wanted ≡ request.Replace space tuple → shown ≡ tuple → AnswersRequest old new before (request.Replace space shown) reply → AnswersRequest old new before wanted reply
 answers_asked old new before wanted reply space tuple shown same shown_is answers =
-    subst (λ r. Answers old new before r reply) (ap (request.Replace space) shown_is ∙ sym same) answers
+    subst (λ r. AnswersRequest old new before r reply) (ap (request.Replace space) shown_is ∙ sym same) answers

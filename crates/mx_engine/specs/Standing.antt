@@ -4,7 +4,7 @@ use Rattle.mx_model.specs.Stored.{Holds}
 use Rattle.mx_model.specs.Histories.{Base, History, IsLegal, ledger_of, state_of, clock_of}
 use Rattle.mx_engine.specs.declared.engine.Engine.{Engine}
 
--- The history is legal; the engine has the state and the vclock that it leaves, its length, what it says is on the disk,
+-- The history is legal; the engine has the state and the vclock that it leaves, its length, what it says is durable,
 -- and the transactions that no take of it has.
 pub record EngineStandsFor (engine : Engine) (base : Base) (history : History) : Type 0 where
   pub legal : IsLegal base history

@@ -1,34 +1,35 @@
--- What a step leaves an engine with.
+-- Only private functions and proofs need these: what a step leaves an engine with.
 use Rattle.std.specs.Prelude.{◌≡◌, ◌⊎◌, ℕ, suc, Bool, not, ◌||◌, ◌==◌, List, [], ◌∷◌, ◌++◌, slice_index}
 use Rattle.mx_base.specs.declared.refusal.Refusal.TheVariants.{OutOfMemory}
 use Rattle.mx_request.specs.declared.request.Request.{Request}
 use Rattle.mx_model.specs.declared.ids.Ids.{Ids}
 use Rattle.mx_model.specs.declared.reply.Reply.{Reply}
 use Rattle.mx_model.specs.declared.reply.Reply.TheVariants.{Refused}
-use Rattle.mx_model.specs.declared.row.Row.TheVariants.{Replaced}
-use Rattle.mx_model.specs.declared.tx.Tx.{Tx}
+use Rattle.mx_row.specs.declared.row.Row.TheVariants.{Replaced}
+use Rattle.mx_row.specs.declared.tx.Tx.{Tx}
 use Rattle.mx_model.specs.State.{State, test_space}
 use Rattle.mx_model.specs.Stored.{Holds}
-use Rattle.mx_model.specs.Answers.{Answer}
-use Rattle.mx_model.specs.Transactions.{state_after, clock_after}
-use Rattle.mx_model.specs.Histories.{node_answer, committed, writable_node, is_out_of_memory, is_write}
+use Rattle.mx_model.specs.statements.Answer.{Answer}
+use Rattle.mx_model.specs.Transactions.{state_after}
+use Rattle.mx_row.specs.Clocks.{clock_after}
+use Rattle.mx_model.specs.Histories.{node_answer, commit_of, writable_node, is_out_of_memory, is_write}
 use Rattle.mx_engine.specs.declared.engine.Engine.{Engine}
 
--- the reply is this answer's, or memory was missing
-abbrev pub IsTold : Reply → Answer → Type 0
-IsTold reply answer = (reply ≡ answer.reply) ⊎ (reply ≡ Refused OutOfMemory)
+-- the reply is this answer's, or memory ran out
+abbrev pub IsReplyOf : Reply → Answer → Type 0
+IsReplyOf reply answer = (reply ≡ answer.reply) ⊎ (reply ≡ Refused OutOfMemory)
 
--- every node takes what reads, and one takes what writes
-abbrev pub takes : Ids → Request → Bool
-takes ids request = (ids.me == writable_node) || not (is_write request)
+-- every node accepts what reads, and one accepts what writes
+abbrev pub accepts : Ids → Request → Bool
+accepts ids request = (ids.me == writable_node) || not (is_write request)
 
--- who the node is, how many steps there were and which of them are on the disk is as it was
-pub record Keeps (old new : Engine) : Type 0 where
+-- who the node is, how many steps there were and which of them are durable is as it was
+pub record SameNode (old new : Engine) : Type 0 where
   pub ids : new.ids ≡ old.ids
   pub count : new.count ≡ old.count
   pub durable : new.durable ≡ old.durable
 
--- the state has what these transactions changed, and they wait behind the others
+-- the state has what these transactions changed, and they wait after the others
 pub record Stores (old new : Engine) (state : State) (transactions : List Tx) : Type 0 where
   pub holds : Holds new.state (state_after state transactions)
   pub pending : new.pending ≡ old.pending ++ transactions
@@ -48,10 +49,10 @@ answer_by engine state request = node_answer engine.ids state (lsn_after engine)
 -- what the engine commits on this state, where it told this
 abbrev pub commits_by : Engine → State → Request → Reply → List Tx
 commits_by engine state request reply =
-    committed engine.ids.me (lsn_after engine) (is_out_of_memory reply) (answer_by engine state request).row
+    commit_of engine.ids.me (lsn_after engine) (is_out_of_memory reply) (answer_by engine state request).row
 
--- the request was told its answer, and what that commits is stored; or memory was missing, and nothing is
-pub record Answers (old new : Engine) (state : State) (request : Request) (reply : Reply) : Type 0 where
-  pub told : IsTold reply (answer_by old state request)
+-- the request was told its answer, and what that commits is stored; or memory ran out, and nothing is
+pub record AnswersRequest (old new : Engine) (state : State) (request : Request) (reply : Reply) : Type 0 where
+  pub told : IsReplyOf reply (answer_by old state request)
   pub stores : Stores old new state (commits_by old state request reply)
   pub clock : new.clock ≡ clock_after old.clock (commits_by old state request reply)

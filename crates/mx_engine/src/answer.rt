@@ -7,7 +7,7 @@ use mx_msgpack::Tuples;
 pub enum Answer {
     /// The tuples that were found, or the one that was put in its place.
     Tuples(Tuples),
-    /// It was done, and there is nothing to tell.
+    /// It was done, and there is nothing to return.
     Empty,
     /// The protocol's version and features.
     Id,

@@ -4,10 +4,8 @@
 mod answer;
 mod engine;
 mod pending;
+mod statements;
 
 pub use answer::Answer;
 pub use engine::Engine;
 pub use pending::Pending;
-
-#[cfg(test)]
-mod tests;

@@ -7,6 +7,6 @@ use mx_model::Txs;
 pub struct Pending {
     /// The transactions, the first of them first.
     pub txs: Txs,
-    /// How many steps the engine had made. Once the transactions are on the disk, these steps are confirmed.
+    /// How many steps the engine had made. Once the transactions are durable, these steps are confirmed.
     pub upto: u64,
 }

@@ -1,4 +1,4 @@
--- The journal that begins at the vclock which a directory has reached comes behind all others, and they stand for what it continues.
+-- The journal that begins at the vclock which a directory has reached comes after all others, and they recover to what it continues.
 use Rattle.std.proofs.Common.{◌≡◌, ℕ, ◌<◌, ◌≤◌, Bool, true, false, cond, not, ◌&&◌, List, [], ◌∷◌, ◌++◌, map, sum, take, refl, sym, ap, ◌∙◌, subst, ◌⊎◌, inl, inr, arith}
 use Rattle.std.specs.Prelude.{Option, Some, None, is_some, Ok, IfSome, if◌then◌else◌}
 use Rattle.std.specs.List.{filter, last_or, AllByRecursion}
@@ -14,8 +14,10 @@ use Rattle.std.proofs.lemmas.List.{append-nil}
 use Rattle.mx_vclock.specs.Vclocks.{IsVclock}
 use Rattle.mx_outside.specs.Disks.{File, Files}
 use Rattle.mx_model.specs.Histories.{Base}
-use Rattle.mx_model.specs.Files.{Named, Reached, ReadsAs, Continues, IsDirectoryState, is_journal, is_snapshot, journal_name, same_bytes, nothing_yet, after_files, directory_state, without_snapshot}
-use Rattle.mx_model.proofs.NameLaws.{journal_name-is_journal, snapshot_is_no_journal, name_order, front_order-at_most, signature_fits}
+use Rattle.mx_model.specs.Directories.{Named, Reached, Continues, IsDirectoryState, nothing_yet, after_files, directory_state, without_snapshot}
+use Rattle.mx_xlog.specs.Files.{ReadsAs}
+use Rattle.mx_files.specs.Names.{is_journal, is_snapshot, journal_name, same_bytes}
+use Rattle.mx_files.proofs.NameLaws.{journal_name-is_journal, snapshot_is_no_journal, name_order, front_order-at_most, signature_fits}
 use Rattle.mx_model.proofs.DirectoryLaws.{by_name, names_in, names_of, ReadAll, same_names, keys-where_key, find-where, names_same}
 use Rattle.mx_model.proofs.WalkLaws.{Passed, Way, way, without, Nearly, without_newest, nothing_is_sound}
 
@@ -157,7 +159,7 @@ all_without newest P (file ∷ files) all = by_test (all_without newest P files 
     by_test others true same = others
     by_test others false differs = ((all.0, differs), others)
 
--- a name behind all others comes last
+-- a name after all others comes last
 put_last : (name : List ℕ) (file : File) (es : List (List ℕ × File)) → AllByRecursion (λ other. slice_cmp nat_cmp other name ≡ Less) (names_in es)
     → put by_name name file es ≡ es ++ (name, file) ∷ []
 put_last name file [] all = refl
@@ -182,7 +184,7 @@ found_alike q newest file old now false true other same named is =
     absurd cc
 found_alike q newest file old now false false journal same named is = refl
 
--- a journal of a new or the last name comes behind those of other names
+-- a journal of a new or the last name comes after those of other names
 pub name_behind : (files now : Files) (newest : List ℕ) (file : File) → is_journal newest ≡ true
     → ((q : List ℕ) → is_journal q ≡ true → finite.get now q ≡ (if same_bytes q newest then Some file else finite.get files q))
     → AllByRecursion (λ other. slice_cmp nat_cmp other newest ≡ Less)

@@ -2,10 +2,10 @@
 use Rattle.std.proofs.Common.{◌≡◌, ℕ, List, [], ◌∷◌, Some, None, refl, ap, ◌∙◌}
 use Rattle.mx_msgpack.specs.Readers.{in_front, all_from}
 use Rattle.mx_msgpack.proofs.ReaderLaws.{all_from_none, all_from_some}
-use Rattle.mx_model.specs.declared.tx.Tx.{Tx}
-use Rattle.mx_model.specs.Rows.{transaction_at, only_whole, transactions_in}
-use Rattle.mx_model.specs.Files.{Reached, after_transaction, then_all, after_transactions, after_read, after_block}
-use Rattle.mx_model.proofs.RowLaws.{transaction_at-Advances}
+use Rattle.mx_row.specs.declared.tx.Tx.{Tx}
+use Rattle.mx_row.specs.Rows.{transaction_at, only_whole, transactions_in}
+use Rattle.mx_model.specs.Directories.{Reached, after_transaction, then_all, after_transactions, after_read, after_block}
+use Rattle.mx_row.proofs.RowLaws.{transaction_at-Advances}
 
 -- nothing is left
 pub after_block-nil : (reached : Reached) → after_block [] reached ≡ Some reached
@@ -28,7 +28,7 @@ module _ (bytes rest : List ℕ) (transaction : Tx) (reached : Reached) (read : 
   first_read =
       ap (λ found. after_read (only_whole found) reached) (all_from_some transaction_at transaction_at-Advances bytes (transaction, rest) read)
 
-  -- the transaction that stands first, and then those behind it
+  -- the transaction that stands first, and then those after it
   pub after_block-step : (next : Reached) → after_transaction transaction reached ≡ Some next → after_block bytes reached ≡ after_block rest next
   unfolding after_block transactions_in
   after_block-step next step = first_read ∙ read_first transaction (all_from transaction_at rest) reached next step

@@ -1,6 +1,6 @@
 -- What a legal history commits can be written and read again.
 use Rattle.std.proofs.Common.{◌≡◌, ℕ, suc, ◌+◌, ◌-◌, ◌^◌, ◌<◌, ◌≤◌, Bool, true, false, not, List, [], ◌∷◌, ◌++◌, length, length-append, refl, sym, ap, ◌∙◌, subst, arith}
-use Rattle.std.specs.Prelude.{◌==◌, ◌&&◌, Option, Some, None, Result, Ok, Err, is_some, is_ok, nat_lt, nat_le, slice_index, if◌then◌else◌}
+use Rattle.std.specs.Prelude.{◌==◌, ◌&&◌, Option, Some, None, Result, Ok, Err, is_some, nat_lt, nat_le, slice_index, if◌then◌else◌}
 use Rattle.std.specs.FinMap as map
 use Rattle.std.proofs.lemmas.Bool.{eq-eqb}
 use Rattle.std.proofs.lemmas.Bool.Decides.{nat_tests}
@@ -13,18 +13,24 @@ use Rattle.mx_request.specs.declared.request.Ask.TheVariants as ask
 use Rattle.mx_request.specs.declared.request.Request.{Request}
 use Rattle.mx_request.specs.declared.request.Request.TheVariants as request
 use Rattle.mx_request.specs.Spelling.{IsAskable, IsInnerArray}
-use Rattle.mx_model.specs.declared.row.Row.TheVariants.{Replaced}
-use Rattle.mx_model.specs.declared.tx.Tx.{Tx}
+use Rattle.mx_row.specs.declared.row.Row.TheVariants.{Replaced}
+use Rattle.mx_row.specs.declared.tx.Tx.{Tx}
 use Rattle.mx_model.specs.declared.reply.Reply.{Reply}
 use Rattle.mx_model.specs.State as state
 use Rattle.mx_model.specs.State.{State, test_parts, key_in}
 use Rattle.mx_key.specs.declared.fault.KeyFault.{KeyFault}
 use Rattle.mx_key.specs.Keys.{Key}
-use Rattle.mx_model.specs.Answers.{Answer, answer_to, refused, refused_after, schema_reads, iterator_of, replaced, replaced_by, max_tuple_size, in_space, state_after_rows}
-use Rattle.mx_model.specs.Transactions.{state_after, clock_after, clock_after_one}
-use Rattle.mx_model.specs.Rows.{IsRow, space_key, tuple_key}
-use Rattle.mx_model.specs.Files.{AllFollow, takes_row}
-use Rattle.mx_model.specs.Histories.{Base, History, Asked, Left, Took, Confirmed, Ledger, IsLegal, IsReply, is_out_of_memory, writable_node, numbered, committed, commits_of, ledger_of, journal_of, state_in, clock_in, next_lsn}
+use Rattle.mx_model.specs.Answers.{answer_to, state_after_rows}
+use Rattle.mx_model.specs.statements.Replace.{replace_answer, replace_by_key, max_tuple_size}
+use Rattle.mx_model.specs.statements.Select.{iterator_of}
+use Rattle.mx_model.specs.statements.Lookup.{schema_reads, in_space}
+use Rattle.mx_model.specs.statements.Answer.{Answer, refusal_alone, refusal_after}
+use Rattle.mx_model.specs.Transactions.{state_after}
+use Rattle.mx_row.specs.Clocks.{clock_after, clock_after_one}
+use Rattle.mx_row.specs.Rows.{IsRow}
+use Rattle.mx_base.specs.Keys.{space_key, tuple_key}
+use Rattle.mx_model.specs.Directories.{AllFollow, takes_row}
+use Rattle.mx_model.specs.Histories.{Base, History, Asked, Left, Took, Confirmed, Ledger, IsLegal, IsReply, is_out_of_memory, writable_node, with_lsn, commit_of, commits_of, ledger_of, journal_of, ledger_state, ledger_clock, next_lsn}
 use Rattle.mx_model.proofs.HistoryLaws.{committed-no_row, select_no_row, node_no_row}
 
 -- transactions that follow, and then others that follow those
@@ -41,7 +47,7 @@ below : (most lsn : ℕ) → nat_lt most lsn ≡ false → lsn ≤ most
 below most lsn test = grind (arith, nat_tests)
 
 -- no row, no commit
-no_commit : (now : State) (clock : List ℕ) (replica lsn : ℕ) (without_memory : Bool) → AllFollow now clock (committed replica lsn without_memory None)
+no_commit : (now : State) (clock : List ℕ) (replica lsn : ℕ) (without_memory : Bool) → AllFollow now clock (commit_of replica lsn without_memory None)
 no_commit now clock replica lsn without_memory = subst (AllFollow now clock) (sym (committed-no_row replica lsn without_memory)) tt
 
 -- the next lsn of a replica
@@ -60,19 +66,16 @@ row_can_be_written space tuple fits inner short =
     let long = length-append (0x82 ∷ space_key ∷ shortest_unsigned space) (tuple_key ∷ tuple) in
     (fits, inner, omega arith)
 
-short_enough : (most length : ℕ) → nat_lt most length ≡ false → nat_le length most ≡ true
-short_enough most length test = grind (arith, nat_tests)
-
 module _ (now : State) (clock : List ℕ) (replica space : ℕ) (tuple : List ℕ) (without_memory : Bool)
     (fits : space < 2 ^ 32) (inner : IsInnerArray tuple) where
   -- the transactions that an answer commits
   abbrev commits : Answer → List Tx
-  commits answer = committed replica (lsn_of clock replica) without_memory answer.row
+  commits answer = commit_of replica (lsn_of clock replica) without_memory answer.row
 
   -- a commit of the row
   one_follows : (w : Bool) → IsRow (Replaced space tuple) → replica ≡ writable_node → takes_row now (Replaced space tuple) ≡ true
       → nat_lt max_lsn (lsn_of clock replica) ≡ false
-      → AllFollow now clock (committed replica (lsn_of clock replica) w (Some (Replaced space tuple)))
+      → AllFollow now clock (commit_of replica (lsn_of clock replica) w (Some (Replaced space tuple)))
   one_follows true can node takes within = tt
   one_follows false can node takes within = (
     record { replica = (omega arith, omega arith); first = (omega arith, below max_lsn (lsn_of clock replica) within); row = (Replaced space tuple, refl, can) },
@@ -83,56 +86,57 @@ module _ (now : State) (clock : List ℕ) (replica space : ℕ) (tuple : List �
 
   numbered_follows : (above : Bool) (key : Key) → IsRow (Replaced space tuple) → replica ≡ writable_node → takes_row now (Replaced space tuple) ≡ true
       → nat_lt max_lsn (lsn_of clock replica) ≡ above
-      → AllFollow now clock (commits (if above then refused_after (schema_reads space) LsnsUsedUp else replaced_by space tuple (Ok key)))
+      → AllFollow now clock (commits (if above then refusal_after (schema_reads space) LsnsUsedUp else replace_by_key space tuple (Ok key)))
   numbered_follows true key can node takes test = no_commit now clock replica (lsn_of clock replica) without_memory
   numbered_follows false key can node takes test = one_follows without_memory can node takes test
 
   -- what a tuple with this primary key, or none, commits
-  keyed_follows : (key : Result Key KeyFault) → key_in test_parts tuple ≡ key → nat_lt max_tuple_size (length tuple) ≡ false
-      → replica ≡ writable_node → is_some (map.get now space) ≡ true
-      → AllFollow now clock (commits (numbered (lsn_of clock replica) (replaced_by space tuple key) (replaced_by space tuple key).row))
-  keyed_follows (Err fault) is short node there = no_commit now clock replica (lsn_of clock replica) without_memory
-  keyed_follows (Ok key) is short node there =
+  keyed_follows : (tuples : state.Tuples) (key : Result Key KeyFault) → key_in test_parts tuple ≡ key → nat_lt max_tuple_size (length tuple) ≡ false
+      → replica ≡ writable_node → map.get now space ≡ Some tuples
+      → AllFollow now clock (commits (with_lsn (lsn_of clock replica) (replace_by_key space tuple key) (replace_by_key space tuple key).row))
+  keyed_follows tuples (Err fault) is short node there = no_commit now clock replica (lsn_of clock replica) without_memory
+  keyed_follows tuples (Ok key) is short node there =
       let takes : takes_row now (Replaced space tuple) ≡ true =
-      ap (λ b. b && nat_le (length tuple) max_tuple_size && is_ok (key_in test_parts tuple)) there
-      ∙ ap (λ b. b && is_ok (key_in test_parts tuple)) (short_enough max_tuple_size (length tuple) short) ∙ ap is_ok is in
+      ap (λ found. is_some (in_space space found (λ _. replace_answer space tuple)).row) there
+      ∙ ap (λ long. is_some (if long then refusal_after (schema_reads space) (TupleTooLong (length tuple)) else replace_by_key space tuple (key_in test_parts tuple)).row) short
+      ∙ ap (λ k. is_some (replace_by_key space tuple k).row) is in
       numbered_follows (nat_lt max_lsn (lsn_of clock replica)) key (row_can_be_written space tuple fits inner short) node takes refl
 
   -- what a REPLACE in a space that is there commits
-  replacing_follows : (long : Bool) → nat_lt max_tuple_size (length tuple) ≡ long → replica ≡ writable_node → is_some (map.get now space) ≡ true
-      → AllFollow now clock (commits (numbered (lsn_of clock replica)
-      (if long then refused_after (schema_reads space) (TupleTooLong (length tuple)) else replaced_by space tuple (key_in test_parts tuple))
-      (if long then refused_after (schema_reads space) (TupleTooLong (length tuple)) else replaced_by space tuple (key_in test_parts tuple)).row))
-  replacing_follows true long node there = no_commit now clock replica (lsn_of clock replica) without_memory
-  replacing_follows false short node there = keyed_follows (key_in test_parts tuple) refl short node there
+  replacing_follows : (tuples : state.Tuples) (long : Bool) → nat_lt max_tuple_size (length tuple) ≡ long → replica ≡ writable_node → map.get now space ≡ Some tuples
+      → AllFollow now clock (commits (with_lsn (lsn_of clock replica)
+      (if long then refusal_after (schema_reads space) (TupleTooLong (length tuple)) else replace_by_key space tuple (key_in test_parts tuple))
+      (if long then refusal_after (schema_reads space) (TupleTooLong (length tuple)) else replace_by_key space tuple (key_in test_parts tuple)).row))
+  replacing_follows tuples true long node there = no_commit now clock replica (lsn_of clock replica) without_memory
+  replacing_follows tuples false short node there = keyed_follows tuples (key_in test_parts tuple) refl short node there
 
   -- what a REPLACE commits
   replaced_follows : (read_only : Bool) (found : Option state.Tuples) → not (replica == writable_node) ≡ read_only → map.get now space ≡ found
-      → AllFollow now clock (commits (if read_only then refused (ReadOnly (record { 0 = writable_node }))
-      else numbered (lsn_of clock replica) (in_space space found (λ _. replaced space tuple)) (in_space space found (λ _. replaced space tuple)).row))
+      → AllFollow now clock (commits (if read_only then refusal_alone (ReadOnly (record { 0 = writable_node }))
+      else with_lsn (lsn_of clock replica) (in_space space found (λ _. replace_answer space tuple)) (in_space space found (λ _. replace_answer space tuple)).row))
   replaced_follows true found node there = no_commit now clock replica (lsn_of clock replica) without_memory
   replaced_follows false None node there = no_commit now clock replica (lsn_of clock replica) without_memory
   replaced_follows false (Some tuples) node there =
-      replacing_follows (nat_lt max_tuple_size (length tuple)) refl (writable replica node) (ap is_some there)
+      replacing_follows tuples (nat_lt max_tuple_size (length tuple)) refl (writable replica node) there
 
 -- a request that leaves no row commits nothing
-none_follows : (base : Base) (ledger : Ledger) (asked : Request) (reply : Reply) → (answer_to (state_in base ledger) asked).row ≡ None
-    → AllFollow (state_in base ledger) (clock_in base ledger) (commits_of base ledger (ask.Request asked) reply)
+none_follows : (base : Base) (ledger : Ledger) (asked : Request) (reply : Reply) → (answer_to (ledger_state base ledger) asked).row ≡ None
+    → AllFollow (ledger_state base ledger) (ledger_clock base ledger) (commits_of base ledger (ask.Request asked) reply)
 none_follows base ledger asked reply none =
     let lsn = next_lsn base ledger in
-    subst (λ row. AllFollow (state_in base ledger) (clock_in base ledger) (committed base.ids.me lsn (is_out_of_memory reply) row))
-    (sym (node_no_row base.ids (state_in base ledger) lsn asked none))
-    (no_commit (state_in base ledger) (clock_in base ledger) base.ids.me lsn (is_out_of_memory reply))
+    subst (λ row. AllFollow (ledger_state base ledger) (ledger_clock base ledger) (commit_of base.ids.me lsn (is_out_of_memory reply) row))
+    (sym (node_no_row base.ids (ledger_state base ledger) lsn asked none))
+    (no_commit (ledger_state base ledger) (ledger_clock base ledger) base.ids.me lsn (is_out_of_memory reply))
 
 -- what a request commits
 request_follows : (base : Base) (ledger : Ledger) (asked : Request) (reply : Reply) → IsAskable asked
-    → AllFollow (state_in base ledger) (clock_in base ledger) (commits_of base ledger (ask.Request asked) reply)
+    → AllFollow (ledger_state base ledger) (ledger_clock base ledger) (commits_of base ledger (ask.Request asked) reply)
 request_follows base ledger (request.Select space index limit offset iterator key) reply can =
     none_follows base ledger (request.Select space index limit offset iterator key) reply
-    (select_no_row space.0 index.0 limit offset (iterator_of iterator) key (map.get (state_in base ledger) space.0))
+    (select_no_row space.0 index.0 limit offset (iterator_of iterator) key (map.get (ledger_state base ledger) space.0))
 request_follows base ledger (request.Replace space tuple) reply can =
-    replaced_follows (state_in base ledger) (clock_in base ledger) base.ids.me space.0 tuple (is_out_of_memory reply) can.0 can.1
-    (not (base.ids.me == writable_node)) (map.get (state_in base ledger) space.0) refl refl
+    replaced_follows (ledger_state base ledger) (ledger_clock base ledger) base.ids.me space.0 tuple (is_out_of_memory reply) can.0 can.1
+    (not (base.ids.me == writable_node)) (map.get (ledger_state base ledger) space.0) refl refl
 request_follows base ledger (request.Insert space tuple) reply can = none_follows base ledger (request.Insert space tuple) reply refl
 request_follows base ledger (request.Update space index first key operations) reply can =
     none_follows base ledger (request.Update space index first key operations) reply refl
@@ -152,7 +156,7 @@ request_follows base ledger (request.Ack clock) reply can = none_follows base le
 
 -- what an ask commits
 step_follows : (base : Base) (ledger : Ledger) (asked : Ask) (reply : Reply) → IsReply base ledger asked reply
-    → AllFollow (state_in base ledger) (clock_in base ledger) (commits_of base ledger asked reply)
+    → AllFollow (ledger_state base ledger) (ledger_clock base ledger) (commits_of base ledger asked reply)
 step_follows base ledger (ask.Refused refusal) reply told = tt
 step_follows base ledger ask.Leave reply told = tt
 step_follows base ledger (ask.Request asked) reply told = request_follows base ledger asked reply told.0

@@ -17,7 +17,9 @@ use Rattle.mx_outside.specs.Disks.{File, Files}
 use Rattle.mx_model.specs.declared.ids.Ids.{Ids}
 use Rattle.mx_model.specs.declared.damage.Damage.{Damage}
 use Rattle.mx_model.specs.Histories.{Base}
-use Rattle.mx_model.specs.Files.{FileRead, Named, Reached, ReadsAs, Continues, IsDirectoryState, IsEnough, is_journal, is_snapshot, journal_name, same_bytes, ids_in, same_id, are_its_ids, ids_or, head_fits, nothing_yet, after_blocks, after_head, after_file, after_files, and_then, directory_state}
+use Rattle.mx_model.specs.Directories.{Named, Reached, Continues, IsDirectoryState, IsEnough, ids_in, same_id, are_its_ids, ids_or, head_fits, nothing_yet, after_blocks, after_head, after_file, after_files, and_then, directory_state}
+use Rattle.mx_xlog.specs.Files.{FileRead, ReadsAs}
+use Rattle.mx_files.specs.Names.{is_journal, is_snapshot, journal_name, same_bytes}
 
 -- the order of names
 abbrev pub by_name : List ℕ → List ℕ → Ordering
@@ -164,7 +166,7 @@ continues_same base name before after c others was is =
       clock = c.clock;
     }
 
--- The newest journal behind those before it.
+-- The newest journal after those before it.
 
 pub after_files-append : (files more : List Named) (reached : Reached)
     → after_files (files ++ more) reached ≡ and_then (after_files more) (after_files files reached)

@@ -9,14 +9,14 @@ use Rattle.std.proofs.lemmas.List.Sums.{sum_by-set}
 use Rattle.std.proofs.lemmas.List.Elements.{All-set}
 use Rattle.mx_vclock.specs.Vclocks.{IsVclock, max_lsn}
 use Rattle.mx_msgpack.specs.Readers.{first_and_others, some_from, all_from}
-use Rattle.mx_msgpack.proofs.Options.{bind_some, same_some}
-use Rattle.mx_model.specs.declared.tx.Tx.{Tx}
-use Rattle.mx_model.specs.declared.row.Row.{Row}
+use Rattle.mx_msgpack.proofs.Options.{same_some}
+use Rattle.mx_row.specs.declared.tx.Tx.{Tx}
+use Rattle.mx_row.specs.declared.row.Row.{Row}
 use Rattle.mx_model.specs.declared.damage.Damage.{Damage}
-use Rattle.mx_model.specs.Transactions.{last_lsn, clock_after_one}
-use Rattle.mx_model.specs.Rows.{replica_in, row_in, map_at, number_under, only_alone, transaction_at, transactions_in, only_whole, type_key, replica_key, lsn_key}
-use Rattle.mx_model.specs.Files.{Reached, after_transaction, then_all, after_transactions, after_read, after_block, block_reached, after_blocks}
-use Rattle.mx_model.proofs.RowLaws.{transaction_at-replica}
+use Rattle.mx_row.specs.Clocks.{last_lsn, clock_after_one}
+use Rattle.mx_row.specs.Rows.{transaction_at, transactions_in, only_whole}
+use Rattle.mx_model.specs.Directories.{Reached, after_transaction, then_all, after_transactions, after_read, after_block, block_reached, after_blocks}
+use Rattle.mx_row.proofs.RowLaws.{parts_of, transaction_at-replica}
 
 -- a transaction as a journal gives it: one row, of one of the replicas
 pub record IsRead (transaction : Tx) : Type 0 where
@@ -25,21 +25,12 @@ pub record IsRead (transaction : Tx) : Type 0 where
   pub rows : transaction.rows ≡ row ∷ []
 
 transaction_at-reads : (bytes : List ℕ) (found : Tx × List ℕ) → transaction_at bytes ≡ Some found → IsRead found.0
-unfolding transaction_at
 transaction_at-reads bytes found is =
-    let header = bind_some (map_at bytes) _ found is in
-    let body = bind_some (map_at header.0.1) _ found header.2 in
-    let kind = bind_some (number_under type_key header.0.0) _ found body.2 in
-    let row = bind_some (row_in kind.0 body.0.0) _ found kind.2 in
-    let id = bind_some (number_under replica_key header.0.0) _ found row.2 in
-    let replica = bind_some (replica_in id.0) _ found id.2 in
-    let lsn = bind_some (number_under lsn_key header.0.0) _ found replica.2 in
-    let alone = bind_some (only_alone header.0.0) _ found lsn.2 in
-    let whole = same_some _ found alone.2 in
+    let parts = parts_of bytes found is in
     record {
       replica = (transaction_at-replica bytes found is).1;
-      row = row.0;
-      rows = sym (ap (λ (f : Tx × List ℕ). f.0.rows) whole);
+      row = parts.row;
+      rows = sym (ap (λ (f : Tx × List ℕ). f.0.rows) parts.same);
     }
 
 abbrev pub AllRead : List Tx → Type 0

@@ -9,7 +9,7 @@ use Rattle.mx_request.specs.declared.request.Ask.TheVariants as ask
 use Rattle.mx_request.specs.declared.request.Request.{Request}
 use Rattle.mx_model.specs.declared.reply.Reply.{Reply}
 use Rattle.mx_model.specs.declared.reply.Reply.TheVariants.{Tuples, Refused}
-use Rattle.mx_model.specs.declared.tx.Tx.{Tx}
+use Rattle.mx_row.specs.declared.tx.Tx.{Tx}
 use Rattle.mx_model.specs.declared.ids.Ids.{Ids}
 use Rattle.mx_model.specs.State as state
 use Rattle.mx_model.specs.State.{State, test_name, test_parts}
@@ -17,21 +17,21 @@ use Rattle.mx_model.specs.Picks.{Selection, pick, entries_of, total_bytes, max_r
 use Rattle.mx_key.specs.declared.fault.Misfit.{Misfit}
 use Rattle.mx_key.specs.declared.iterator.IterKind.{IterKind}
 use Rattle.mx_key.specs.Keys.{Key}
-use Rattle.mx_key.specs.Parts.{given}
+use Rattle.mx_key.specs.Parts.{key_of_array}
 use Rattle.mx_key.specs.Ranges.{Range, range_of}
-use Rattle.mx_model.specs.Answers.{answer_to, refused, refused_after, in_space, schema_reads, range_reads, answered, selected_by, selected, state_after_rows}
-use Rattle.mx_model.specs.Transactions.{state_after, clock_after, clock_after_one}
-use Rattle.mx_model.specs.Histories.{Base, Asked, Left, Took, Confirmed, History, Ledger, is_out_of_memory, node_answer, numbered, committed, commits_of, ledger_of, journal_of, state_of, clock_of, reply_to, IsReply, IsLegal, asks_in, HasMemory, asking, leaving, step_for, history_from, is_write, writable_node}
+use Rattle.mx_model.specs.Answers.{answer_to, state_after_rows}
+use Rattle.mx_model.specs.statements.Select.{range_reads, select_found, select_by_key, select_answer}
+use Rattle.mx_model.specs.statements.Lookup.{in_space, schema_reads}
+use Rattle.mx_model.specs.statements.Answer.{refusal_alone, refusal_after}
+use Rattle.mx_model.specs.Transactions.{state_after}
+use Rattle.mx_row.specs.Clocks.{clock_after}
+use Rattle.mx_model.specs.Histories.{Base, Asked, Left, Took, Confirmed, History, Ledger, is_out_of_memory, node_answer, with_lsn, commit_of, commits_of, ledger_of, journal_of, state_of, clock_of, reply_to, IsReply, IsLegal, asks_in, HasMemory, asking, leaving, step_for, history_from, is_write, writable_node}
+use Rattle.mx_row.proofs.ClockLaws.{clock_after-append}
 
 pub state_after-append : (base : State) (xs ys : List Tx)
     → state_after base (xs ++ ys) ≡ state_after (state_after base xs) ys
 state_after-append base [] ys = refl
 state_after-append base (x ∷ xs) ys = state_after-append (state_after_rows base x.rows) xs ys
-
-pub clock_after-append : (base : List ℕ) (xs ys : List Tx)
-    → clock_after base (xs ++ ys) ≡ clock_after (clock_after base xs) ys
-clock_after-append base [] ys = refl
-clock_after-append base (x ∷ xs) ys = clock_after-append (clock_after_one base x) xs ys
 
 -- one ask more is one entry more
 pub history_from-append : (base : Base) (earlier : History) (asks : List (TxnName × Ask)) (asked : TxnName × Ask)
@@ -44,7 +44,7 @@ history_from-append base earlier (first ∷ others) asked =
 told_refusal : (reply : Reply) → reply ≡ Refused OutOfMemory → is_out_of_memory reply ≡ true
 told_refusal reply told = ap is_out_of_memory told
 
--- a reply that isn't for want of memory is the one that the ledger demands
+-- a reply that isn't out of memory is the one that the ledger demands
 pub reply_is_demanded : (base : Base) (ledger : Ledger) (ask : Ask) (reply : Reply)
     → IsReply base ledger ask reply → is_out_of_memory reply ≡ false → reply ≡ reply_to base ledger ask
 reply_is_demanded base ledger (ask.Refused refusal) reply told memory = told
@@ -134,36 +134,36 @@ pub untaken-asked : (base : Base) (name : TxnName) (ask : Ask) (reply : Reply) (
 untaken-asked base name ask reply history =
     drop-append-le (ledger_of base history).taken (journal_of base history) (commits_of base (ledger_of base history) ask reply) (taken_within base history)
 
-pub committed-no_row : (replica lsn : ℕ) (without_memory : Bool) → committed replica lsn without_memory None ≡ []
+pub committed-no_row : (replica lsn : ℕ) (without_memory : Bool) → commit_of replica lsn without_memory None ≡ []
 committed-no_row replica lsn true = refl
 committed-no_row replica lsn false = refl
 
 answered_no_row : (space index : ℕ) (whole : Range) (found : Selection) (long : Bool) → nat_lt max_result_size (total_bytes found.tuples) ≡ long
-    → (answered space index whole found).row ≡ None
+    → (select_found space index whole found).row ≡ None
 answered_no_row space index whole found long test = by_test (nat_lt max_result_size (total_bytes found.tuples))
   where
     by_test : (long : Bool)
-        → (if long then refused_after (schema_reads space ++ range_reads space index (Some whole)) ResultTooLong
+        → (if long then refusal_after (schema_reads space ++ range_reads space index (Some whole)) ResultTooLong
         else record { reply = Tuples found.tuples; row = None; reads = schema_reads space ++ range_reads space index found.read }).row ≡ None
     by_test true = refl
     by_test false = refl
 
 selected_by_no_row : (space limit offset : ℕ) (iterator : IterKind) (tuples : state.Tuples) (key : Result Key Misfit)
-    → (selected_by space limit offset iterator tuples key).row ≡ None
+    → (select_by_key space limit offset iterator tuples key).row ≡ None
 selected_by_no_row space limit offset iterator tuples (Err misfit) = refl
 selected_by_no_row space limit offset iterator tuples (Ok key) =
     answered_no_row space 0 (range_of iterator key) (pick (entries_of tuples) iterator key offset limit) _ refl
 
 -- a SELECT leaves no row
 pub select_no_row : (space index limit offset : ℕ) (iterator : IterKind) (key : List ℕ) (found : Option state.Tuples)
-    → (in_space space found (selected space index limit offset iterator key)).row ≡ None
+    → (in_space space found (select_answer space index limit offset iterator key)).row ≡ None
 select_no_row space index limit offset iterator key None = refl
 select_no_row space index limit offset iterator key (Some tuples) = by_test (index == 0)
   where
     by_test : (first : Bool)
-        → (if first then selected_by space limit offset iterator tuples (given test_parts key)
-        else refused_after (schema_reads space) (IndexMissing (record { 0 = index }) test_name)).row ≡ None
-    by_test true = selected_by_no_row space limit offset iterator tuples (given test_parts key)
+        → (if first then select_by_key space limit offset iterator tuples (key_of_array test_parts key)
+        else refusal_after (schema_reads space) (IndexMissing (record { 0 = index }) test_name)).row ≡ None
+    by_test true = selected_by_no_row space limit offset iterator tuples (key_of_array test_parts key)
     by_test false = refl
 
 -- where the statement leaves no row, the node leaves none
@@ -172,7 +172,7 @@ pub node_no_row : (ids : Ids) (before : State) (lsn : ℕ) (request : Request) �
 node_no_row ids before lsn request none = by_test (is_write request && not (ids.me == writable_node))
   where
     by_test : (read_only : Bool)
-        → (if read_only then refused (ReadOnly (record { 0 = writable_node }))
-        else numbered lsn (answer_to before request) (answer_to before request).row).row ≡ None
+        → (if read_only then refusal_alone (ReadOnly (record { 0 = writable_node }))
+        else with_lsn lsn (answer_to before request) (answer_to before request).row).row ≡ None
     by_test true = refl
-    by_test false = ap (λ row. (numbered lsn (answer_to before request) row).row) none ∙ none
+    by_test false = ap (λ row. (with_lsn lsn (answer_to before request) row).row) none ∙ none

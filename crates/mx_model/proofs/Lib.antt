@@ -1,12 +1,9 @@
 pub mod StateLaws
 pub mod HistoryLaws
-pub mod NameLaws
 pub mod DirectoryLaws
 pub mod GrowthLaws
 pub mod WalkLaws
 pub mod BeginLaws
-pub mod PairLaws
-pub mod RowLaws
 pub mod TransactionLaws
 pub mod CommitLaws
 pub mod BlockLaws
@@ -17,3 +14,5 @@ pub mod StoredLaws
 pub mod WindowLaws
 pub mod PickLaws
 pub mod SlowLaws
+pub mod CountLaws
+pub mod ImageLaws

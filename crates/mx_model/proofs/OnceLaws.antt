@@ -18,15 +18,17 @@ use Rattle.mx_xlog.specs.Reading.{blocks_of}
 use Rattle.mx_xlog.proofs.OneLaws.{one_header}
 use Rattle.mx_outside.specs.Disks.{File, Files}
 use Rattle.mx_model.specs.declared.ids.Ids.{Ids}
-use Rattle.mx_model.specs.declared.row.Row.{Row}
+use Rattle.mx_row.specs.declared.row.Row.{Row}
 use Rattle.mx_model.specs.declared.damage.Damage.{Damage}
 use Rattle.mx_model.specs.declared.damage.DamageKind.TheVariants.{Gap}
-use Rattle.mx_model.specs.declared.tx.Tx.{Tx}
+use Rattle.mx_row.specs.declared.tx.Tx.{Tx}
 use Rattle.mx_model.specs.State.{State}
 use Rattle.mx_model.specs.Answers.{state_after_rows}
-use Rattle.mx_model.specs.Transactions.{last_lsn, clock_after_one, clock_after}
-use Rattle.mx_model.specs.Rows.{IsTransaction, transactions_in}
-use Rattle.mx_model.specs.Files.{FileRead, Named, Reached, ReadsAs, IsDirectoryState, IsEnough, SameOutcome, AllFollow, is_journal, is_snapshot, journal_name, same_bytes, are_its_ids, ids_in, ids_or, head_fits, nothing_yet, follows, takes_rows, after_transaction, then_all, after_transactions, after_read, after_block, block_reached, after_blocks, after_head, after_file, and_then, after_files, without_snapshot, directory_state}
+use Rattle.mx_row.specs.Clocks.{last_lsn, clock_after_one, clock_after, follows}
+use Rattle.mx_row.specs.Rows.{IsTransaction, transactions_in}
+use Rattle.mx_model.specs.Directories.{Named, Reached, IsDirectoryState, IsEnough, SameOutcome, AllFollow, are_its_ids, ids_in, ids_or, head_fits, nothing_yet, takes_rows, after_transaction, then_all, after_transactions, after_read, after_block, block_reached, after_blocks, after_head, after_file, and_then, after_files, without_snapshot, directory_state}
+use Rattle.mx_xlog.specs.Files.{FileRead, ReadsAs}
+use Rattle.mx_files.specs.Names.{is_journal, is_snapshot, journal_name, same_bytes}
 use Rattle.mx_model.proofs.DirectoryLaws.{by_name, names_in, names_of, same_itself, ReadAll}
 
 -- ---- what is alike but for the bytes of identifiers

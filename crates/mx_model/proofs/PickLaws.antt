@@ -17,11 +17,11 @@ use Rattle.mx_key.specs.declared.edge.KeyRange.{KeyRange}
 use Rattle.mx_key.specs.declared.iterator.IterKind.{IterKind}
 use Rattle.mx_key.specs.declared.iterator.IterKind.TheVariants.{Eq, Req, All, Lt, Le, Ge, Gt}
 use Rattle.mx_key.specs.Keys.{Key, AreFit, key_cmp}
-use Rattle.mx_key.specs.Ranges.{Range, AreFitEnds, lies_in, range_of, descends, ended}
-use Rattle.mx_key.specs.Comparable.{comparable_of, edges_of, holds, bound_of, is_from, is_up_to}
-use Rattle.mx_model.specs.Stored.{Kept, kept_of}
+use Rattle.mx_key.specs.Ranges.{Range, AreFitEnds, lies_in, range_of, descends, range_until}
+use Rattle.mx_key.specs.Comparable.{comparable_of, edges_of, holds, bound_of, is_within_low, is_within_high}
+use Rattle.mx_model.specs.Stored.{StoredTuple, stored_tuple}
 use Rattle.mx_model.specs.Picks.{Indexed, directed, window, picked, last_key, up_to_last, range_read, pick}
-use Rattle.mx_model.specs.Selecting.{last_from, last_of}
+use Rattle.mx_model.specs.Selecting.{last_key_or, last_key_of}
 use Rattle.mx_model.proofs.WindowLaws.{map-directed}
 
 -- the bytes of a range hold those of exactly the keys that lie in it
@@ -64,14 +64,14 @@ not_le_turns Less = refl
 not_le_turns Equal = refl
 not_le_turns Greater = refl
 
-between_from : (edge : Edge) (bytes : List ℕ) → is_from_start (slice_cmp nat_cmp) (bound_of edge) bytes ≡ is_from edge bytes
+between_from : (edge : Edge) (bytes : List ℕ) → is_from_start (slice_cmp nat_cmp) (bound_of edge) bytes ≡ is_within_low edge bytes
 between_from (edge.Inclusive end) bytes =
     le_turns (slice_cmp nat_cmp end bytes) ∙ ap (λ o. not (is_lt o)) (sym (nat_list_cmp_total.antisymm bytes end))
 between_from (edge.Exclusive end) bytes =
     lt_turns (slice_cmp nat_cmp end bytes) ∙ ap is_gt (sym (nat_list_cmp_total.antisymm bytes end))
 between_from edge.Open bytes = refl
 
-between_up_to : (edge : Edge) (bytes : List ℕ) → not (is_past_end (slice_cmp nat_cmp) (bound_of edge) bytes) ≡ is_up_to edge bytes
+between_up_to : (edge : Edge) (bytes : List ℕ) → not (is_past_end (slice_cmp nat_cmp) (bound_of edge) bytes) ≡ is_within_high edge bytes
 between_up_to (edge.Inclusive end) bytes =
     ap not (lt_turns (slice_cmp nat_cmp end bytes)) ∙ ap (λ o. not (is_gt o)) (sym (nat_list_cmp_total.antisymm bytes end))
 between_up_to (edge.Exclusive end) bytes =
@@ -82,55 +82,55 @@ between_is_held : (range : KeyRange) (bytes : List ℕ)
     → range_contains (slice_cmp nat_cmp) (bound_of range.low) (bound_of range.high) bytes ≡ holds range bytes
 between_is_held range bytes = λ i. between_from range.low bytes i && between_up_to range.high bytes i
 
-pub entries_held : (range : KeyRange) (entries : List Kept)
+pub entries_held : (range : KeyRange) (entries : List StoredTuple)
     → entries_between (slice_cmp nat_cmp) (bound_of range.low) (bound_of range.high) entries ≡ filter (λ entry. holds range entry.0) entries
 entries_held range entries = λ i. filter (λ entry. between_is_held range entry.0 i) entries
 
 -- ---- what is kept in a range
 
 pub kept_in_range : (range : Range) → HoldsItsKeys range → (all : List Indexed) → AreFitEntries all
-    → filter (λ entry. holds (edges_of range) entry.0) (map kept_of all) ≡ map kept_of (filter (λ entry. lies_in range entry.0) all)
+    → filter (λ entry. holds (edges_of range) entry.0) (map stored_tuple all) ≡ map stored_tuple (filter (λ entry. lies_in range entry.0) all)
 kept_in_range range law [] fit = refl
 kept_in_range range law (entry ∷ all) fit =
-    ap (λ b. cond b (kept_of entry ∷ filter held (map kept_of all)) (filter held (map kept_of all))) (law entry.0 fit.0)
+    ap (λ b. cond b (stored_tuple entry ∷ filter held (map stored_tuple all)) (filter held (map stored_tuple all))) (law entry.0 fit.0)
     ∙ by_test (lies_in range entry.0) (kept_in_range range law all fit.1)
   where
-    held : Kept → Bool
+    held : StoredTuple → Bool
     held one = holds (edges_of range) one.0
 
     lying : Indexed → Bool
     lying one = lies_in range one.0
 
-    by_test : (b : Bool) → filter held (map kept_of all) ≡ map kept_of (filter lying all)
-        → cond b (kept_of entry ∷ filter held (map kept_of all)) (filter held (map kept_of all)) ≡ map kept_of (cond b (entry ∷ filter lying all) (filter lying all))
-    by_test true others = ap (λ l. kept_of entry ∷ l) others
+    by_test : (b : Bool) → filter held (map stored_tuple all) ≡ map stored_tuple (filter lying all)
+        → cond b (stored_tuple entry ∷ filter held (map stored_tuple all)) (filter held (map stored_tuple all)) ≡ map stored_tuple (cond b (entry ∷ filter lying all) (filter lying all))
+    by_test true others = ap (λ l. stored_tuple entry ∷ l) others
     by_test false others = others
 
-tuples_of_kept : (all : List Indexed) → map (λ (entry : Kept). entry.1) (map kept_of all) ≡ map (λ (entry : Indexed). entry.1) all
+tuples_of_kept : (all : List Indexed) → map (λ (entry : StoredTuple). entry.1) (map stored_tuple all) ≡ map (λ (entry : Indexed). entry.1) all
 tuples_of_kept [] = refl
 tuples_of_kept (entry ∷ all) = ap (λ l. entry.1 ∷ l) (tuples_of_kept all)
 
-last_from_kept : (key : Key) (entries : List Indexed) → last_from (comparable_of key) (map kept_of entries) ≡ comparable_of (last_key key entries)
+last_from_kept : (key : Key) (entries : List Indexed) → last_key_or (comparable_of key) (map stored_tuple entries) ≡ comparable_of (last_key key entries)
 last_from_kept key [] = refl
 last_from_kept key (entry ∷ others) = last_from_kept entry.0 others
 
-last_of_kept : (entry : Indexed) (others : List Indexed) → last_of (map kept_of (entry ∷ others)) ≡ Some (comparable_of (last_key entry.0 others))
+last_of_kept : (entry : Indexed) (others : List Indexed) → last_key_of (map stored_tuple (entry ∷ others)) ≡ Some (comparable_of (last_key entry.0 others))
 last_of_kept entry others = ap Some (last_from_kept entry.0 others)
 
 -- What was found ends with this key, and the range is read up to it.
-pub record ReadsTo (found : List Kept) (down : Bool) (range : Range) (read : Option Range) : Type 0 where
+pub record ReadsTo (found : List StoredTuple) (down : Bool) (range : Range) (read : Option Range) : Type 0 where
   pub last : Key
-  pub is : last_of found ≡ Some (comparable_of last)
-  pub read_is : read ≡ Some (ended down last range)
+  pub is : last_key_of found ≡ Some (comparable_of last)
+  pub read_is : read ≡ Some (range_until down last range)
 
 -- of entries that were picked, as many as the limit
 full_reads : (iterator : IterKind) (key : Key) (found : List Indexed) (limit : ℕ) → 0 < limit → length found ≡ limit
-    → ReadsTo (map kept_of found) (descends iterator) (range_of iterator key) (range_read iterator key limit found)
+    → ReadsTo (map stored_tuple found) (descends iterator) (range_of iterator key) (range_read iterator key limit found)
 full_reads iterator key [] zero more full = absurd (none_less more)
 full_reads iterator key (entry ∷ others) zero more full = absurd (none_less more)
 full_reads iterator key [] (suc n) more full = absurd (not_zero n full)
 full_reads iterator key (entry ∷ others) (suc n) more full =
-    let to_last = ended (descends iterator) (last_key entry.0 others) (range_of iterator key) in
+    let to_last = range_until (descends iterator) (last_key entry.0 others) (range_of iterator key) in
     let all : (suc (length others) == suc n) ≡ true = eqb-same (suc (length others)) (suc n) full in
     record {
       last = last_key entry.0 others;
@@ -145,20 +145,20 @@ short_reads iterator key found zero more short = absurd (none_less more)
 short_reads iterator key found (suc n) more short =
     ap (λ b. Some (if b then up_to_last (descends iterator) found (range_of iterator key) else range_of iterator key)) short
 
-module _ (iterator : IterKind) (key : Key) (law : HoldsItsKeys (range_of iterator key)) (all : List Indexed) (fit : AreFitEntries all) (kept : List Kept) (same : map kept_of all ≡ kept) (offset limit : ℕ) where
+module _ (iterator : IterKind) (key : Key) (law : HoldsItsKeys (range_of iterator key)) (all : List Indexed) (fit : AreFitEntries all) (kept : List StoredTuple) (same : map stored_tuple all ≡ kept) (offset limit : ℕ) where
   -- what is found of what is kept
-  abbrev pub found_in : List Kept
+  abbrev pub found_in : List StoredTuple
   found_in = window offset limit (directed (descends iterator) (filter (λ entry. holds (edges_of (range_of iterator key)) entry.0) kept))
 
   -- the same of the entries between the bounds
-  pub found_between : (between : List Kept)
+  pub found_between : (between : List StoredTuple)
       → between ≡ entries_between (slice_cmp nat_cmp) (bound_of (edges_of (range_of iterator key)).low) (bound_of (edges_of (range_of iterator key)).high) kept
       → window offset limit (directed (descends iterator) between) ≡ found_in
   found_between between is =
       ap (λ l. window offset limit (directed (descends iterator) l)) (is ∙ entries_held (edges_of (range_of iterator key)) kept)
 
   -- and of what is left of them once the first ones were passed over
-  pub found_past : (down : Bool) → down ≡ descends iterator → (between rest : List Kept)
+  pub found_past : (down : Bool) → down ≡ descends iterator → (between rest : List StoredTuple)
       → between ≡ entries_between (slice_cmp nat_cmp) (bound_of (edges_of (range_of iterator key)).low) (bound_of (edges_of (range_of iterator key)).high) kept
       → directed down rest ≡ drop offset (directed down between)
       → take limit (directed down rest) ≡ found_in
@@ -166,17 +166,17 @@ module _ (iterator : IterKind) (key : Key) (law : HoldsItsKeys (range_of iterato
       ap (take limit) passed ∙ ap (λ d. window offset limit (directed d between)) is ∙ found_between between held
 
   -- it is what the iterator picks
-  pub found_is_picked : found_in ≡ map kept_of (picked iterator key offset limit all)
+  pub found_is_picked : found_in ≡ map stored_tuple (picked iterator key offset limit all)
   found_is_picked =
       let lying = filter (λ (entry : Indexed). lies_in (range_of iterator key) entry.0) all in
       ap (λ l. window offset limit (directed (descends iterator) (filter (λ entry. holds (edges_of (range_of iterator key)) entry.0) l))) (sym same)
       ∙ ap (λ l. window offset limit (directed (descends iterator) l)) (kept_in_range (range_of iterator key) law all fit)
-      ∙ ap (window offset limit) (map-directed kept_of (descends iterator) lying)
-      ∙ ap (take limit) (drop-map kept_of offset (directed (descends iterator) lying))
-      ∙ take-map kept_of limit (drop offset (directed (descends iterator) lying))
+      ∙ ap (window offset limit) (map-directed stored_tuple (descends iterator) lying)
+      ∙ ap (take limit) (drop-map stored_tuple offset (directed (descends iterator) lying))
+      ∙ take-map stored_tuple limit (drop offset (directed (descends iterator) lying))
 
   pub tuples_are_picked : map (λ entry. entry.1) found_in ≡ (pick all iterator key offset limit).tuples
-  tuples_are_picked = ap (map (λ (entry : Kept). entry.1)) found_is_picked ∙ tuples_of_kept (picked iterator key offset limit all)
+  tuples_are_picked = ap (map (λ (entry : StoredTuple). entry.1)) found_is_picked ∙ tuples_of_kept (picked iterator key offset limit all)
 
   length_of_tuples : length (pick all iterator key offset limit).tuples ≡ length (picked iterator key offset limit all)
   length_of_tuples = length-map (picked iterator key offset limit all) (λ (entry : Indexed). entry.1)
@@ -212,25 +212,25 @@ fit_ends Lt (part ∷ parts) fit = (tt, fit)
 
 -- it is kept as it is put among the keys
 pub kept_with : OrdersKeys → (key : Key) (tuple : List ℕ) → AreFit key → (all : List Indexed) → AreFitEntries all
-    → insert_entry (slice_cmp nat_cmp) (map kept_of all) (comparable_of key) tuple ≡ map kept_of (put key_cmp key tuple all)
+    → insert_entry (slice_cmp nat_cmp) (map stored_tuple all) (comparable_of key) tuple ≡ map stored_tuple (put key_cmp key tuple all)
 kept_with law key tuple fit [] others = refl
 kept_with law key tuple fit (entry ∷ all) others =
-    ap (λ o. match_ordering o (new ∷ kept_of entry ∷ map kept_of all) ((comparable_of entry.0, tuple) ∷ map kept_of all) (kept_of entry ∷ inserted))
+    ap (λ o. match_ordering o (new ∷ stored_tuple entry ∷ map stored_tuple all) ((comparable_of entry.0, tuple) ∷ map stored_tuple all) (stored_tuple entry ∷ inserted))
     (law key entry.0 fit others.0)
     ∙ by_case (key_cmp key entry.0) (kept_with law key tuple fit all others.1)
   where
-    new : Kept
+    new : StoredTuple
     new = (comparable_of key, tuple)
 
-    inserted : List Kept
-    inserted = insert_entry (slice_cmp nat_cmp) (map kept_of all) (comparable_of key) tuple
+    inserted : List StoredTuple
+    inserted = insert_entry (slice_cmp nat_cmp) (map stored_tuple all) (comparable_of key) tuple
 
-    by_case : (o : Ordering) → inserted ≡ map kept_of (put key_cmp key tuple all)
-        → match_ordering o (new ∷ kept_of entry ∷ map kept_of all) ((comparable_of entry.0, tuple) ∷ map kept_of all) (kept_of entry ∷ inserted)
-        ≡ map kept_of (by_order o ((key, tuple) ∷ entry ∷ all) ((entry.0, tuple) ∷ all) (entry ∷ put key_cmp key tuple all))
+    by_case : (o : Ordering) → inserted ≡ map stored_tuple (put key_cmp key tuple all)
+        → match_ordering o (new ∷ stored_tuple entry ∷ map stored_tuple all) ((comparable_of entry.0, tuple) ∷ map stored_tuple all) (stored_tuple entry ∷ inserted)
+        ≡ map stored_tuple (by_order o ((key, tuple) ∷ entry ∷ all) ((entry.0, tuple) ∷ all) (entry ∷ put key_cmp key tuple all))
     by_case Less same = refl
     by_case Equal same = refl
-    by_case Greater same = ap (λ l. kept_of entry ∷ l) same
+    by_case Greater same = ap (λ l. stored_tuple entry ∷ l) same
 
 -- and the keys are fit as before
 pub fit_with : (key : Key) (tuple : List ℕ) → AreFit key → (all : List Indexed) → AreFitEntries all → AreFitEntries (put key_cmp key tuple all)

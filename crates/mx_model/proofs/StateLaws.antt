@@ -7,7 +7,9 @@ use Rattle.std.proofs.lemmas.Cmp.{nat_cmp_total}
 use Rattle.std.proofs.lemmas.Bool.Decides.{nat_tests}
 use Rattle.mx_model.specs.State as state
 use Rattle.mx_model.specs.State.{State, test_space, first_state, primary_key}
-use Rattle.mx_model.specs.Answers.{Replaced, put_tuple, state_after_row}
+use Rattle.mx_model.specs.Answers.{state_after_row}
+use Rattle.mx_model.specs.statements.Replace.{put_tuple}
+use Rattle.mx_row.specs.declared.row.Row.TheVariants.{Replaced}
 
 -- two spaces tie where their numbers are the same
 pub spaces_tie : (a b : ℕ) → eq_by_cmp nat_cmp a b ≡ (a == b)

@@ -1,29 +1,13 @@
 -- Blocks of transactions are read as these transactions, and a file goes up to the last of them.
-use Rattle.std.proofs.Common.{◌≡◌, ℕ, ◌+◌, true, List, [], ◌∷◌, ◌++◌, length, map, Option, Some, Ok, refl, ap, ◌∙◌, append_assoc}
-use Rattle.std.specs.List.{concat, AllByRecursion}
+use Rattle.std.proofs.Common.{◌≡◌, ℕ, ◌+◌, true, List, [], ◌∷◌, length, map, Option, Some, Ok, refl, ap, ◌∙◌}
 use Rattle.std.proofs.lemmas.Bool.{and_from, cond-true}
-use Rattle.mx_xlog.specs.Blocks.{block_of}
-use Rattle.mx_xlog.specs.Reading.{blocks_of}
-use Rattle.mx_xlog.proofs.ReadingLaws.{blocks_of_block}
 use Rattle.mx_model.specs.Answers.{state_after_rows}
-use Rattle.mx_model.specs.declared.tx.Tx.{Tx}
-use Rattle.mx_model.specs.Rows.{IsTransaction, transaction_text}
-use Rattle.mx_model.specs.Transactions.{state_after, clock_after_one, clock_after}
-use Rattle.mx_model.specs.Files.{Reached, takes_rows, follows, after_transaction, after_transactions, after_read, then_all, after_block, block_reached, after_blocks, AllFollow}
-use Rattle.mx_model.proofs.RowLaws.{transactions_again, transaction_data}
-
-abbrev block_text : Tx → List ℕ
-block_text transaction = block_of (transaction_text transaction)
-
--- blocks of transactions, and behind them no block
-pub blocks_again : (transactions : List Tx) (tail : List ℕ) → AllByRecursion IsTransaction transactions → blocks_of tail ≡ []
-    → blocks_of (concat (map (λ transaction. block_of (transaction_text transaction)) transactions) ++ tail) ≡ map transaction_text transactions
-blocks_again [] tail each ends = ends
-blocks_again (transaction ∷ others) tail (is, each) ends =
-    let rest = concat (map block_text others) in
-    ap blocks_of (append_assoc (block_text transaction) rest tail)
-    ∙ blocks_of_block (transaction_text transaction) (rest ++ tail) (transaction_data transaction is)
-    ∙ ap (λ (blocks : List (List ℕ)). transaction_text transaction ∷ blocks) (blocks_again others tail each ends)
+use Rattle.mx_row.specs.declared.tx.Tx.{Tx}
+use Rattle.mx_row.specs.Rows.{IsTransaction, transaction_text}
+use Rattle.mx_model.specs.Transactions.{state_after}
+use Rattle.mx_row.specs.Clocks.{clock_after_one, clock_after, follows}
+use Rattle.mx_model.specs.Directories.{Reached, takes_rows, after_transaction, after_transactions, after_read, then_all, after_block, block_reached, after_blocks, AllFollow}
+use Rattle.mx_row.proofs.RowLaws.{transactions_again}
 
 -- ---- what a file's blocks stand for
 

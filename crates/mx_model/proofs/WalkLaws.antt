@@ -8,8 +8,10 @@ use Rattle.std.proofs.lemmas.List.Elements.{All-cons, All-nil}
 use Rattle.mx_vclock.specs.Vclocks.{IsVclock, max_lsn}
 use Rattle.mx_model.specs.declared.ids.Ids.{Ids}
 use Rattle.mx_model.specs.declared.damage.Damage.{Damage}
-use Rattle.mx_model.specs.Files.{FileRead, Named, Reached, journal_name, same_bytes, ids_in, ids_or, nothing_yet, after_head, after_files, and_then}
-use Rattle.mx_model.proofs.NameLaws.{same_signature, signature_fits}
+use Rattle.mx_model.specs.Directories.{Named, Reached, ids_in, ids_or, nothing_yet, after_head, after_files, and_then}
+use Rattle.mx_xlog.specs.Files.{FileRead}
+use Rattle.mx_files.specs.Names.{journal_name, same_bytes}
+use Rattle.mx_files.proofs.NameLaws.{same_signature, signature_fits}
 use Rattle.mx_model.proofs.DirectoryLaws.{begun}
 use Rattle.mx_model.proofs.GrowthLaws.{Grows, same_ok, after_blocks-grows}
 

@@ -13,11 +13,11 @@ use Rattle.std.proofs.lemmas.Option.{slice_get_past}
 use Rattle.std.proofs.lemmas.List.Sums.{sum_by-append}
 use Rattle.std.proofs.lemmas.List.Elements.{filter-append, All-same, All-push, recursion_from_All}
 use Rattle.std.proofs.Math.Seq.{drop-nil}
-use Rattle.mx_model.specs.Stored.{Kept}
+use Rattle.mx_model.specs.Stored.{StoredTuple}
 use Rattle.mx_model.specs.Picks.{directed, window, total_bytes, max_result_size}
-use Rattle.mx_model.specs.declared.keying.Keyed.{Keyed}
-use Rattle.mx_model.specs.Slow.{kept_view, kept_list}
-use Rattle.mx_model.specs.Selecting.{last_from}
+use Rattle.mx_model.specs.declared.keyed.Keyed.{Keyed}
+use Rattle.mx_model.specs.Slow.{stored_view, stored_list}
+use Rattle.mx_model.specs.Selecting.{last_key_or}
 
 not_more : ¬ (0 < 0)
 not_more = omega arith
@@ -32,30 +32,30 @@ module _ {X : Type 0} where
   take_one (suc n) x xs ys more next = let less : n ≡ suc n - 1 = omega arith in ap (take (suc n)) next ∙ ap (λ k. x ∷ take k ys) less
 
 -- the last one's key, where there may be an earlier one
-abbrev pub last_after : Option (List ℕ) → List Kept → Option (List ℕ)
+abbrev pub last_after : Option (List ℕ) → List StoredTuple → Option (List ℕ)
 last_after earlier [] = earlier
-last_after earlier (entry ∷ others) = Some (last_from entry.0 others)
+last_after earlier (entry ∷ others) = Some (last_key_or entry.0 others)
 
-last_after-some : (key : List ℕ) (entries : List Kept) → last_after (Some key) entries ≡ Some (last_from key entries)
+last_after-some : (key : List ℕ) (entries : List StoredTuple) → last_after (Some key) entries ≡ Some (last_key_or key entries)
 last_after-some key [] = refl
 last_after-some key (entry ∷ others) = refl
 
 -- the tuples of entries
-abbrev pub tuples_of : List Kept → List (List ℕ)
+abbrev pub tuples_of : List StoredTuple → List (List ℕ)
 tuples_of entries = map (λ entry. entry.1) entries
 
 total_bytes-append : (xs ys : List (List ℕ)) → total_bytes (xs ++ ys) ≡ total_bytes xs + total_bytes ys
 total_bytes-append xs ys = ap sum (map-append length xs ys) ∙ sum_by-append (λ x. x) (map length xs) (map length ys)
 
 -- one entry more is taken
-pub took_tuple : (all : List (List ℕ)) (tuples : List (List ℕ)) (left : ℕ) (next : Kept) (entries others : List Kept)
+pub took_tuple : (all : List (List ℕ)) (tuples : List (List ℕ)) (left : ℕ) (next : StoredTuple) (entries others : List StoredTuple)
     → 0 < left → entries ≡ next ∷ others → all ≡ tuples ++ tuples_of (take left entries)
     → all ≡ (tuples ++ next.1 ∷ []) ++ tuples_of (take (left - 1) others)
 took_tuple all tuples left next entries others more is before =
     before ∙ ap (λ taken. tuples ++ tuples_of taken) (take_one left next entries others more is)
     ∙ sym (append_assoc tuples (next.1 ∷ []) (tuples_of (take (left - 1) others)))
 
-pub took_last : (last : Option (List ℕ)) (earlier : Option (List ℕ)) (left : ℕ) (next : Kept) (entries others : List Kept)
+pub took_last : (last : Option (List ℕ)) (earlier : Option (List ℕ)) (left : ℕ) (next : StoredTuple) (entries others : List StoredTuple)
     → 0 < left → entries ≡ next ∷ others → last ≡ last_after earlier (take left entries) → last ≡ last_after (Some next.0) (take (left - 1) others)
 took_last last earlier left next entries others more is before =
     before ∙ ap (last_after earlier) (take_one left next entries others more is) ∙ sym (last_after-some next.0 (take (left - 1) others))
@@ -64,7 +64,7 @@ pub took_bytes : (tuples : List (List ℕ)) (tuple : List ℕ) (bytes : ℕ) →
 took_bytes tuples tuple bytes before = omega (arith, total_bytes-append tuples (tuple ∷ []))
 
 -- the next entry is too many bytes
-pub too_long : (all : List (List ℕ)) (tuples : List (List ℕ)) (left bytes : ℕ) (next : Kept) (entries others : List Kept)
+pub too_long : (all : List (List ℕ)) (tuples : List (List ℕ)) (left bytes : ℕ) (next : StoredTuple) (entries others : List StoredTuple)
     → 0 < left → entries ≡ next ∷ others → all ≡ tuples ++ tuples_of (take left entries)
     → bytes ≡ total_bytes tuples → bytes ≤ max_result_size → max_result_size - bytes < length next.1 → max_result_size < total_bytes all
 too_long all tuples left bytes next entries others more is before sum within beyond =
@@ -120,7 +120,7 @@ pub next_seen : {X Y : Type 0} (f : X → Y) (down : Bool) (next : X) (rest othe
 next_seen f down next rest others is =
     map-directed f down rest ∙ ap (map f) is ∙ ap (λ l. f next ∷ l) (sym (map-directed f down others))
 
-module _ (p : Kept → Bool) (down : Bool) (next : Kept) (entries others : List Kept) (is : directed down entries ≡ next ∷ directed down others) where
+module _ (p : StoredTuple → Bool) (down : Bool) (next : StoredTuple) (entries others : List StoredTuple) (is : directed down entries ≡ next ∷ directed down others) where
   filtered_out : p next ≡ false → directed down (filter p entries) ≡ directed down (filter p others)
   filtered_out missed =
       filter-directed p down entries ∙ ap (filter p) is ∙ filter-cons_false p next (directed down others) missed ∙ sym (filter-directed p down others)
@@ -206,46 +206,46 @@ abbrev pub IsOther : List ℕ → Keyed → Type 0
 IsOther key one = is_eq (slice_cmp nat_cmp one.key key) ≡ false
 
 module _ (key tuple : List ℕ) where
-  -- those below stay in front
-  put_behind : (before : List Keyed) (after : List Kept) → AllByRecursion (IsBelow key) before
-      → insert_entry (slice_cmp nat_cmp) (kept_list before ++ after) key tuple ≡ kept_list before ++ insert_entry (slice_cmp nat_cmp) after key tuple
+  -- those below stay first
+  put_behind : (before : List Keyed) (after : List StoredTuple) → AllByRecursion (IsBelow key) before
+      → insert_entry (slice_cmp nat_cmp) (stored_list before ++ after) key tuple ≡ stored_list before ++ insert_entry (slice_cmp nat_cmp) after key tuple
   put_behind [] after below = refl
   put_behind (one ∷ before) after below =
-      let all = kept_view one ∷ (kept_list before ++ after) in
-      ap (λ o. match_ordering o ((key, tuple) ∷ all) ((one.key, tuple) ∷ (kept_list before ++ after)) (kept_view one ∷ insert_entry (slice_cmp nat_cmp) (kept_list before ++ after) key tuple))
+      let all = stored_view one ∷ (stored_list before ++ after) in
+      ap (λ o. match_ordering o ((key, tuple) ∷ all) ((one.key, tuple) ∷ (stored_list before ++ after)) (stored_view one ∷ insert_entry (slice_cmp nat_cmp) (stored_list before ++ after) key tuple))
       (nat_list_cmp_total.antisymm key one.key ∙ lower_turns (slice_cmp nat_cmp one.key key) below.0)
-      ∙ ap (λ l. kept_view one ∷ l) (put_behind before after below.1)
+      ∙ ap (λ l. stored_view one ∷ l) (put_behind before after below.1)
 
   put_at : (kept : List Keyed) (place : ℕ) → All (IsBelow key) (take place kept)
-      → insert_entry (slice_cmp nat_cmp) (kept_list kept) key tuple ≡ kept_list (take place kept) ++ insert_entry (slice_cmp nat_cmp) (kept_list (drop place kept)) key tuple
+      → insert_entry (slice_cmp nat_cmp) (stored_list kept) key tuple ≡ stored_list (take place kept) ++ insert_entry (slice_cmp nat_cmp) (stored_list (drop place kept)) key tuple
   put_at kept place below =
-      ap (λ l. insert_entry (slice_cmp nat_cmp) (kept_list l) key tuple) (sym (take-append-drop place kept))
-      ∙ ap (λ l. insert_entry (slice_cmp nat_cmp) l key tuple) (map-append kept_view (take place kept) (drop place kept))
-      ∙ put_behind (take place kept) (kept_list (drop place kept)) (recursion_from_All (IsBelow key) (take place kept) below)
+      ap (λ l. insert_entry (slice_cmp nat_cmp) (stored_list l) key tuple) (sym (take-append-drop place kept))
+      ∙ ap (λ l. insert_entry (slice_cmp nat_cmp) l key tuple) (map-append stored_view (take place kept) (drop place kept))
+      ∙ put_behind (take place kept) (stored_list (drop place kept)) (recursion_from_All (IsBelow key) (take place kept) below)
 
   -- the key is there, and the tuple takes the place of its tuple
   pub put_replaces : (kept : List Keyed) (place : ℕ) (found : Keyed) → place < length kept → found ≡ slice_index_or kept place found
       → All (IsBelow key) (take place kept) → is_eq (slice_cmp nat_cmp found.key key) ≡ true
-      → kept_list (slice_set kept place (record { key = found.key; tuple = tuple })) ≡ insert_entry (slice_cmp nat_cmp) (kept_list kept) key tuple
+      → stored_list (slice_set kept place (record { key = found.key; tuple = tuple })) ≡ insert_entry (slice_cmp nat_cmp) (stored_list kept) key tuple
   put_replaces kept place found within is below tied =
       let new : Keyed = record { key = found.key; tuple = tuple } in
       let rest = drop (place + 1) kept in
-      ap kept_list (sym (take-append-drop place (slice_set kept place new)))
-      ∙ map-append kept_view (take place (slice_set kept place new)) (drop place (slice_set kept place new))
-      ∙ ap (λ l. kept_list l ++ kept_list (drop place (slice_set kept place new))) (take-set kept place new)
-      ∙ ap (λ l. kept_list (take place kept) ++ kept_list l) (drop-set kept place new within)
-      ∙ ap (λ l. kept_list (take place kept) ++ l) (sym (
-      ap (λ l. insert_entry (slice_cmp nat_cmp) (kept_list l) key tuple) (drop_more kept place found within ∙ ap (λ one. one ∷ rest) (sym is))
-      ∙ ap (λ o. match_ordering o ((key, tuple) ∷ kept_view found ∷ kept_list rest) ((found.key, tuple) ∷ kept_list rest) (kept_view found ∷ insert_entry (slice_cmp nat_cmp) (kept_list rest) key tuple))
+      ap stored_list (sym (take-append-drop place (slice_set kept place new)))
+      ∙ map-append stored_view (take place (slice_set kept place new)) (drop place (slice_set kept place new))
+      ∙ ap (λ l. stored_list l ++ stored_list (drop place (slice_set kept place new))) (take-set kept place new)
+      ∙ ap (λ l. stored_list (take place kept) ++ stored_list l) (drop-set kept place new within)
+      ∙ ap (λ l. stored_list (take place kept) ++ l) (sym (
+      ap (λ l. insert_entry (slice_cmp nat_cmp) (stored_list l) key tuple) (drop_more kept place found within ∙ ap (λ one. one ∷ rest) (sym is))
+      ∙ ap (λ o. match_ordering o ((key, tuple) ∷ stored_view found ∷ stored_list rest) ((found.key, tuple) ∷ stored_list rest) (stored_view found ∷ insert_entry (slice_cmp nat_cmp) (stored_list rest) key tuple))
       (nat_list_cmp_total.antisymm key found.key ∙ tie_turns (slice_cmp nat_cmp found.key key) tied)
       ))
       ∙ sym (put_at kept place below)
 
   put_first : (kept : List Keyed) (place : ℕ) → IfSome (slice_get kept place) (λ one. IsNotBelow key one × IsOther key one)
-      → insert_entry (slice_cmp nat_cmp) (kept_list (drop place kept)) key tuple ≡ (key, tuple) ∷ kept_list (drop place kept)
-  put_first [] place above = ap (λ l. insert_entry (slice_cmp nat_cmp) (kept_list l) key tuple) (drop-nil place) ∙ ap (λ l. (key, tuple) ∷ kept_list l) (sym (drop-nil {A = Keyed} place))
+      → insert_entry (slice_cmp nat_cmp) (stored_list (drop place kept)) key tuple ≡ (key, tuple) ∷ stored_list (drop place kept)
+  put_first [] place above = ap (λ l. insert_entry (slice_cmp nat_cmp) (stored_list l) key tuple) (drop-nil place) ∙ ap (λ l. (key, tuple) ∷ stored_list l) (sym (drop-nil {A = Keyed} place))
   put_first (one ∷ others) zero above =
-      ap (λ o. match_ordering o ((key, tuple) ∷ kept_view one ∷ kept_list others) ((one.key, tuple) ∷ kept_list others) (kept_view one ∷ insert_entry (slice_cmp nat_cmp) (kept_list others) key tuple))
+      ap (λ o. match_ordering o ((key, tuple) ∷ stored_view one ∷ stored_list others) ((one.key, tuple) ∷ stored_list others) (stored_view one ∷ insert_entry (slice_cmp nat_cmp) (stored_list others) key tuple))
       (nat_list_cmp_total.antisymm key one.key ∙ upper_turns (slice_cmp nat_cmp one.key key) above.0 above.1)
   put_first (one ∷ others) (suc place) above = put_first others place above
 
@@ -253,9 +253,9 @@ module _ (key tuple : List ℕ) where
   pub put_adds : (kept : List Keyed) (place : ℕ) → All (IsBelow key) (take place kept)
       → IfSome (slice_get kept place) (IsNotBelow key)
       → IfSome (slice_get kept place) (IsOther key)
-      → kept_list (insert kept place (record { key = key; tuple = tuple })) ≡ insert_entry (slice_cmp nat_cmp) (kept_list kept) key tuple
+      → stored_list (insert kept place (record { key = key; tuple = tuple })) ≡ insert_entry (slice_cmp nat_cmp) (stored_list kept) key tuple
   put_adds kept place below lower other =
       let above = both_there (IsNotBelow key) (IsOther key) (slice_get kept place) lower other in
-      map-append kept_view (take place kept) (record { key = key; tuple = tuple } ∷ drop place kept)
-      ∙ ap (λ l. kept_list (take place kept) ++ l) (sym (put_first kept place above))
+      map-append stored_view (take place kept) (record { key = key; tuple = tuple } ∷ drop place kept)
+      ∙ ap (λ l. stored_list (take place kept) ++ l) (sym (put_first kept place above))
       ∙ sym (put_at kept place below)

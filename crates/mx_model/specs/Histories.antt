@@ -11,13 +11,15 @@ use Rattle.mx_request.specs.declared.request.Ask.TheVariants as ask
 use Rattle.mx_request.specs.declared.request.Request.{Request}
 use Rattle.mx_request.specs.declared.request.Request.TheVariants as request
 use Rattle.mx_model.specs.declared.ids.Ids.{Ids}
-use Rattle.mx_model.specs.declared.row.Row.{Row}
-use Rattle.mx_model.specs.declared.tx.Tx.{Tx}
+use Rattle.mx_row.specs.declared.row.Row.{Row}
+use Rattle.mx_row.specs.declared.tx.Tx.{Tx}
 use Rattle.mx_model.specs.State.{State}
 use Rattle.mx_model.specs.declared.reply.Reply.{Reply}
-use Rattle.mx_model.specs.declared.reply.Reply.TheVariants.{Empty, Tuples, Id, Refused}
-use Rattle.mx_model.specs.Answers.{Answer, answer_to, refused, refused_after}
-use Rattle.mx_model.specs.Transactions.{state_after, clock_after}
+use Rattle.mx_model.specs.declared.reply.Reply.TheVariants.{Empty, Refused}
+use Rattle.mx_model.specs.Answers.{answer_to}
+use Rattle.mx_model.specs.statements.Answer.{Answer, refusal_alone, refusal_after}
+use Rattle.mx_model.specs.Transactions.{state_after}
+use Rattle.mx_row.specs.Clocks.{clock_after}
 
 -- what a database was when it was opened: its state, its vclock, and who it is
 pub record Base : Type 0 where
@@ -26,7 +28,7 @@ pub record Base : Type 0 where
   pub ids : Ids
 
 -- One step: who asked what, and what the reply was; a connection that left; transactions that were taken to be written,
--- with the number of steps before; and word that all commits among so many steps are on the disk.
+-- with the number of steps before; and word that all commits among so many steps are durable.
 pub data Entry : Type 0 where
   Asked : TxnName → Ask → Reply → Entry
   Left : (connection : ℕ) → Entry
@@ -45,15 +47,13 @@ pub record Ledger : Type 0 where
   pub taken : ℕ
   -- the number of steps before each take, the newest first
   pub takes : List ℕ
-  -- among how many steps all commits are on the disk
+  -- among how many steps all commits are durable
   pub durable : ℕ
 
--- the reply says that memory was missing; such a step counts as not asked
+-- the reply is that memory ran out; such a step counts as not asked
 abbrev pub is_out_of_memory : Reply → Bool
-is_out_of_memory Empty = false
-is_out_of_memory (Tuples tuples) = false
-is_out_of_memory Id = false
 is_out_of_memory (Refused refusal) = code_of refusal == code_of OutOfMemory
+is_out_of_memory _ = false
 
 -- the replica id of the node that may be written
 abbrev pub writable_node : ℕ
@@ -61,59 +61,50 @@ writable_node = 1
 
 -- a request that writes
 abbrev pub is_write : Request → Bool
-is_write (request.Select space index limit offset iterator key) = false
 is_write (request.Insert space tuple) = true
 is_write (request.Replace space tuple) = true
 is_write (request.Update space index base key ops) = true
 is_write (request.Delete space index key) = true
 is_write (request.Upsert space base tuple ops) = true
-is_write request.Nop = false
-is_write request.Ping = false
-is_write request.Begin = false
-is_write request.Commit = false
-is_write request.Rollback = false
-is_write request.Id = false
-is_write (request.Join instance) = false
-is_write (request.Subscribe instance set clock) = false
-is_write (request.Ack clock) = false
+is_write _ = false
 
 -- an answer that leaves a row needs an lsn for it
-abbrev pub numbered : (lsn : ℕ) → Answer → Option Row → Answer
-numbered lsn answer None = answer
-numbered lsn answer (Some row) = if nat_lt max_lsn lsn then refused_after answer.reads LsnsUsedUp else answer
+abbrev pub with_lsn : (lsn : ℕ) → Answer → Option Row → Answer
+with_lsn lsn answer None = answer
+with_lsn lsn answer (Some row) = if nat_lt max_lsn lsn then refusal_after answer.reads LsnsUsedUp else answer
 
 -- the statement's answer on a node with these identifiers, whose next lsn is this one
 abbrev pub node_answer : Ids → State → (lsn : ℕ) → Request → Answer
 node_answer ids before lsn request =
-    if is_write request && not (ids.me == writable_node) then refused (ReadOnly (record { 0 = writable_node }))
-    else numbered lsn (answer_to before request) (answer_to before request).row
+    if is_write request && not (ids.me == writable_node) then refusal_alone (ReadOnly (record { 0 = writable_node }))
+    else with_lsn lsn (answer_to before request) (answer_to before request).row
 
 -- the state and the vclock that a ledger leaves, and the node's next lsn
-abbrev pub state_in : Base → Ledger → State
-state_in base ledger = state_after base.state ledger.journal
+abbrev pub ledger_state : Base → Ledger → State
+ledger_state base ledger = state_after base.state ledger.journal
 
-abbrev pub clock_in : Base → Ledger → List ℕ
-clock_in base ledger = clock_after base.clock ledger.journal
+abbrev pub ledger_clock : Base → Ledger → List ℕ
+ledger_clock base ledger = clock_after base.clock ledger.journal
 
 abbrev pub next_lsn : Base → Ledger → ℕ
-next_lsn base ledger = suc (slice_index (clock_in base ledger) base.ids.me)
+next_lsn base ledger = suc (slice_index (ledger_clock base ledger) base.ids.me)
 
 -- what a request is answered after this ledger
 abbrev pub answer_in : Base → Ledger → Request → Answer
-answer_in base ledger request = node_answer base.ids (state_in base ledger) (next_lsn base ledger) request
+answer_in base ledger request = node_answer base.ids (ledger_state base ledger) (next_lsn base ledger) request
 
 -- a commit of one row, where the statement left one and memory was there
-abbrev pub committed : (replica lsn : ℕ) → Bool → Option Row → List Tx
-committed replica lsn true row = []
-committed replica lsn false None = []
-committed replica lsn false (Some row) = record { replica = replica; first = lsn; rows = row ∷ [] } ∷ []
+abbrev pub commit_of : (replica lsn : ℕ) → Bool → Option Row → List Tx
+commit_of replica lsn true row = []
+commit_of replica lsn false None = []
+commit_of replica lsn false (Some row) = record { replica = replica; first = lsn; rows = row ∷ [] } ∷ []
 
 -- the journal's part of one step
 abbrev pub commits_of : Base → Ledger → Ask → Reply → List Tx
 commits_of base ledger (ask.Refused refusal) reply = []
 commits_of base ledger ask.Leave reply = []
 commits_of base ledger (ask.Request request) reply =
-    committed base.ids.me (next_lsn base ledger) (is_out_of_memory reply) (answer_in base ledger request).row
+    commit_of base.ids.me (next_lsn base ledger) (is_out_of_memory reply) (answer_in base ledger request).row
 
 abbrev pub ledger_after : Base → Ledger → Entry → Ledger
 ledger_after base ledger (Asked name ask reply) = record ledger { journal = ledger.journal ++ commits_of base ledger ask reply }
@@ -132,10 +123,10 @@ journal_of base history = (ledger_of base history).journal
 
 -- the state that a history leaves, and its vclock
 abbrev pub state_of : Base → History → State
-state_of base history = state_in base (ledger_of base history)
+state_of base history = ledger_state base (ledger_of base history)
 
 abbrev pub clock_of : Base → History → List ℕ
-clock_of base history = clock_in base (ledger_of base history)
+clock_of base history = ledger_clock base (ledger_of base history)
 
 -- the reply that the ledger demands; a request that was refused beforehand is told so
 abbrev pub reply_to : Base → Ledger → Ask → Reply
@@ -143,7 +134,7 @@ reply_to base ledger (ask.Refused refusal) = Refused refusal
 reply_to base ledger ask.Leave = Empty
 reply_to base ledger (ask.Request request) = (answer_in base ledger request).reply
 
--- the request can be asked, and the reply is the one that the ledger demands, or to a request that memory was missing; who
+-- the request can be asked, and the reply is the one that the ledger demands, or to a request that memory ran out; who
 -- leaves is told nothing
 abbrev pub IsReply : Base → Ledger → Ask → Reply → Type 0
 IsReply base ledger (ask.Refused refusal) reply = reply ≡ Refused refusal
@@ -168,25 +159,25 @@ IsLegal base (entry ∷ earlier) = IsLegal base earlier × Follows base (ledger_
 abbrev pub leaving : (connection : ℕ) → TxnName × Ask
 leaving connection = (record { conn = record { 0 = connection }; stream = record { 0 = 0 } }, ask.Leave)
 
-abbrev pub asked_in : Entry → List (TxnName × Ask)
-asked_in (Asked name ask reply) = (name, ask) ∷ []
-asked_in (Left connection) = leaving connection ∷ []
-asked_in (Took transactions upto) = []
-asked_in (Confirmed upto) = []
+abbrev pub entry_asks : Entry → List (TxnName × Ask)
+entry_asks (Asked name ask reply) = (name, ask) ∷ []
+entry_asks (Left connection) = leaving connection ∷ []
+entry_asks (Took transactions upto) = []
+entry_asks (Confirmed upto) = []
 
 -- who asked what, or left, the first of it first
 abbrev pub asks_in : History → List (TxnName × Ask)
 asks_in [] = []
-asks_in (entry ∷ earlier) = asks_in earlier ++ asked_in entry
+asks_in (entry ∷ earlier) = asks_in earlier ++ entry_asks entry
 
--- the step wasn't told that memory was missing
+-- the step wasn't answered that memory ran out
 abbrev pub HadMemory : Entry → Type 0
 HadMemory (Asked name ask reply) = is_out_of_memory reply ≡ false
 HadMemory (Left connection) = ⊤
 HadMemory (Took transactions upto) = ⊤
 HadMemory (Confirmed upto) = ⊤
 
--- no step was told that memory was missing
+-- no step was answered that memory ran out
 abbrev pub HasMemory : History → Type 0
 HasMemory [] = Unit {0}
 HasMemory (entry ∷ earlier) = HasMemory earlier × HadMemory entry
@@ -213,13 +204,13 @@ abbrev pub history_from : Base → History → List (TxnName × Ask) → History
 history_from base earlier [] = earlier
 history_from base earlier (asked ∷ others) = history_from base (step_for base (ledger_of base earlier) asked ∷ earlier) others
 
-abbrev pub replied_in : Entry → List Reply
-replied_in (Asked name ask reply) = reply ∷ []
-replied_in (Left connection) = []
-replied_in (Took transactions upto) = []
-replied_in (Confirmed upto) = []
+abbrev pub entry_replies : Entry → List Reply
+entry_replies (Asked name ask reply) = reply ∷ []
+entry_replies (Left connection) = []
+entry_replies (Took transactions upto) = []
+entry_replies (Confirmed upto) = []
 
 -- the replies of a history, the first of them first
 abbrev pub replies_in : History → List Reply
 replies_in [] = []
-replies_in (entry ∷ earlier) = replies_in earlier ++ replied_in entry
+replies_in (entry ∷ earlier) = replies_in earlier ++ entry_replies entry

@@ -1,11 +1,12 @@
 pub mod State
 pub mod Picks
+pub mod statements
 pub mod Answers
 pub mod Transactions
-pub mod Rows
-pub mod Files
+pub mod Directories
 pub mod Stored
 pub mod Selecting
 pub mod Histories
 pub mod ReplyStream
 pub mod Slow
+pub mod Survival

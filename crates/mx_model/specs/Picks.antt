@@ -4,7 +4,7 @@ use Rattle.std.specs.List.{filter, sum}
 use Rattle.std.specs.FinMap.{entries}
 use Rattle.mx_key.specs.declared.iterator.IterKind.{IterKind}
 use Rattle.mx_key.specs.Keys.{Key}
-use Rattle.mx_key.specs.Ranges.{Range, lies_in, range_of, descends, ended}
+use Rattle.mx_key.specs.Ranges.{Range, lies_in, range_of, descends, range_until}
 use Rattle.mx_model.specs.State.{Tuples}
 
 -- a tuple under its index key
@@ -36,7 +36,7 @@ last_key key (entry ∷ others) = last_key entry.0 others
 -- the range up to the last of these entries, where there is one
 abbrev pub up_to_last : (down : Bool) → List Indexed → Range → Range
 up_to_last down [] range = range
-up_to_last down (entry ∷ others) range = ended down (last_key entry.0 others) range
+up_to_last down (entry ∷ others) range = range_until down (last_key entry.0 others) range
 
 -- the range that is read: up to the last entry where the limit was reached, else to the iterator's end; none by the limit 0
 abbrev pub range_read : IterKind → Key → (limit : ℕ) → List Indexed → Option Range
@@ -57,6 +57,6 @@ pick all iterator key offset limit =
 abbrev pub total_bytes : List (List ℕ) → ℕ
 total_bytes tuples = sum (map length tuples)
 
--- the most bytes of the tuples that one SELECT is answered
+-- the maximum size of a SELECT's result, in bytes
 abbrev pub max_result_size : ℕ
 max_result_size = 16777216

@@ -1,9 +1,8 @@
 -- The state of a database: its spaces, each with its tuples by primary key.
-use Rattle.std.specs.Prelude.{ℕ, List, [], ◌∷◌, Option, Some, None, Result, Ok, Err, codes}
-use Rattle.std.specs.List.{slice_get}
+use Rattle.std.specs.Prelude.{ℕ, List, [], ◌∷◌, Result, Ok, Err, codes}
 use Rattle.std.specs.Ordering.{nat_cmp}
 use Rattle.std.specs.FinMap.{FinMap, empty, insert}
-use Rattle.mx_msgpack.specs.Items.{items_of}
+use Rattle.mx_tuple.specs.Fields.{tuple_of}
 use Rattle.mx_key.specs.declared.part.Part.{Part}
 use Rattle.mx_key.specs.declared.part.PartKind.TheVariants.{Unsigned}
 use Rattle.mx_key.specs.declared.fault.KeyFault.{KeyFault}
@@ -32,14 +31,9 @@ test_parts = record { field = 0; kind = Unsigned } ∷ []
 unfoldable pub first_state : State
 first_state = insert empty test_space empty
 
--- a field among those that there are
-abbrev pub field_among : Option (List (List ℕ)) → ℕ → Option (List ℕ)
-field_among None place = None
-field_among (Some fields) place = slice_get fields place
-
--- the key that a tuple has in an index of these parts
+-- the key that a tuple has in an index of these parts; bytes that are no array have no fields
 abbrev pub key_in : List Part → List ℕ → Result Key KeyFault
-key_in parts tuple = key_of parts (field_among (items_of tuple))
+key_in parts tuple = key_of parts (tuple_of tuple).fields
 
 abbrev pub key_or_none : Result Key KeyFault → Key
 key_or_none (Ok key) = key

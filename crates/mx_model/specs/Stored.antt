@@ -9,20 +9,20 @@ use Rattle.mx_model.specs.State.{State, Tuples, test_space, test_parts}
 use Rattle.mx_model.specs.Picks.{Indexed, entries_of}
 
 -- a tuple under its key's bytes
-abbrev pub Kept : Type 0
-Kept = List ℕ × List ℕ
+abbrev pub StoredTuple : Type 0
+StoredTuple = List ℕ × List ℕ
 
-abbrev pub kept_of : Indexed → Kept
-kept_of entry = (comparable_of entry.0, entry.1)
+abbrev pub stored_tuple : Indexed → StoredTuple
+stored_tuple entry = (comparable_of entry.0, entry.1)
 
 -- the memory keeps the tuples of the one space in the order of their keys, whose numbers have 64 bits; there is no other space
-pub record KeepsTuples (kept : List Kept) (state : State) : Type 0 where
+pub record StoresTuples (kept : List StoredTuple) (state : State) : Type 0 where
   pub tuples : Tuples
   pub there : finite.get state test_space ≡ Some tuples
   pub others : (space : ℕ) → (space == test_space) ≡ false → finite.get state space ≡ None
-  pub same : map kept_of (entries_of tuples) ≡ kept
+  pub same : map stored_tuple (entries_of tuples) ≡ kept
   pub fit : AllByRecursion (λ (entry : Indexed). AreFit entry.0) (entries_of tuples)
 
 pub record Holds (memory : coded.State) (state : State) : Type 0 where
   pub parts : memory.parts ≡ test_parts
-  pub keeps : KeepsTuples memory.tuples.entries state
+  pub keeps : StoresTuples memory.tuples.entries state

@@ -5,7 +5,7 @@ use mx_vclock::Vclock;
 use std::fmt;
 use std::fmt::{Display, Formatter, Write};
 
-/// Why a directory stands for nothing.
+/// Why a directory is corrupt or inconsistent.
 #[derive(Debug, Drop)]
 pub struct Damage {
     /// The name of the damaged file.

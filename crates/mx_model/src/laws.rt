@@ -1,27 +1,27 @@
-//! What the definitions say together.
+//! Theorems that other crates may use.
 
 ghost use Rattle.std.specs.Prelude.{◌≡◌, [], Result};
 ghost use Rattle.mx_outside.specs.Disks.{Files};
 ghost use Rattle.mx_model.specs.declared.damage.Damage.{Damage};
-ghost use Rattle.mx_model.specs.Files.{AllFollow, IsDirectoryState, Reached, SameOutcome};
+ghost use Rattle.mx_model.specs.Directories.{AllFollow, IsDirectoryState, Reached, SameOutcome};
 ghost use Rattle.mx_model.specs.Histories.{Base, History, IsLegal, HasMemory, asks_in, asking, history_from, journal_of};
 
-/// A law, which does nothing when it is called: the asks of a legal history determine its steps and replies,
-/// where no step wanted memory.
+/// A theorem, which does nothing when it is called: the asks of a legal history determine its steps and replies,
+/// where no step was out of memory.
 pub fn replies_are_determined()
     ensures { (base : Base) (history : History) → IsLegal base history → HasMemory history
         → asking history ≡ history_from base [] (asks_in history) }
 {}
 
-/// A law, which does nothing when it is called: what a legal history commits can be written, each
+/// A theorem, which does nothing when it is called: what a legal history commits can be written, each
 /// commit has the next lsn, and the state takes it.
 pub fn commits_are_sound()
     ensures { (base : Base) (history : History) → IsLegal base history
         → AllFollow base.state base.clock (journal_of base history) }
 {}
 
-/// A law, which does nothing when it is called: what a directory stands for, or its damage, is one
-/// thing only.
+/// A theorem, which does nothing when it is called: a directory recovers to one state only, or has
+/// one damage only.
 pub fn a_directory_stands_once()
     ensures { (files : Files) (one other : Result Reached Damage) → IsDirectoryState files one
         → IsDirectoryState files other → SameOutcome one other }

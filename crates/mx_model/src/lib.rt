@@ -3,35 +3,26 @@
 
 mod damage;
 mod ids;
-mod judging;
-mod keying;
+mod keyed;
 mod laws;
+mod out_units;
+mod pick;
 mod reply;
-mod row;
-mod rows;
-mod selecting;
 mod slow;
 mod state;
-mod tx;
+mod statements;
 mod txs;
 
 pub use damage::{Damage, DamageKind};
 pub use ids::Ids;
-pub use judging::{
-    MAX_TUPLE_SIZE, TEST_SPACE, fault_refusal, index_missing, iterator_of, misfit_refusal, not_built,
-};
-pub use keying::Keyed;
+pub use keyed::Keyed;
 pub use laws::{a_directory_stands_once, commits_are_sound, replies_are_determined};
+pub use out_units::{OutUnit, OutUnits};
+pub use pick::{Pick, SelectStop, Selected};
 pub use reply::Reply;
-pub use row::Row;
-pub use rows::Rows;
-pub use selecting::{Pick, SelectStop, Selected};
 pub use slow::Slow;
 pub use state::{State, bootstrap};
-pub use tx::Tx;
+pub use statements::lookup::{TEST_SPACE, index_missing, not_built};
+pub use statements::replace::{MAX_TUPLE_SIZE, fault_refusal};
+pub use statements::select::{iterator_of, misfit_refusal};
 pub use txs::Txs;
-
-#[cfg(test)]
-mod long_tests;
-#[cfg(test)]
-mod tests;

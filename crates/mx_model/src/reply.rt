@@ -1,4 +1,4 @@
-//! What a client is told.
+//! Replies to requests.
 
 use mx_base::Refusal;
 use mx_msgpack::Tuples;
@@ -6,7 +6,7 @@ use mx_msgpack::Tuples;
 /// A reply to a request.
 #[derive(Debug, Drop)]
 pub enum Reply {
-    /// It was done, and there is nothing to tell.
+    /// It was done, and there is nothing to return.
     Empty,
     /// The tuples that were found, or the one that was put in its place.
     Tuples(Tuples),

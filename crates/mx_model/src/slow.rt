@@ -1,4 +1,4 @@
-//! The plain slow program: it keeps its tuples in one list, and looks through all of it.
+//! The plain slow program: it keeps its tuples in one list, and scans all of it.
 
 ghost use Rattle.std.specs.Prelude.{◌≡◌, ◌≢◌, ◌⊎◌, ◌<◌, ◌≤◌, ◌∷◌, [], Ok, true, false, map, take, length, IfOk, IfSome, OnOk, OnErr, MatchOption, MatchResult};
 ghost use Rattle.std.specs.List.{All, filter, slice_get, sum_by};
@@ -10,19 +10,22 @@ ghost use Rattle.std.specs.Cmp.Lexicographic.{slice_cmp};
 ghost use Rattle.mx_key.specs.declared.fault.KeyFault.TheVariants.{NoMemory as NoKeyMemory};
 ghost use Rattle.mx_key.specs.Comparable.{holds};
 ghost use Rattle.mx_key.specs.Ranges.{descends};
-ghost use Rattle.mx_model.specs.declared.selecting.SelectStop.TheVariants.{TooLong, NoMemory};
-ghost use Rattle.mx_model.specs.Answers.{answer_to, fault_refusal, in_space, selected, replaced, state_after_rows};
+ghost use Rattle.mx_model.specs.declared.pick.SelectStop.TheVariants.{TooLong, NoMemory};
+ghost use Rattle.mx_model.specs.Answers.{answer_to, state_after_rows};
+ghost use Rattle.mx_model.specs.statements.Replace.{fault_refusal, replace_answer};
+ghost use Rattle.mx_model.specs.statements.Select.{select_answer};
+ghost use Rattle.mx_model.specs.statements.Lookup.{in_space};
 ghost use Rattle.mx_model.specs.Picks.{directed, window, total_bytes, max_result_size};
-ghost use Rattle.mx_model.specs.Slow.{IsSlow, kept_list, kept_view};
+ghost use Rattle.mx_model.specs.Slow.{IsSlow, stored_list, stored_view};
 ghost use Rattle.mx_model.specs.State as plain;
 ghost use Rattle.mx_model.specs.State.{first_state};
 
-use crate::judging::{
-    MAX_TUPLE_SIZE, TEST_SPACE, fault_refusal, index_missing, iterator_of, misfit_refusal, not_built,
-};
-use crate::keying::{Keyed, key_tuple};
+use crate::keyed::{Keyed, key_tuple};
+use crate::pick::{MAX_RESULT_SIZE, Pick, SelectStop};
 use crate::reply::Reply;
-use crate::selecting::{MAX_RESULT_SIZE, Pick, SelectStop};
+use crate::statements::lookup::{TEST_SPACE, index_missing, not_built};
+use crate::statements::replace::{MAX_TUPLE_SIZE, fault_refusal};
+use crate::statements::select::{iterator_of, misfit_refusal};
 use mx_base::{IndexId, Refusal, SpaceId, TxnName};
 use mx_key::{KeyDef, KeyFault, KeyRange, Part, PartKind, misfit, range};
 use mx_msgpack::{Bytes, Tuples};
@@ -39,9 +42,6 @@ pub struct Slow {
 
 impl Slow {
     /// A new database.
-    ///
-    /// # Errors
-    /// Memory ran out.
     pub fn new(alloc: Global) -> Result<Slow, AllocError>
         ensures { IfOk result (λ slow. IsSlow slow first_state) }
     {
@@ -60,7 +60,7 @@ impl Slow {
     /// Answers a request.
     ///
     /// # Errors
-    /// Memory ran out. The database is then as it was.
+    /// Out of memory. The database is then as it was.
     pub fn ask(&mut self, _name: TxnName, request: &Request) -> Result<Reply, AllocError>
         ensures { (state : plain.State) → IsSlow self.old state → MatchResult result
             (λ reply. (reply ≡ (answer_to state request.now).reply)
@@ -103,7 +103,7 @@ impl Slow {
     /// The tuples that an iterator picks.
     fn select(&self, space: SpaceId, index: IndexId, pick: &Pick<'_>) -> Result<Reply, AllocError>
         ensures { (state : plain.State) → IsSlow self.now state → IfOk result (λ reply. reply
-            ≡ (in_space space.0 (get state space.0) (selected space.0 index.0 pick.now.limit pick.now.offset pick.now.iterator pick.now.key.now)).reply) }
+            ≡ (in_space space.0 (get state space.0) (select_answer space.0 index.0 pick.now.limit pick.now.offset pick.now.iterator pick.now.key.now)).reply) }
     {
         if space.0 != TEST_SPACE {
             return Ok(Reply::Refused(Refusal::SpaceMissing { space }));
@@ -125,8 +125,8 @@ impl Slow {
     /// Puts the tuple in the place of the one that has its key, and shows it.
     fn replace(&mut self, space: SpaceId, tuple: &[u8]) -> Result<Reply, AllocError>
         ensures { (state : plain.State) → IsSlow self.old state → MatchResult result
-            (λ reply. (reply ≡ (in_space space.0 (get state space.0) (λ _. replaced space.0 tuple.now)).reply)
-            × IsSlow self.new (state_after_rows state (option_to_list (in_space space.0 (get state space.0) (λ _. replaced space.0 tuple.now)).row)))
+            (λ reply. (reply ≡ (in_space space.0 (get state space.0) (λ _. replace_answer space.0 tuple.now)).reply)
+            × IsSlow self.new (state_after_rows state (option_to_list (in_space space.0 (get state space.0) (λ _. replace_answer space.0 tuple.now)).row)))
             (λ _. IsSlow self.new state) }
     {
         if space.0 != TEST_SPACE {
@@ -161,10 +161,10 @@ fn refusal_of(fault: KeyFault) -> Result<Refusal, AllocError>
     }
 }
 
-/// Puts a tuple in the place of the one that has its key, or behind those whose keys are below.
+/// Puts a tuple in the place of the one that has its key, or after those whose keys are below.
 fn put(kept: &mut Vec<Keyed>, keyed: Keyed) -> Result<(), AllocError>
     ensures { MatchResult result
-        (λ _. kept_list kept.new.items ≡ insert_entry (slice_cmp nat_cmp) (kept_list kept.old.items) keyed.key keyed.tuple)
+        (λ _. stored_list kept.new.items ≡ insert_entry (slice_cmp nat_cmp) (stored_list kept.old.items) keyed.key keyed.tuple)
         (λ _. kept.new.items ≡ kept.old.items) }
 {
     let place = place_of(kept, &keyed.key);
@@ -206,10 +206,10 @@ fn gather(
 ) -> Result<Tuples, SelectStop>
     ensures { MatchResult result
         (λ tuples. (tuples ≡ map (λ entry. entry.1) (window pick.now.offset pick.now.limit
-        (directed (descends pick.now.iterator) (filter (λ entry. holds range.now entry.0) (kept_list kept.now)))))
+        (directed (descends pick.now.iterator) (filter (λ entry. holds range.now entry.0) (stored_list kept.now)))))
         × (total_bytes tuples ≤ max_result_size))
         (λ stop. ((stop ≡ TooLong) × (max_result_size < total_bytes (map (λ entry. entry.1) (window pick.now.offset pick.now.limit
-        (directed (descends pick.now.iterator) (filter (λ entry. holds range.now entry.0) (kept_list kept.now))))))) ⊎ (stop ≡ NoMemory)) }
+        (directed (descends pick.now.iterator) (filter (λ entry. holds range.now entry.0) (stored_list kept.now))))))) ⊎ (stop ≡ NoMemory)) }
 {
     let down = pick.iterator.descends();
     let mut tuples = Tuples::new(alloc);

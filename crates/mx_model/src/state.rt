@@ -2,20 +2,20 @@
 
 ghost use Rattle.std.specs.Prelude.{◌≡◌, ◌⊎◌, ◌<◌, ◌≤◌, Ok, Err, IfOk, OnOk, OnErr, MatchOption, MatchResult};
 ghost use Rattle.std.specs.Option.{option_map};
-ghost use Rattle.mx_key.specs.declared.fault.KeyFault.TheVariants.{NoMemory};
 ghost use Rattle.mx_key.specs.Comparable.{comparable_of, edges_of};
 ghost use Rattle.mx_key.specs.Keys.{Key, AreFit};
-ghost use Rattle.mx_key.specs.Parts.{given};
-ghost use Rattle.mx_model.specs.declared.selecting.SelectStop.TheVariants as stops;
-ghost use Rattle.mx_model.specs.Answers.{Replaced, state_after_row};
+ghost use Rattle.mx_key.specs.Parts.{key_of_array};
+ghost use Rattle.mx_model.specs.declared.pick.SelectStop.TheVariants as stops;
+ghost use Rattle.mx_model.specs.Answers.{state_after_row};
+ghost use Rattle.mx_row.specs.declared.row.Row.TheVariants.{Replaced};
 ghost use Rattle.mx_model.specs.Picks.{entries_of, pick, total_bytes, max_result_size};
 ghost use Rattle.mx_model.specs.State as plain;
 ghost use Rattle.mx_model.specs.State.{first_state, key_in, test_parts, test_space};
 ghost use Rattle.mx_model.specs.Stored.{Holds};
 
-use crate::keying::{Keyed, key_tuple};
-use crate::selecting::{Pick, SelectStop, Selected, collect, pass_over};
-use mx_key::{KeyDef, KeyFault, Misfit, Part, PartKind, misfit, range};
+use crate::keyed::Keyed;
+use crate::pick::{Pick, SelectStop, Selected, collect, pass_over};
+use mx_key::{KeyDef, Misfit, Part, PartKind, misfit, range};
 use mx_msgpack::{Bytes, Tuples};
 use std::alloc::{AllocError, Global};
 use std::collections::BTreeMap;
@@ -23,15 +23,12 @@ use std::collections::BTreeMap;
 /// The tuples of the one space, by the comparable bytes of their primary keys.
 #[derive(Drop)]
 pub struct State {
-    parts: KeyDef,
+    pub(crate) parts: KeyDef,
     tuples: BTreeMap<Bytes, Bytes>,
 }
 
 /// What a new database holds: one space without tuples. Its primary key is the first field, a number
 /// of 0 or more.
-///
-/// # Errors
-/// Memory ran out.
 pub fn bootstrap(alloc: Global) -> Result<State, AllocError>
     ensures { IfOk result (λ state. Holds state first_state) }
 {
@@ -45,22 +42,10 @@ pub fn bootstrap(alloc: Global) -> Result<State, AllocError>
 }
 
 impl State {
-    /// A copy of a tuple, with its primary key.
-    ///
-    /// # Errors
-    /// The field of the key that is missing or of another type; memory ran out.
-    pub fn key_tuple(&self, alloc: Global, tuple: &[u8]) -> Result<Keyed, KeyFault>
-        ensures { (state : plain.State) → Holds self.now state → MatchResult result
-            (λ keyed. (key : Key) × (key_in test_parts tuple.now ≡ Ok key) × AreFit key × (keyed.key ≡ comparable_of key) × (keyed.tuple ≡ tuple.now))
-            (λ fault. (key_in test_parts tuple.now ≡ Err fault) ⊎ (fault ≡ NoMemory)) }
-    {
-        key_tuple(alloc, &self.parts, tuple)
-    }
-
     /// Puts the tuple in the place of the one that has its key.
     ///
     /// # Errors
-    /// Memory ran out. Nothing changed then.
+    /// Out of memory. Nothing changed then.
     pub fn replace(&mut self, keyed: Keyed) -> Result<(), AllocError>
         ensures ok { (state : plain.State) (key : Key) → Holds self.old state → key_in test_parts keyed.tuple ≡ Ok key → AreFit key → keyed.key ≡ comparable_of key
             → OnOk result (Holds self.new (state_after_row state (Replaced test_space keyed.tuple))) }
@@ -74,8 +59,8 @@ impl State {
     /// Why a key, which is an array, doesn't fit the one index; `None` where it does.
     pub fn misfit(&self, key: &[u8]) -> Option<Misfit>
         ensures { (state : plain.State) → Holds self.now state → MatchOption result
-            ((fitting : Key) × (given test_parts key.now ≡ Ok fitting) × AreFit fitting)
-            (λ misfit. given test_parts key.now ≡ Err misfit) }
+            ((fitting : Key) × (key_of_array test_parts key.now ≡ Ok fitting) × AreFit fitting)
+            (λ misfit. key_of_array test_parts key.now ≡ Err misfit) }
     {
         misfit(&self.parts, key)
     }
@@ -85,7 +70,7 @@ impl State {
     /// # Errors
     /// They have more than 16,777,216 bytes together; memory ran out.
     pub fn select(&self, alloc: Global, wanted: &Pick<'_>) -> Result<Selected, SelectStop>
-        ensures { (state : plain.State) (holds : Holds self.now state) (key : Key) → given test_parts wanted.now.key.now ≡ Ok key → AreFit key → MatchResult result
+        ensures { (state : plain.State) (holds : Holds self.now state) (key : Key) → key_of_array test_parts wanted.now.key.now ≡ Ok key → AreFit key → MatchResult result
             (λ selected. (selected.tuples ≡ (pick (entries_of holds.keeps.tuples) wanted.now.iterator key wanted.now.offset wanted.now.limit).tuples)
             × (total_bytes selected.tuples ≤ max_result_size)
             × (selected.read ≡ option_map edges_of (pick (entries_of holds.keeps.tuples) wanted.now.iterator key wanted.now.offset wanted.now.limit).read))

@@ -2,7 +2,7 @@
 
 ghost use Rattle.std.specs.Prelude.{◌≡◌, List, [], ◌∷◌, ◌++◌, Some, OnOk, OnErr, IsTrue, ◌↔◌};
 
-use crate::tx::Tx;
+use mx_row::Tx;
 use std::alloc::{AllocError, Global};
 use std::marker::Model;
 
@@ -14,7 +14,7 @@ pub struct Txs {
 
 impl Model for Txs {
     ghost use Rattle.std.specs.Prelude.{List};
-    ghost use Rattle.mx_model.specs.declared.tx.Tx.{Tx};
+    ghost use Rattle.mx_row.specs.declared.tx.Tx.{Tx};
 
     ghost Value = { List Tx };
 
@@ -41,7 +41,7 @@ impl Txs {
     /// Adds a transaction at the end.
     ///
     /// # Errors
-    /// Memory ran out. The transactions are then as they were.
+    /// Out of memory. The transactions are then as they were.
     pub fn push(&mut self, tx: Tx) -> Result<(), AllocError>
         ensures ok { OnOk result (self.new ≡ self.old ++ tx ∷ []) }
         ensures err { OnErr result (self.new ≡ self.old) }
@@ -52,7 +52,7 @@ impl Txs {
 
     /// Takes the last transaction off.
     pub fn pop(&mut self) -> Option<Tx>
-        ensures { (front : List Tx) (last : Tx) → self.old ≡ front ++ last ∷ [] → (result ≡ Some last) × (self.new ≡ front) }
+        ensures { (prefix : List Tx) (last : Tx) → self.old ≡ prefix ++ last ∷ [] → (result ≡ Some last) × (self.new ≡ prefix) }
     {
         self.items.pop()
     }

@@ -2,7 +2,7 @@ use Rattle.std.proofs.Common.{rules, ◌≡◌, ◌<◌, ◌≤◌, true, false,
 use Rattle.std.specs.Ordering.{nat_cmp, is_eq}
 use Rattle.std.specs.Cmp.Lexicographic.{slice_cmp}
 use Rattle.std.proofs.lemmas.Map.Text.{is_eq-slice_cmp}
-use Rattle.mx_model.specs.Slow.{kept_list}
+use Rattle.mx_model.specs.Slow.{stored_list}
 use Rattle.mx_model.proofs.WindowLaws.{IsBelow, IsNotBelow, IsOther, put_replaces, put_adds, there, none_past, set_same}
 use Rattle.mx_model.proofs.slow.put.Goals as goal
 use Rattle.mx_model.proofs.slow.put.Goals.{in_default-via-in-Some+else-eq, in_default-via-in-None-1}
@@ -42,4 +42,4 @@ returns-in_ok-insert-in_default c =
           let past : length items ≤ place = search rules in
           none_past (IsOther key) items place past
     ] in
-    ap kept_list (added ∙ ap (λ l. insert l place c.args.keyed) same) ∙ put_adds key c.args.keyed.tuple items place below lower other
+    ap stored_list (added ∙ ap (λ l. insert l place c.args.keyed) same) ∙ put_adds key c.args.keyed.tuple items place below lower other

@@ -1,7 +1,8 @@
 use Rattle.std.proofs.Common.{rules, ◌≡◌, inl, sym, ap, subst}
 use Rattle.mx_model.specs.declared.reply.Reply.TheVariants.{Empty, Refused}
-use Rattle.mx_model.specs.Answers.{answer_to, told, not_built}
-use Rattle.mx_engine.specs.Steps.{Answers}
+use Rattle.mx_model.specs.Answers.{answer_to}
+use Rattle.mx_model.specs.statements.Answer.{reply_alone, not_built}
+use Rattle.mx_engine.specs.Steps.{AnswersRequest}
 use Rattle.mx_engine.specs.Views.{reply_view}
 use Rattle.mx_engine.proofs.EngineLaws.{answers_selected, answers_asked, answers_not_built, answers_told}
 use Rattle.mx_engine.proofs.engine.Engine.answer.Goals as goal
@@ -22,10 +23,10 @@ pub returns-in-Insert-clause-answers : goal.returns-in-Insert-clause-answers
 returns-in-Insert-clause-answers c = λ state holds.
     let asked = c.args.request.now in
     let none : answer_to state asked ≡ not_built asked = search rules in
-    subst (λ refusal. Answers c.args.self.now c.args.self.now state asked (Refused refusal)) (sym c.not_built.ensures)
+    subst (λ refusal. AnswersRequest c.args.self.now c.args.self.now state asked (Refused refusal)) (sym c.not_built.ensures)
     (answers_not_built c.args.self.now state asked c.requires holds none)
 
 pub returns-in-Nop-clause-answers : goal.returns-in-Nop-clause-answers
 returns-in-Nop-clause-answers c = λ state holds.
-    let empty : answer_to state c.args.request.now ≡ told Empty = search rules in
+    let empty : answer_to state c.args.request.now ≡ reply_alone Empty = search rules in
     answers_told c.args.self.now state c.args.request.now Empty c.requires holds (inl (sym (ap (λ a. a.reply) empty))) (ap (λ a. a.row) empty)

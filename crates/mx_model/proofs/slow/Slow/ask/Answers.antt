@@ -1,6 +1,7 @@
 use Rattle.std.proofs.Common.{rules, ◌≡◌, refl, ap}
 use Rattle.mx_model.specs.declared.reply.Reply.TheVariants.{Empty, Refused}
-use Rattle.mx_model.specs.Answers.{answer_to, told, not_built}
+use Rattle.mx_model.specs.Answers.{answer_to}
+use Rattle.mx_model.specs.statements.Answer.{reply_alone, not_built}
 use Rattle.mx_model.proofs.SlowLaws.{slow_selects, slow_is_told, slow_asked}
 use Rattle.mx_model.proofs.slow.Slow.ask.Goals as goal
 
@@ -24,5 +25,5 @@ returns-in-Insert c = λ state is.
 
 pub returns-in-Nop : goal.returns-in-Nop
 returns-in-Nop c = λ state is.
-    let empty : answer_to state c.args.request.now ≡ told Empty = search rules in
-    slow_is_told c.args.self.now state is c.args.request.now (told Empty) Empty empty refl refl
+    let empty : answer_to state c.args.request.now ≡ reply_alone Empty = search rules in
+    slow_is_told c.args.self.now state is c.args.request.now (reply_alone Empty) Empty empty refl refl

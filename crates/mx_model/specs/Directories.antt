@@ -1,0 +1,169 @@
+-- What the journals of a directory recover to, or what is damaged in them.
+use Rattle.std.specs.Prelude.{◌≡◌, ◌⊎◌, ⊤, ℕ, ◌+◌, Bool, true, false, not, ◌&&◌, List, [], ◌∷◌, ◌++◌, length, map, sum, replicate, Option, Some, None, Result, Ok, Err, is_some, ◌==◌, IfSome, if◌then◌else◌}
+use Rattle.std.specs.List.{filter, last_or, AllByRecursion}
+use Rattle.std.specs.FinMap as finite
+use Rattle.uuid.specs.Text.{hyphenated_text, lower}
+use Rattle.mx_vclock.specs.Vclocks.{replicas}
+use Rattle.mx_xlog.specs.declared.head.Head.{Head}
+use Rattle.mx_outside.specs.Disks.{File, Files}
+use Rattle.mx_model.specs.declared.ids.Ids.{Ids}
+use Rattle.mx_model.specs.declared.damage.Damage.{Damage}
+use Rattle.mx_model.specs.declared.damage.DamageKind.TheVariants.{Head as HeadDamage, Gap, Row as RowDamage}
+use Rattle.mx_model.specs.State.{State, first_state}
+use Rattle.mx_row.specs.declared.row.Row.{Row}
+use Rattle.mx_row.specs.declared.row.Row.TheVariants.{Replaced}
+use Rattle.mx_model.specs.Answers.{state_after_rows}
+use Rattle.mx_model.specs.statements.Replace.{replace_answer_in}
+use Rattle.mx_row.specs.declared.tx.Tx.{Tx}
+use Rattle.mx_row.specs.Clocks.{clock_after_one, follows}
+use Rattle.mx_row.specs.Rows.{IsTransaction, transactions_in}
+use Rattle.mx_model.specs.Histories.{Base}
+use Rattle.mx_files.specs.Names.{is_journal, is_snapshot, journal_name, same_bytes}
+use Rattle.mx_xlog.specs.Files.{FileRead, ReadsAs}
+
+-- a file's name, and the file as it reads
+abbrev pub Named : Type 0
+Named = List ℕ × Option FileRead
+
+-- what the files so far recover to; the identifiers are those of the first file
+pub record Reached : Type 0 where
+  pub ids : Option Ids
+  pub state : State
+  pub clock : List ℕ
+
+-- what a directory without files recovers to
+abbrev pub nothing_yet : Reached
+nothing_yet = record { ids = None; state = first_state; clock = replicate replicas 0 }
+
+abbrev pub ids_in : Head → Ids
+ids_in head = record { me = head.replica; instance = head.instance; set = head.set }
+
+-- two identifiers have the same text
+abbrev pub same_id : List ℕ → List ℕ → Bool
+same_id id other = same_bytes (hyphenated_text lower id) (hyphenated_text lower other)
+
+abbrev pub are_its_ids : Option Ids → Head → Bool
+are_its_ids None head = true
+are_its_ids (Some ids) head = (ids.me == head.replica) && same_id ids.instance head.instance && same_id ids.set head.set
+
+abbrev pub ids_or : Ids → Option Ids → Ids
+ids_or ids None = ids
+ids_or ids (Some found) = found
+
+-- the header is a journal's, and fits the file's name and the files before it
+abbrev pub head_fits : List ℕ → Head → Reached → Bool
+head_fits name head reached = not head.snapshot && same_bytes name (journal_name (sum head.clock)) && are_its_ids reached.ids head
+
+-- the state takes the row: the statement that leaves it is no error
+abbrev pub takes_row : State → Row → Bool
+takes_row state (Replaced space tuple) = is_some (replace_answer_in state space tuple).row
+
+-- the state takes the rows, each after those before it
+abbrev pub takes_rows : State → List Row → Bool
+takes_rows state [] = true
+takes_rows state (row ∷ rows) = takes_row state row && takes_rows (state_after_rows state (row ∷ [])) rows
+
+abbrev pub after_transaction : Tx → Reached → Option Reached
+after_transaction transaction reached =
+    let next = record reached { state = state_after_rows reached.state transaction.rows; clock = clock_after_one reached.clock transaction } in
+    if follows reached.clock transaction && takes_rows reached.state transaction.rows then Some next else None
+
+abbrev pub then_all : (Reached → Option Reached) → Option Reached → Option Reached
+then_all others None = None
+then_all others (Some reached) = others reached
+
+abbrev pub after_transactions : List Tx → Reached → Option Reached
+after_transactions [] reached = Some reached
+after_transactions (transaction ∷ others) reached = then_all (after_transactions others) (after_transaction transaction reached)
+
+abbrev pub after_read : Option (List Tx) → Reached → Option Reached
+after_read None reached = None
+after_read (Some transactions) reached = after_transactions transactions reached
+
+-- after a block of this data; nothing where its rows aren't transactions that follow, or the state refuses one
+unfoldable pub after_block : List ℕ → Reached → Option Reached
+after_block bytes reached = after_read (transactions_in bytes) reached
+
+abbrev pub damaged_row : List ℕ → ℕ → Result Reached Damage
+damaged_row name at = Err (record { file = name; at = at; kind = RowDamage })
+
+abbrev pub block_reached : List ℕ → ℕ → (Reached → Result Reached Damage) → Option Reached → Result Reached Damage
+block_reached name at others None = damaged_row name at
+block_reached name at others (Some reached) = others reached
+
+-- after blocks that stand from this place of a file on
+abbrev pub after_blocks : List ℕ → ℕ → List (List ℕ) → Reached → Result Reached Damage
+after_blocks name at [] reached = Ok reached
+after_blocks name at (bytes ∷ blocks) reached =
+    block_reached name at (after_blocks name ((at + 19) + length bytes) blocks) (after_block bytes reached)
+
+abbrev pub after_head : List ℕ → FileRead → Reached → Result Reached Damage
+after_head name file reached =
+    if not (head_fits name file.head reached) then Err (record { file = name; at = 0; kind = HeadDamage })
+    else if not (same_bytes reached.clock file.head.clock) then Err (record { file = name; at = 0; kind = Gap reached.clock file.head.clock })
+    else after_blocks name file.size file.blocks (record { ids = Some (ids_or (ids_in file.head) reached.ids); state = reached.state; clock = reached.clock })
+
+-- after a file, which has to begin at the vclock reached
+abbrev pub after_file : Named → Reached → Result Reached Damage
+after_file (name, None) reached = Err (record { file = name; at = 0; kind = HeadDamage })
+after_file (name, Some file) reached = after_head name file reached
+
+abbrev pub and_then : (Reached → Result Reached Damage) → Result Reached Damage → Result Reached Damage
+and_then others (Err damage) = Err damage
+and_then others (Ok reached) = others reached
+
+abbrev pub after_files : List Named → Reached → Result Reached Damage
+after_files [] reached = Ok reached
+after_files (file ∷ files) reached = and_then (after_files files) (after_file file reached)
+
+abbrev pub without_snapshot : Option (List ℕ) → List Named → Result Reached Damage
+without_snapshot None journals = after_files journals nothing_yet
+without_snapshot (Some name) journals = Err (record { file = name; at = 0; kind = HeadDamage })
+
+-- what these snapshots' names and these journals recover to; a snapshot, the newest of them, can't be read yet
+abbrev pub directory_state : List (List ℕ) → List Named → Result Reached Damage
+directory_state snapshots journals = without_snapshot (last_or None snapshots) journals
+
+-- the first journals of a directory, in name order, as they read, and the names of those after them, which aren't read
+pub record Reads (files : Files) (journals : List Named) (unread : List (List ℕ)) : Type 0 where
+  pub names : map (λ journal. journal.0) journals ++ unread ≡ filter is_journal (finite.keys files)
+  pub each : AllByRecursion (λ journal. IfSome (finite.get files journal.0) (λ (file : File). ReadsAs file.bytes journal.1)) journals
+
+-- what comes after the first damage needn't be read
+abbrev pub IsEnough : List (List ℕ) → Result Reached Damage → Type 0
+IsEnough unread (Ok reached) = unread ≡ []
+IsEnough unread (Err damage) = ⊤
+
+-- what the files of a directory recover to, or the first damage in them
+abbrev pub IsDirectoryState : Files → Result Reached Damage → Type 0
+IsDirectoryState files outcome =
+    (journals : List Named) × (unread : List (List ℕ)) × Reads files journals unread × IsEnough unread outcome
+    × (outcome ≡ directory_state (filter is_snapshot (finite.keys files)) journals)
+
+-- The journals but the one of this name, which comes after them all, stand for the base; they are its node's, where there
+-- are any. There is no snapshot.
+pub record Continues (base : Base) (name : List ℕ) (files : Files) : Type 0 where
+  pub earlier : List Named
+  pub reached : Reached
+  pub no_snapshot : filter is_snapshot (finite.keys files) ≡ []
+  pub names : filter is_journal (finite.keys files) ≡ map (λ file. file.0) earlier ++ name ∷ []
+  pub others : AllByRecursion (λ file. same_bytes file.0 name ≡ false) earlier
+  pub reads : AllByRecursion (λ file. IfSome (finite.get files file.0) (λ (f : File). ReadsAs f.bytes file.1)) earlier
+  pub reaches : after_files earlier nothing_yet ≡ Ok reached
+  pub ids : (reached.ids ≡ None) ⊎ (reached.ids ≡ Some base.ids)
+  pub state : reached.state ≡ base.state
+  pub clock : reached.clock ≡ base.clock
+
+-- each of these transactions can be written, has the next lsns after those before it, and the state takes its rows
+abbrev pub AllFollow : State → List ℕ → List Tx → Type 0
+AllFollow state clock [] = ⊤
+AllFollow state clock (tx ∷ txs) =
+    IsTransaction tx × (follows clock tx ≡ true) × (takes_rows state tx.rows ≡ true)
+    × AllFollow (state_after_rows state tx.rows) (clock_after_one clock tx) txs
+
+-- the same state and vclock, or the same damage
+abbrev pub SameOutcome : Result Reached Damage → Result Reached Damage → Type 0
+SameOutcome (Ok one) (Ok other) = (one.state ≡ other.state) × (one.clock ≡ other.clock)
+SameOutcome (Ok one) (Err damage) = ⊥
+SameOutcome (Err damage) (Ok other) = ⊥
+SameOutcome (Err damage) (Err other) = damage ≡ other

@@ -1,0 +1,57 @@
+-- What a crash leaves of a database's commits.
+use Rattle.std.specs.Prelude.{◌≡◌, ℕ, ◌≤◌, List, ◌++◌, length, take, Option, Ok}
+use mathlib.Core.List.{IsPrefix}
+use Rattle.mx_outside.specs.Disks.{Disk, Files, IfKnown, KnownAlike}
+use Rattle.mx_outside.specs.Moments.{Moments}
+use Rattle.mx_row.specs.declared.tx.Tx.{Tx}
+use Rattle.mx_model.specs.State.{first_state}
+use Rattle.mx_model.specs.Transactions.{state_after}
+use Rattle.mx_row.specs.Clocks.{clock_after}
+use Rattle.mx_model.specs.Directories.{Reached, IsDirectoryState, AllFollow, nothing_yet}
+use Rattle.mx_model.specs.Histories.{Base, History, journal_of}
+use Rattle.mx_images.specs.Fair.{IsFair}
+
+-- the files stand for these transactions, made on a new database
+pub record StandsAfter (transactions : List Tx) (files : Files) : Type 0 where
+  pub reached : Reached
+  pub stands : IsDirectoryState files (Ok reached)
+  pub state : reached.state ≡ state_after first_state transactions
+  pub clock : reached.clock ≡ clock_after nothing_yet.clock transactions
+
+-- Whatever a crash leaves stands for the first ones of these transactions, and for so many at least.
+abbrev pub Survive : List Tx → ℕ → Disk → Type 0
+Survive transactions least disk =
+    (image : Files) → IsFair disk image → (count : ℕ) × (least ≤ count) × (count ≤ length transactions) × StandsAfter (take count transactions) image
+
+-- no fewer survive than before: each bound that held still holds
+abbrev pub NoFewerSurvive : List Tx → Disk → Disk → Type 0
+NoFewerSurvive transactions older newer = (least : ℕ) → Survive transactions least older → Survive transactions least newer
+
+-- each of these can be written, and follows those before it, from a new database on
+abbrev pub FollowFromNew : List Tx → Type 0
+FollowFromNew transactions = AllFollow first_state nothing_yet.clock transactions
+
+-- The directory stands for these transactions, and whatever a crash leaves of it for the first ones of them. So it is with a
+-- new directory, and with what a crash leaves of a run.
+pub record Recovers (transactions : List Tx) (states : Option (List Disk)) : Type 0 where
+  pub follow : FollowFromNew transactions
+  pub told : IfKnown states (λ disk past. StandsAfter transactions disk.now × Survive transactions 0 disk)
+
+-- these transactions came to the base
+pub record ComeTo (transactions : List Tx) (base : Base) : Type 0 where
+  pub state : state_after first_state transactions ≡ base.state
+  pub clock : clock_after nothing_yet.clock transactions ≡ base.clock
+
+-- All transactions of a database: those that came to the base, then the history's, and perhaps others
+pub record Extend (base : Base) (history : History) (transactions : List Tx) : Type 0 where
+  pub earlier : List Tx
+  pub comes : ComeTo earlier base
+  pub prefix : IsPrefix (earlier ++ journal_of base history) transactions
+  pub follow : FollowFromNew transactions
+
+-- The directory tells its files as before. At each moment between, whatever a crash left stood for the first ones of the
+-- transactions, and never for fewer than before.
+pub record Lasts (base : Base) (history : History) (old new : Option (List Disk)) : Type 0 where
+  pub told : KnownAlike old new
+  pub moments : (transactions : List Tx) → Extend base history transactions
+      → IfKnown old (λ disk past. Moments (Survive transactions 0) (NoFewerSurvive transactions) new disk past)

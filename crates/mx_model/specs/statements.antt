@@ -1,0 +1,4 @@
+pub mod Answer
+pub mod Lookup
+pub mod Select
+pub mod Replace

@@ -1,0 +1,37 @@
+-- What a statement answers: a reply, what it leaves in the journal, and what it read.
+use Rattle.std.specs.Prelude.{ℕ, List, [], Option, None}
+use Rattle.mx_base.specs.declared.refusal.Refusal.{Refusal}
+use Rattle.mx_base.specs.declared.refusal.Refusal.TheVariants.{UnknownRequestType}
+use Rattle.mx_request.specs.declared.request.Request.{Request}
+use Rattle.mx_request.specs.Spelling.{type_number}
+use Rattle.mx_key.specs.Ranges.{Range}
+use Rattle.mx_row.specs.declared.row.Row.{Row}
+use Rattle.mx_model.specs.declared.reply.Reply.{Reply}
+use Rattle.mx_model.specs.declared.reply.Reply.TheVariants.{Refused}
+
+-- a range of an index's keys that a statement reads
+pub record Read : Type 0 where
+  pub space : ℕ
+  pub index : ℕ
+  pub range : Range
+
+-- a reply, what the statement leaves in the journal, and what it read, the first of it first
+pub record Answer : Type 0 where
+  pub reply : Reply
+  pub row : Option Row
+  pub reads : List Read
+
+-- a reply that leaves nothing and read nothing
+abbrev pub reply_alone : Reply → Answer
+reply_alone reply = record { reply = reply; row = None; reads = [] }
+
+-- a refusal, after these reads
+abbrev pub refusal_after : List Read → Refusal → Answer
+refusal_after reads refusal = record { reply = Refused refusal; row = None; reads = reads }
+
+abbrev pub refusal_alone : Refusal → Answer
+refusal_alone refusal = refusal_after [] refusal
+
+-- what isn't built yet is refused as if its type were unknown
+abbrev pub not_built : Request → Answer
+not_built request = refusal_alone (UnknownRequestType (type_number request))

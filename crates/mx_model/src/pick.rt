@@ -1,0 +1,121 @@
+//! Range scans: what a SELECT picks of an index's entries.
+
+ghost use Rattle.std.specs.Prelude.{◌≡◌, ◌⊎◌, ◌<◌, ◌≤◌, ◌++◌, ◌∷◌, [], ℕ, List, map, take, drop, length, MatchOption, MatchResult};
+ghost use Rattle.std.specs.Option.{option_map};
+ghost use Rattle.mx_model.specs.declared.pick.SelectStop.TheVariants.{TooLong, NoMemory};
+ghost use Rattle.mx_model.specs.Picks.{directed, total_bytes, max_result_size};
+ghost use Rattle.mx_model.specs.Selecting.{last_key_of};
+
+use mx_key::{IterKind, KeyRange};
+use mx_msgpack::{Bytes, Tuples};
+use std::alloc::{AllocError, Global};
+use std::collections::btree_map::Range;
+
+/// The maximum size of a SELECT's result, in bytes.
+pub(crate) const MAX_RESULT_SIZE: usize = 16_777_216;
+
+/// What a SELECT asks of an index.
+#[derive(Clone, Copy, Debug, Drop)]
+pub struct Pick<'a> {
+    pub iterator: IterKind,
+    /// An array of the key's parts.
+    pub key: &'a [u8],
+    /// How many tuples are passed over.
+    pub offset: u32,
+    /// How many tuples there are to be at most.
+    pub limit: u32,
+}
+
+/// The tuples that were picked.
+#[derive(Debug, Drop)]
+pub struct Selected {
+    pub tuples: Tuples,
+    /// The keys that were read: up to the last tuple's where the limit was reached, else to the
+    /// iterator's end. None are read by the limit 0.
+    pub read: Option<KeyRange>,
+}
+
+/// Why no tuples are given.
+#[derive(Clone, Copy, Debug, Drop, PartialEq, Eq)]
+pub enum SelectStop {
+    /// They have more than 16,777,216 bytes together.
+    TooLong,
+    /// An allocation failed.
+    NoMemory,
+}
+
+impl From<AllocError> for SelectStop {
+    ghost from_gives = { λ _ e. e ≡ NoMemory };
+
+    fn from(_fault: AllocError) -> SelectStop {
+        SelectStop::NoMemory
+    }
+}
+
+/// Copies of tuples, and the key of the last one.
+#[derive(Drop)]
+pub(crate) struct Collected<'a> {
+    pub(crate) tuples: Tuples,
+    pub(crate) last: Option<&'a Bytes>,
+}
+
+/// The next entry in a direction.
+fn next_in<'a>(entries: &mut Range<'a, Bytes, Bytes>, down: bool) -> Option<(&'a Bytes, &'a Bytes)>
+    ensures { MatchOption result
+        ((directed down entries.old ≡ []) × (directed down entries.new ≡ []))
+        (λ entry. directed down entries.old ≡ (entry.0.now, entry.1.now) ∷ directed down entries.new) }
+{
+    if down {
+        entries.next_back()
+    } else {
+        entries.next()
+    }
+}
+
+/// Passes over so many entries, or all where there are fewer.
+pub(crate) fn pass_over(entries: &mut Range<'_, Bytes, Bytes>, down: bool, count: u32)
+    ensures { directed down entries.new ≡ drop count (directed down entries.old) }
+{
+    let mut left = count;
+    while left > 0 {
+        if next_in(entries, down).is_none() {
+            return;
+        }
+        left -= 1;
+    }
+}
+
+/// Copies so many tuples, or all where there are fewer.
+///
+/// # Errors
+/// They have too many bytes together; memory ran out.
+pub(crate) fn collect<'a>(
+    alloc: Global,
+    entries: &mut Range<'a, Bytes, Bytes>,
+    down: bool,
+    limit: u32,
+) -> Result<Collected<'a>, SelectStop>
+    ensures { MatchResult result
+        (λ found. (found.tuples ≡ map (λ entry. entry.1) (take limit (directed down entries.old)))
+        × (total_bytes found.tuples ≤ max_result_size)
+        × (option_map (λ key. key.now) found.last ≡ last_key_of (take limit (directed down entries.old))))
+        (λ stop. ((stop ≡ TooLong) × (max_result_size < total_bytes (map (λ entry. entry.1) (take limit (directed down entries.old))))) ⊎ (stop ≡ NoMemory)) }
+{
+    let mut tuples = Tuples::new(alloc);
+    let mut last = None;
+    let mut bytes = 0;
+    let mut left = limit;
+    while left > 0 {
+        let Some((key, tuple)) = next_in(entries, down) else {
+            return Ok(Collected { tuples, last });
+        };
+        if tuple.len() > MAX_RESULT_SIZE - bytes {
+            return Err(SelectStop::TooLong);
+        }
+        bytes += tuple.len();
+        tuples.push(Bytes::from_slice(alloc, tuple.as_slice())?)?;
+        last = Some(key);
+        left -= 1;
+    }
+    Ok(Collected { tuples, last })
+}

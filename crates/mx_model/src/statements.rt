@@ -1,0 +1,5 @@
+//! What statements are answered.
+
+pub mod lookup;
+pub mod replace;
+pub mod select;
