@@ -1,0 +1,7 @@
+mod LoadingLaws
+mod PassingLaws
+mod TurnLaws
+mod DurabilityLaws
+mod ReplayLaws
+mod FileLaws
+pub mod LeavingLaws

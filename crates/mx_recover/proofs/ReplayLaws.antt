@@ -1,0 +1,284 @@
+-- What a transaction, a block and a header make of what memory stands for.
+use Rattle.std.proofs.Common.{◌≡◌, ◌⊎◌, inl, inr, ℕ, suc, ◌+◌, ◌-◌, ◌<◌, ◌≤◌, Bool, true, false, ◌&&◌, ◌==◌, List, [], ◌∷◌, length, take, drop, Option, Some, None, Result, Ok, Err, refl, sym, ap, subst, ◌∙◌, arith}
+use Rattle.std.specs.Prelude.{slice_index, slice_set, is_some, is_err, unwrap_or, IfOk, MatchOption, MatchResult, if◌then◌else◌, not}
+use Rattle.std.specs.Cmp.Lexicographic.{bytes_decides}
+use Rattle.std.proofs.lemmas.Bool.{and_from, eqb-true, eq-eqb, le-leb, cond-true, cond-false}
+use Rattle.std.proofs.lemmas.Grind.{same_number_lists}
+use Rattle.std.proofs.lemmas.List.{length-append, length-take-le, length-drop, get_or-set_other}
+use Rattle.std.proofs.lemmas.List.Elements.{All-set}
+use Rattle.std.proofs.Math.ListN.{length-set}
+use Rattle.mx_xlog.specs.declared.head.Head.{Head}
+use Rattle.mx_xlog.specs.Headers.{IsHead}
+use Rattle.mx_vclock.specs.Vclocks.{IsVclock, IsNext, Covers, max_lsn}
+use Rattle.mx_xlog.specs.declared.block.Block.{Block}
+use Rattle.mx_xlog.specs.declared.block.Block.TheVariants.{Rows, End, Empty, Torn}
+use Rattle.mx_xlog.specs.Blocks.{StandsAt, block_of}
+use Rattle.mx_xlog.specs.Reading.{block_at, blocks_of}
+use Rattle.mx_xlog.proofs.ReadingLaws.{blocks_stand, end_stands, empty_stands, torn_stands, blocks_of_none}
+use Rattle.mx_model.specs.declared.ids.Ids.{Ids}
+use Rattle.mx_model.specs.declared.damage.Damage.{Damage}
+use Rattle.mx_model.specs.declared.damage.DamageKind.TheVariants.{Head as HeadDamage, Gap}
+use Rattle.mx_row.specs.declared.tx.Tx.{Tx}
+use Rattle.mx_row.specs.declared.row.Row.TheVariants.{Replaced}
+use Rattle.std.specs.declared.alloc.AllocError.{AllocError}
+use Rattle.mx_base.specs.declared.refusal.Refusal.{Refusal}
+use Rattle.mx_base.specs.declared.refusal.Refusal.TheVariants.{OutOfMemory}
+use Rattle.mx_model.specs.State.{test_space}
+use Rattle.mx_model.specs.Stored.{Holds}
+use Rattle.mx_model.specs.Answers.{state_after_row, state_after_rows}
+use Rattle.mx_model.specs.statements.Answer.{Read, refusal_after}
+use Rattle.mx_model.specs.statements.Replace.{replace_answer_in, replaced}
+use Rattle.mx_row.specs.Clocks.{clock_after_one, follows}
+use Rattle.mx_model.specs.Directories as files
+use Rattle.mx_model.specs.Directories.{after_transaction, after_block, after_blocks, block_reached, damaged_row, takes_row, takes_rows, ids_or, ids_in, head_fits, after_head}
+use Rattle.mx_xlog.specs.Files.{FileRead}
+use Rattle.mx_files.specs.Names.{same_bytes}
+use Rattle.mx_recover.specs.declared.replay.Recovered.{Recovered}
+use Rattle.mx_recover.specs.declared.fault.RecoverFault.{RecoverFault}
+use Rattle.mx_recover.specs.declared.fault.RecoverFault.TheVariants.{Damaged}
+use Rattle.mx_recover.specs.Recovered.{StandsFor, AreIds}
+
+-- ---- a flag that says whether there is something
+
+module _ {X : Type 0} (P : X → Type 0) where
+  pub was_taken : (found : Option X) (flag : Bool) → flag ≡ true → MatchOption found (flag ≡ false) (λ x. (flag ≡ true) × P x)
+      → (x : X) × (found ≡ Some x) × P x
+  was_taken None flag is other = absurd cc
+  was_taken (Some x) flag is both = (x, refl, both.1)
+
+  pub was_refused : (found : Option X) (flag : Bool) → flag ≡ false → MatchOption found (flag ≡ false) (λ x. (flag ≡ true) × P x)
+      → found ≡ None
+  was_refused None flag is other = refl
+  was_refused (Some x) flag is both = let other = both.0 in absurd cc
+
+  pub none_taken : (found : Option X) → found ≡ None → MatchOption found (false ≡ false) (λ x. (false ≡ true) × P x)
+  none_taken None is = refl
+  none_taken (Some x) is = absurd cc
+
+  pub one_taken : (found : Option X) (x : X) → found ≡ Some x → P x → MatchOption found (true ≡ false) (λ x. (true ≡ true) × P x)
+  one_taken found x is holds = subst (λ o. MatchOption o (true ≡ false) (λ x. (true ≡ true) × P x)) (sym is) (refl, holds)
+
+-- what stands where a result is no error
+pub was_ok : {A B : Type 0} (P : Type 0) (Q : B → Type 0) (result : Result A B) → is_err result ≡ false → MatchResult result (λ _. P) Q → P
+was_ok P Q (Ok x) is holds = holds
+was_ok P Q (Err x) is holds = absurd cc
+
+pub some_left : (bytes : List ℕ) (flag : Bool) → flag ≡ (length bytes == 0) → flag ≡ false → bytes ≡ [] → ⊥
+some_left [] flag is other none = absurd cc
+some_left (byte ∷ bytes) flag is other none = absurd cc
+
+pub none_left : (bytes : List ℕ) (flag : Bool) → flag ≡ (length bytes == 0) → flag ≡ true → bytes ≡ []
+none_left [] flag is empty = refl
+none_left (byte ∷ bytes) flag is empty =
+    let zero_long : suc (length bytes) ≡ 0 = eqb-true (suc (length bytes)) 0 (sym is ∙ empty) in
+    absurd (omega arith)
+
+-- ---- vclocks that cover one another
+
+same_from_covers : (clock other : List ℕ) → IsVclock clock → IsVclock other → Covers clock other → Covers other clock → clock ≡ other
+same_from_covers clock other sound sound' above below =
+    same_number_lists clock other (sound.whole ∙ sym sound'.whole)
+    (λ id within. let few : id < 32 = omega (arith, sound.whole) in omega (arith, above id few, below id few))
+
+differ : (clock other : List ℕ) → (clock ≡ other → ⊥) → false ≡ same_bytes clock other
+differ clock other apart = by_test (same_bytes clock other) refl
+  where
+    by_test : (test : Bool) → same_bytes clock other ≡ test → false ≡ test
+    by_test true is = absurd (apart ((bytes_decides clock other).0 is))
+    by_test false is = refl
+
+covers_itself : (clock other : List ℕ) → clock ≡ other → Covers clock other
+covers_itself clock other is = subst (Covers clock) is (λ id few. omega arith)
+
+pub covered : (clock other : List ℕ) (flag : Bool) → IsVclock clock → IsVclock other → Covers clock other
+    → (flag ≡ true → Covers other clock) → (Covers other clock → flag ≡ true) → flag ≡ same_bytes clock other
+covered clock other true sound sound' above to from =
+    sym ((bytes_decides clock other).1 (same_from_covers clock other sound sound' above (to refl)))
+covered clock other false sound sound' above to from =
+    differ clock other (λ is. let yes = from (covers_itself other clock (sym is)) in cc)
+
+-- ---- transactions
+
+and_false : (b : Bool) → (b && false) ≡ false
+and_false true = refl
+and_false false = refl
+
+-- a transaction of one row that puts a tuple into a space
+abbrev one_row : (replica lsn space : ℕ) → List ℕ → Tx
+one_row replica lsn space tuple = record { replica = replica; first = lsn; rows = Replaced space tuple ∷ [] }
+
+module _ (old new : Recovered) (before : files.Reached) (stands : StandsFor old before) (replica lsn : ℕ) (tuple copy : List ℕ)
+    (least : 1 ≤ replica) (few : replica < 32) (next : IsNext old.clock replica lsn) (clock : new.clock ≡ slice_set old.clock replica lsn)
+    (ids : new.ids ≡ old.ids) (put : replace_answer_in before.state test_space tuple ≡ replaced test_space tuple) (copied : copy ≡ tuple)
+    (holds : Holds new.state (state_after_row before.state (Replaced test_space copy))) where
+  abbrev tx : Tx
+  tx = one_row replica lsn test_space tuple
+
+  most : (lsn + 1) - 1 ≤ max_lsn
+  most = omega (arith, next.allowed)
+
+  does_follow : follows before.clock tx ≡ true
+  does_follow =
+      let first : lsn ≡ suc (slice_index before.clock replica) =
+      next.follows ∙ ap (λ (c : List ℕ). suc (slice_index c replica)) stands.clock in
+      and_from _ _ (eq-eqb _ _ first) (le-leb _ _ most)
+
+  takes : takes_rows before.state tx.rows ≡ true
+  takes = ap (λ answer. is_some answer.row && true) put
+
+  stands_after : StandsFor new (record before { state = state_after_rows before.state tx.rows; clock = clock_after_one before.clock tx })
+  stands_after =
+      let last : lsn ≡ (lsn + 1) - 1 = omega arith in record {
+        ids = ids ∙ stands.ids;
+        holds = subst (λ t. Holds new.state (state_after_row before.state (Replaced test_space t))) copied holds;
+        clock = clock ∙ ap (λ (c : List ℕ). slice_set c replica lsn) stands.clock ∙ ap (slice_set before.clock replica) last;
+        sound = record {
+          whole = length-set before.clock replica ((lsn + 1) - 1) ∙ stands.sound.whole;
+          bounded = All-set (λ lsn. lsn ≤ max_lsn) before.clock replica ((lsn + 1) - 1) most stands.sound.bounded;
+        };
+        nothing = get_or-set_other before.clock replica 0 ((lsn + 1) - 1) 0 (λ is. omega (arith, is)) ∙ stands.nothing;
+        whose = stands.whose;
+      }
+
+  abbrev Taken : ℕ → Type 0
+  Taken space = MatchOption (after_transaction (one_row replica lsn space tuple) before) (true ≡ false) (λ after. (true ≡ true) × StandsFor new after)
+
+  -- it follows, and memory has its tuple under its key
+  pub taken_row : (space : ℕ) → space ≡ test_space → Taken space
+  taken_row space is =
+      subst Taken (sym is)
+      (one_taken (StandsFor new) (after_transaction tx before) _ (cond-true _ _ _ (and_from _ _ does_follow takes)) stands_after)
+
+-- a row that the state doesn't take
+module _ (new : Recovered) (before : files.Reached) (replica lsn space : ℕ) (tuple : List ℕ) where
+  abbrev Refused : Type 0
+  Refused = MatchOption (after_transaction (one_row replica lsn space tuple) before) (false ≡ false) (λ after. (false ≡ true) × StandsFor new after)
+
+  pub refused_row : (reads : List Read) (refusal : Refusal) → replace_answer_in before.state space tuple ≡ refusal_after reads refusal → Refused
+  refused_row reads refusal put =
+      let other : takes_row before.state (Replaced space tuple) ≡ false = ap (λ answer. is_some answer.row) put in
+      none_taken (StandsFor new) (after_transaction (one_row replica lsn space tuple) before)
+      (cond-false _ _ _ (ap (λ b. follows before.clock (one_row replica lsn space tuple) && (b && true)) other ∙ and_false (follows before.clock (one_row replica lsn space tuple))))
+
+-- ---- blocks
+
+module _ (bytes : List ℕ) (at from to : ℕ) (stands : StandsAt bytes at (Rows from to)) where
+  -- where the block's data lies
+  pub places : (at < to) × (from ≤ to) × (to ≤ length bytes) × ((at + 19) + length (take (to - from) (drop from bytes)) ≡ to)
+  places =
+      let front : length (block_of stands.0) ≡ 19 + length stands.0 = omega arith in
+      let all : length (drop at bytes) ≡ length (block_of stands.0) + length stands.1.0 =
+      ap length stands.1.2 ∙ length-append (block_of stands.0) stands.1.0 in
+      let left = length-drop at bytes in
+      let left' = length-drop from bytes in
+      let begin : from ≡ at + 19 = stands.2 in
+      let end : to ≡ from + length stands.0 = stands.3 in
+      let within : to ≤ length bytes = omega arith in
+      let few = length-take-le (to - from) (drop from bytes) (omega arith) in
+      (omega arith, omega arith, within, omega arith)
+
+module _ (name bytes : List ℕ) (at from to : ℕ) (now : files.Reached) (stands : StandsAt bytes at (Rows from to)) where
+  abbrev rows : List ℕ
+  rows = take (to - from) (drop from bytes)
+
+  first_block : after_blocks name at (blocks_of (drop at bytes)) now
+      ≡ block_reached name at (after_blocks name ((at + 19) + length rows) (blocks_of (drop to bytes))) (after_block rows now)
+  first_block = ap (λ blocks. after_blocks name at blocks now) (blocks_stand bytes at from to stands)
+
+  -- its rows are taken
+  pub block_taken : (next : files.Reached) → after_block rows now ≡ Some next
+      → after_blocks name at (blocks_of (drop at bytes)) now ≡ after_blocks name to (blocks_of (drop to bytes)) next
+  block_taken next is =
+      first_block
+      ∙ ap (block_reached name at (after_blocks name ((at + 19) + length rows) (blocks_of (drop to bytes)))) is
+      ∙ ap (λ place. after_blocks name place (blocks_of (drop to bytes)) next) (places bytes at from to stands).3
+
+  -- its rows are refused
+  pub block_refused : after_block rows now ≡ None → after_blocks name at (blocks_of (drop at bytes)) now ≡ damaged_row name at
+  block_refused is = first_block ∙ ap (block_reached name at (after_blocks name ((at + 19) + length rows) (blocks_of (drop to bytes)))) is
+
+-- no block stands at the place
+pub blocks_end : (name bytes : List ℕ) (at : ℕ) (now : files.Reached) (block : Block) → StandsAt bytes at block
+    → ((from to : ℕ) → ¬ (block ≡ Rows from to)) → after_blocks name at (blocks_of (drop at bytes)) now ≡ Ok now
+blocks_end name bytes at now block stands other =
+    ap (λ blocks. after_blocks name at blocks now) (blocks_of_none (drop at bytes) (none_stands block stands other))
+  where
+    none_stands : (block : Block) → StandsAt bytes at block → ((from to : ℕ) → ¬ (block ≡ Rows from to)) → block_at (drop at bytes) ≡ None
+    none_stands (Rows from to) stands other = absurd (other from to refl)
+    none_stands End stands other = end_stands bytes at stands
+    none_stands Empty stands other = empty_stands bytes at stands
+    none_stands (Torn place) stands other = torn_stands bytes at place stands
+
+abbrev fails : {A : Type 0} → RecoverFault → Result A RecoverFault
+fails fault = Err fault
+
+-- the fault that was told is this damage's
+pub same_damage : {A : Type 0} (fault : RecoverFault) (wanted told : Damage) → fault ≡ Damaged wanted
+    → fails {A = A} fault ≡ fails {A = A} (Damaged told) → wanted ≡ told
+same_damage fault wanted told is same = cc
+
+-- ---- headers
+
+-- what the files so far stand for, of a node that is known after this header
+abbrev pub known_by : Head → files.Reached → files.Reached
+known_by head before = record { ids = Some (ids_or (ids_in head) before.ids); state = before.state; clock = before.clock }
+
+abbrev head_told : (fits same : Bool) → List ℕ → FileRead → files.Reached → Result files.Reached Damage
+head_told fits same name file reached =
+    if not fits then Err (record { file = name; at = 0; kind = HeadDamage })
+    else if not same then Err (record { file = name; at = 0; kind = Gap reached.clock file.head.clock })
+    else after_blocks name file.size file.blocks (known_by file.head reached)
+
+module _ (name : List ℕ) (file : FileRead) (reached : files.Reached) where
+  pub head_refused : head_fits name file.head reached ≡ false → after_head name file reached ≡ Err (record { file = name; at = 0; kind = HeadDamage })
+  head_refused other = ap (λ fits. head_told fits (same_bytes reached.clock file.head.clock) name file reached) other
+
+  pub gap_told : head_fits name file.head reached ≡ true → same_bytes reached.clock file.head.clock ≡ false
+      → after_head name file reached ≡ Err (record { file = name; at = 0; kind = Gap reached.clock file.head.clock })
+  gap_told fits other =
+      ap (λ fits. head_told fits (same_bytes reached.clock file.head.clock) name file reached) fits
+      ∙ ap (λ same. head_told true same name file reached) other
+
+  pub head_taken : head_fits name file.head reached ≡ true → same_bytes reached.clock file.head.clock ≡ true
+      → after_head name file reached ≡ after_blocks name file.size file.blocks (known_by file.head reached)
+  head_taken fits is =
+      ap (λ fits. head_told fits (same_bytes reached.clock file.head.clock) name file reached) fits
+      ∙ ap (λ same. head_told true same name file reached) is
+
+known_ids : (ids : Ids) (found : Option Ids) → unwrap_or found ids ≡ ids_or ids found
+known_ids ids None = refl
+known_ids ids (Some found) = refl
+
+known_whose : (ids : Ids) (found : Option Ids) → ids.me < 32 → AreIds found → AreIds (Some (ids_or ids found))
+known_whose ids None few whose = few
+known_whose ids (Some found) few whose = whose
+
+-- memory that knows who the node is
+pub begun : (old new : Recovered) (before : files.Reached) (head : Head) → StandsFor old before → head.replica < 32
+    → new.ids ≡ Some (unwrap_or old.ids (ids_in head)) → new.state ≡ old.state → new.clock ≡ old.clock → StandsFor new (known_by head before)
+begun old new before head stands few ids state clock = record {
+  ids = ids ∙ ap (λ o. Some o) (known_ids (ids_in head) old.ids ∙ ap (ids_or (ids_in head)) stands.ids);
+  holds = subst (λ memory. Holds memory before.state) (sym state) stands.holds;
+  clock = clock ∙ stands.clock;
+  sound = stands.sound;
+  nothing = stands.nothing;
+  whose = known_whose (ids_in head) before.ids few stands.whose;
+}
+
+-- two vclocks as memory has them
+pub same_here : (memory : Recovered) (before : files.Reached) (head : Head) (flag told : Bool) → StandsFor memory before → IsHead head
+    → (IsVclock memory.clock → IsVclock head.clock → flag ≡ same_bytes memory.clock head.clock) → flag ≡ told
+    → same_bytes before.clock head.clock ≡ told
+same_here memory before head flag told stands fits same is =
+    ap (λ clock. same_bytes clock head.clock) (sym stands.clock) ∙ sym (same (subst IsVclock (sym stands.clock) stands.sound) fits.sound) ∙ is
+
+-- what isn't out of memory is refused
+pub refused_told : (P : Bool → Type 0) (result : Result Bool AllocError) (refusal : Refusal)
+    → IfOk result (λ taken. (taken ≡ false) × (refusal ≡ OutOfMemory → ⊥)) → ((refusal ≡ OutOfMemory → ⊥) → P false) → IfOk result P
+refused_told P (Ok taken) refusal both shows = subst P (sym both.0) (shows both.1)
+refused_told P (Err error) refusal both shows = tt
+
+-- a refusal that isn't for memory is the statement's
+pub told_refusal : (P : Type 0) (refusal : Refusal) → (refusal ≡ OutOfMemory → ⊥) → P ⊎ (refusal ≡ OutOfMemory) → P
+told_refusal P refusal other (inl holds) = holds
+told_refusal P refusal other (inr none) = absurd (other none)
