@@ -5,32 +5,35 @@ use Rattle.std.proofs.lemmas.List.{append-nil}
 use Rattle.mx_outside.specs.Disks.{Disk}
 use Rattle.mx_model.specs.Histories.{History, HasMemory, IsLegal, asks_in, history_from, replies_in}
 use Rattle.mx_model.proofs.HistoryLaws.{history_of_asks}
-use Rattle.mx_top.specs.declared.server.Server.{Server}
-use Rattle.mx_top.specs.Units.{InputUnit, units_of}
-use Rattle.mx_top.specs.Connections.{all_asks_of}
-use Rattle.mx_top.specs.Starts.{Start}
+use Rattle.mx_node.specs.declared.single.Single.{Single}
+use Rattle.mx_top.specs.Units.{units_of}
+use Rattle.mx_node.specs.Inputs.{InputUnit}
+use Rattle.mx_node.specs.Connections.{all_asks_of}
+use Rattle.mx_node.specs.Starts.{Start}
 use Rattle.mx_top.specs.Stops.{IsDiskStop}
-use Rattle.mx_top.specs.TraceOutput.{output_from, trace_output}
-use Rattle.mx_top.specs.Serving.{Serves, Closed}
+use Rattle.mx_top.specs.TraceOutput.{trace_output, units_text}
+use Rattle.mx_node.specs.Outputs.{output_from}
+use Rattle.mx_node.specs.Serving.{Serves, EndedNode}
 use Rattle.mx_top.specs.Runs.{IsTrace, BeginsTrace, expected_output}
 use Rattle.mx_top.specs.declared.stop.Stop.{Stop}
 use Rattle.mx_top.specs.declared.stop.Stop.TheVariants.{BadInput, ReadFault, WriteFault, DiskFault, NoMemory}
-use Rattle.mx_top.specs.Crashes.{Lasts, BreaksOff}
-use Rattle.mx_top.specs.Progress.{Finished, BrokeOff, RunSeen}
-use Rattle.mx_top.proofs.KeepLaws.{ready_keeps, keep_unreplied}
-use Rattle.mx_top.proofs.LastingLaws.{lasts_on, breaks_now, breaks_on}
+use Rattle.mx_node.specs.Interrupted.{IsInterrupted}
+use Rattle.mx_model.specs.Survival.{Lasts}
+use Rattle.mx_top.specs.Progress.{AnsweredUnits, InterruptedUnits, RunSeen}
+use Rattle.mx_node.proofs.KeepLaws.{ready_keeps, keep_unreplied}
+use Rattle.mx_node.proofs.LastingLaws.{lasts_on, breaks_now, breaks_on}
 use Rattle.mx_top.proofs.OutputLaws.{trace_output-asking}
 use Rattle.mx_top.proofs.ProgressLaws.{prefix_all, begun_trace}
 
 -- a server that served these units closes so, where it doesn't fail
-abbrev pub Closes : (ended : Result (Unit {0}) Stop) (server : Server) (states now : Option (List Disk)) → Type 0
+abbrev pub Closes : (ended : Result (Unit {0}) Stop) (server : Single) (states now : Option (List Disk)) → Type 0
 Closes ended server states now = (start : Start) (units : List InputUnit) (history : History) → Serves start server units history states
-    → OnOk ended (Closed start units history states now)
+    → OnOk ended (EndedNode start units history states now)
 
 -- and breaks off so, where it fails
-abbrev pub Breaks : (ended : Result (Unit {0}) Stop) (server : Server) (states now : Option (List Disk)) → Type 0
+abbrev pub Breaks : (ended : Result (Unit {0}) Stop) (server : Single) (states now : Option (List Disk)) → Type 0
 Breaks ended server states now = (start : Start) (units : List InputUnit) (history : History) → Serves start server units history states
-    → OnErr ended (BreaksOff start.base history (all_asks_of units) states now)
+    → OnErr ended (IsInterrupted start.base history (all_asks_of units) states now)
 
 -- the replies are a function of what was asked, where memory was there
 asked_output : (start : Start) (input before after : List ℕ) (history : History) → IsLegal start.base history
@@ -44,12 +47,12 @@ asked_output start input before after history legal asks output memory =
     ∙ ap (trace_output start units) (history_of_asks start.base history legal memory ∙ ap (history_from start.base []) asks))
 
 -- the whole output, once the connections left
-whole_trace : (start : Start) (input before after : List ℕ) (server : Server) (first states now : Option (List Disk))
-    → (finished : Finished start input before after server first states)
-    → (closed : Closed start (units_of input).0 finished.history states now) → IsTrace start closed.history input before after
+whole_trace : (start : Start) (input before after : List ℕ) (server : Single) (first states now : Option (List Disk))
+    → (finished : AnsweredUnits start input before after server first states)
+    → (closed : EndedNode start (units_of input).0 finished.history states now) → IsTrace start closed.history input before after
 whole_trace start input before after server first states now finished closed =
     let output : after ≡ before ++ trace_output start (units_of input).0 closed.history =
-    finished.output ∙ ap (λ replies. before ++ output_from start [] (units_of input).0 replies) (sym closed.told) in
+    finished.output ∙ ap (λ replies. before ++ units_text (output_from start [] (units_of input).0 replies)) (sym closed.told) in
     record {
       legal = closed.legal;
       asks = closed.asks;
@@ -58,17 +61,17 @@ whole_trace start input before after server first states now finished closed =
     }
 
 -- the output for all units begins itself
-abbrev begun_whole : (start : Start) (input before after : List ℕ) (server : Server) (first states : Option (List Disk))
-    → Finished start input before after server first states → BeginsTrace start input before after
+abbrev begun_whole : (start : Start) (input before after : List ℕ) (server : Single) (first states : Option (List Disk))
+    → AnsweredUnits start input before after server first states → BeginsTrace start input before after
 begun_whole start input before after server first states finished =
     let units = (units_of input).0 in
     let output = trace_output start units finished.history in
     begun_trace start input before output after units finished.history server states finished.serves (prefix_all units) (prefix_all output) finished.output
 
 -- the directory keeps all that was committed
-closed_keeps : (start : Start) (input before after : List ℕ) (server : Server) (first states now : Option (List Disk))
-    → (finished : Finished start input before after server first states)
-    → Closed start (units_of input).0 finished.history states now → BrokeOff start input before after first now
+closed_keeps : (start : Start) (input before after : List ℕ) (server : Single) (first states now : Option (List Disk))
+    → (finished : AnsweredUnits start input before after server first states)
+    → EndedNode start (units_of input).0 finished.history states now → InterruptedUnits start input before after first now
 closed_keeps start input before after server first states now finished closed =
     let base = start.base in
     let history = finished.history in
@@ -86,9 +89,9 @@ closed_keeps start input before after server first states now finished closed =
     }
 
 -- all units were answered, and then the server was closed, or a fault of the directory stopped that
-pub seen_ended : (ended : Result (Unit {0}) Stop) (start : Start) (input before : List ℕ) (server : Server) (new : Option (List ℕ))
+pub seen_ended : (ended : Result (Unit {0}) Stop) (start : Start) (input before : List ℕ) (server : Single) (new : Option (List ℕ))
     (first states now : Option (List Disk)) → IfErr ended IsDiskStop → Closes ended server states now
-    → IsSomeAnd new (λ written. Finished start input before written server first states)
+    → IsSomeAnd new (λ written. AnsweredUnits start input before written server first states)
     → IsSomeAnd new (λ written. RunSeen ended start input before written now)
 seen_ended ended start input before server None first states now stops closes finished = finished
 seen_ended (Ok done) start input before server (Some written) first states now stops closes finished =
@@ -107,10 +110,10 @@ seen_ended (Err NoMemory) start input before server (Some written) first states 
     begun_whole start input before written server first states finished
 
 -- what the directory keeps then
-pub broke_ended : (ended : Result (Unit {0}) Stop) (start : Start) (input before : List ℕ) (server : Server) (new : Option (List ℕ))
+pub broke_ended : (ended : Result (Unit {0}) Stop) (start : Start) (input before : List ℕ) (server : Single) (new : Option (List ℕ))
     (first states now : Option (List Disk)) → Closes ended server states now → Breaks ended server states now
-    → IsSomeAnd new (λ written. Finished start input before written server first states)
-    → IsSomeAnd new (λ written. BrokeOff start input before written first now)
+    → IsSomeAnd new (λ written. AnsweredUnits start input before written server first states)
+    → IsSomeAnd new (λ written. InterruptedUnits start input before written first now)
 broke_ended ended start input before server None first states now closes breaks finished = finished
 broke_ended (Ok done) start input before server (Some written) first states now closes breaks finished =
     closed_keeps start input before written server first states now finished (closes start (units_of input).0 finished.history finished.serves)
@@ -122,6 +125,6 @@ broke_ended (Err stop) start input before server (Some written) first states now
 
 -- where it wasn't closed
 pub begun_alone : (start : Start) (input before : List ℕ) (new : Option (List ℕ)) (first now : Option (List Disk))
-    → IsSomeAnd new (λ written. BrokeOff start input before written first now) → IsSomeAnd new (λ written. BeginsTrace start input before written)
+    → IsSomeAnd new (λ written. InterruptedUnits start input before written first now) → IsSomeAnd new (λ written. BeginsTrace start input before written)
 begun_alone start input before None first now broke = broke
 begun_alone start input before (Some written) first now broke = broke.trace

@@ -6,7 +6,8 @@ use Rattle.std.proofs.lemmas.List.{take-append-le, drop-append-le, length-drop}
 use Rattle.mx_msgpack.specs.Readers.{◌>>=◌, number_at, bytes_at}
 use Rattle.mx_msgpack.proofs.PieceLaws.{number_at-shorter, and_more, number_at-front, bind_more}
 use Rattle.mx_top.proofs.UnitLaws.{head_rest}
-use Rattle.mx_top.specs.Units.{InputUnit, UnitHead, is_unit_kind, is_within, allowed_head, unit_by, unit_head_at, content_at}
+use Rattle.mx_top.specs.Units.{UnitHead, is_unit_kind, is_within, allowed_head, unit_by, unit_head_at, content_at}
+use Rattle.mx_node.specs.Inputs.{InputUnit}
 
 -- ---- a head, step by step
 
@@ -63,7 +64,7 @@ unit_head_at-front place bytes more long =
     let left : 8 ≤ length kind.1 = omega arith in
     kind_read-more place more kind left)
 
--- a head that was read from a front of the bytes
+-- a head that was read from a prefix of the bytes
 head_of_front : (place : ℕ) (waiting more whole : List ℕ) (found : UnitHead × List ℕ) → unit_head_at place waiting ≡ Some found
     → waiting ++ more ≡ whole → unit_head_at place whole ≡ Some (found.0, found.1 ++ more)
 head_of_front place waiting more whole found head same =

@@ -1,142 +1,76 @@
--- The output for one unit more.
-use Rattle.std.proofs.Common.{◌≡◌, ℕ, ◌≤◌, Bool, true, false, List, [], ◌∷◌, ◌++◌, length, map, drop, refl, sym, ap, ◌∙◌, arith, length-append}
-use Rattle.std.specs.Prelude.{if◌then◌else◌}
-use Rattle.byteorder.specs.Endian.{big_bytes}
-use Rattle.std.proofs.lemmas.List.{append-nil, append_assoc, length-map, length-drop, drop-append-le}
-use Rattle.mx_frame.specs.Packets.{rest_of}
-use Rattle.mx_session.specs.declared.job.Job.{Job}
-use Rattle.mx_session.specs.Jobs.{jobs_of, ends}
-use Rattle.mx_model.specs.declared.reply.Reply.{Reply}
-use Rattle.mx_model.specs.Histories.{History, Asked, Left, Took, Confirmed, asking, replies_in}
-use Rattle.mx_model.specs.ReplyStream.{reply_packet, reply_packets}
-use Rattle.mx_top.specs.Units.{InputUnit, Bytes, Close}
-use Rattle.mx_top.specs.Connections.{came_on, jobs_by, jobs_from}
-use Rattle.mx_top.specs.Starts.{Start}
-use Rattle.mx_top.specs.TraceOutput.{schema_version, sync_of, opening, output_unit, closing, output_for, output_from, trace_output}
-use Rattle.mx_top.proofs.ConnectionLaws.{ends-nothing, jobs_by-open, jobs_by-ended, jobs_by-nothing, is_ended_by-open, is_ended_by-ended, is_ended_by-nothing}
+-- The output of a run: what connections are sent, as output units.
+use Rattle.std.proofs.Common.{◌≡◌, ℕ, ◌+◌, ◌<◌, ◌≤◌, Bool, true, false, List, [], ◌∷◌, ◌++◌, length, get_or, take, Option, refl, sym, ap, ◌∙◌, subst, append_assoc}
+use Rattle.std.specs.Prelude.{◌==◌}
+use Rattle.std.proofs.lemmas.List.{append-nil, take_more}
+use mathlib.Core.List.{IsPrefix}
+use Rattle.mx_outside.specs.Disks.{Disk}
+use Rattle.mx_model.specs.declared.out_units.OutUnit.{OutUnit}
+use Rattle.mx_model.specs.Histories.{History, IsLegal, asking, asks_in}
+use Rattle.mx_model.specs.Survival.{Lasts}
+use Rattle.mx_node.specs.Inputs.{InputUnit, connection_of, max_connection}
+use Rattle.mx_node.specs.declared.single.Single.{Single}
+use Rattle.mx_node.specs.Starts.{Start}
+use Rattle.mx_node.specs.Outputs.{output_from, output_of}
+use Rattle.mx_node.specs.Connections.{asks_by, asks_of}
+use Rattle.mx_node.specs.Interrupted.{StepsSurvive, IsInterrupted}
+use Rattle.mx_node.specs.Serving.{AnswersUnit}
+use Rattle.mx_node.proofs.ConnectionLaws.{asks_of-push}
+use Rattle.mx_node.proofs.KeepLaws.{ready_keeps}
+use Rattle.mx_node.proofs.LastingLaws.{breaks_now}
+use Rattle.mx_node.proofs.OutputLaws.{replies_in-asking}
+use Rattle.mx_top.specs.TraceOutput.{unit_text, units_text, trace_output}
+use Rattle.mx_top.specs.Units.{UnitHead, unit_by}
+use Rattle.mx_top.specs.Progress.{WritesUnit}
 
--- ---- packets of replies
+pub units_text-append : (units more : List OutUnit) → units_text (units ++ more) ≡ units_text units ++ units_text more
+units_text-append [] more = refl
+units_text-append (unit ∷ units) more =
+    ap (λ l. unit_text unit ++ l) (units_text-append units more) ∙ sym (append_assoc (unit_text unit) (units_text units) (units_text more))
 
--- the packets of two runs of replies, where the first has one for each sync
-pub reply_packets-append : (version : ℕ) (syncs more : List ℕ) (replies others : List Reply) → length syncs ≡ length replies
-    → reply_packets version (syncs ++ more) (replies ++ others) ≡ reply_packets version syncs replies ++ reply_packets version more others
-reply_packets-append version [] more [] others e = refl
-reply_packets-append version [] more (reply ∷ replies) others e = absurd (omega arith)
-reply_packets-append version (sync ∷ syncs) more [] others e = absurd (omega arith)
-reply_packets-append version (sync ∷ syncs) more (reply ∷ replies) others e =
-    let shorter : length syncs ≡ length replies = omega arith in
-    ap (λ (l : List ℕ). reply_packet version sync reply ++ l) (reply_packets-append version syncs more replies others shorter)
-    ∙ sym (append_assoc (reply_packet version sync reply) (reply_packets version syncs replies) (reply_packets version more others))
+-- one unit more
+pub units_text-more : (units : List OutUnit) (index : ℕ) (unit : OutUnit) → index < length units → unit ≡ get_or units index unit
+    → units_text (take index units) ++ unit_text unit ≡ units_text (take (index + 1) units)
+units_text-more units index unit within is =
+    sym (units_text-append (take index units) (unit ∷ []) ∙ ap (λ (l : List ℕ). units_text (take index units) ++ l) (append-nil (unit_text unit)))
+    ∙ ap units_text (ap (λ (u : OutUnit). take index units ++ u ∷ []) is ∙ sym (take_more units index unit within))
 
--- replies past the syncs are not sent
-pub reply_packets-enough : (version : ℕ) (syncs : List ℕ) (replies others : List Reply) → length syncs ≤ length replies
-    → reply_packets version syncs (replies ++ others) ≡ reply_packets version syncs replies
-reply_packets-enough version [] replies others e = refl
-reply_packets-enough version (sync ∷ syncs) [] others e = absurd (omega arith)
-reply_packets-enough version (sync ∷ syncs) (reply ∷ replies) others e =
-    let shorter : length syncs ≤ length replies = omega arith in
-    ap (λ (l : List ℕ). reply_packet version sync reply ++ l) (reply_packets-enough version syncs replies others shorter)
-
--- ---- one unit more
-
--- more replies than a unit has jobs change nothing of its output
-pub output_for-enough : (start : Start) (earlier : List InputUnit) (unit : InputUnit) (replies others : List Reply) → length (jobs_by earlier unit) ≤ length replies
-    → output_for start earlier unit (replies ++ others) ≡ output_for start earlier unit replies
-output_for-enough start earlier (Bytes on bytes) replies others enough =
-    let syncs = map sync_of (jobs_by earlier (Bytes on bytes)) in
-    let long : length syncs ≡ length (jobs_by earlier (Bytes on bytes)) = length-map (jobs_by earlier (Bytes on bytes)) sync_of in
-    let enough' : length syncs ≤ length replies = omega arith in
-    ap (λ (l : List ℕ). output_unit on (opening start (came_on on earlier) bytes ++ l) ++ closing earlier (Bytes on bytes))
-    (reply_packets-enough schema_version syncs replies others enough')
-output_for-enough start earlier (Close on) replies others enough = refl
-
-pub output_from-push : (start : Start) (earlier units : List InputUnit) (unit : InputUnit) (replies more : List Reply)
-    → length replies ≡ length (jobs_from earlier units)
-    → output_from start earlier (units ++ unit ∷ []) (replies ++ more) ≡ output_from start earlier units replies ++ output_for start (earlier ++ units) unit more
-output_from-push start earlier [] unit [] more each =
-    append-nil (output_for start earlier unit more) ∙ ap (λ (l : List InputUnit). output_for start l unit more) (sym (append-nil earlier))
-output_from-push start earlier [] unit (reply ∷ replies) more each = absurd (omega arith)
-output_from-push start earlier (first ∷ units) unit replies more each =
-    let jobs = jobs_by earlier first in
-    let later = earlier ++ first ∷ [] in
-    let parts = length-append jobs (jobs_from later units) in
-    let enough : length jobs ≤ length replies = omega arith in
-    let gone = length-drop (length jobs) replies in
-    let each' : length (drop (length jobs) replies) ≡ length (jobs_from later units) = omega arith in
-    let output = output_for start earlier first replies in
-    let rest = output_from start later units (drop (length jobs) replies) in
-    ap (λ (l : List ℕ). l ++ output_from start later (units ++ unit ∷ []) (drop (length jobs) (replies ++ more))) (output_for-enough start earlier first replies more enough)
-    ∙ ap (λ (l : List Reply). output ++ output_from start later (units ++ unit ∷ []) l) (drop-append-le (length jobs) replies more enough)
-    ∙ ap (λ (l : List ℕ). output ++ l) (output_from-push start later units unit (drop (length jobs) replies) more each')
-    ∙ sym (append_assoc output rest (output_for start (later ++ units) unit more))
-    ∙ ap (λ (l : List InputUnit). (output ++ rest) ++ output_for start l unit more) (append_assoc earlier (first ∷ []) units)
-
--- the output grows by that for the unit, with the replies that the history has gained
-pub trace_output-push : (start : Start) (units : List InputUnit) (unit : InputUnit) (earlier history : History) (replies : List Reply)
-    → length (replies_in earlier) ≡ length (jobs_from [] units) → replies_in history ≡ replies_in earlier ++ replies
-    → trace_output start (units ++ unit ∷ []) history ≡ trace_output start units earlier ++ output_for start units unit replies
-trace_output-push start units unit earlier history replies each told =
-    ap (output_from start [] (units ++ unit ∷ [])) told ∙ output_from-push start [] units unit (replies_in earlier) replies each
-
--- ---- the output for a unit
-
-opening-nothing : (start : Start) (came : List ℕ) → opening start came [] ≡ []
-opening-nothing start [] = refl
-opening-nothing start (byte ∷ came) = refl
-
-pub opening-ended : (start : Start) (on : ℕ) (came bytes : List ℕ) → ends on came ≡ true → opening start came bytes ≡ []
-opening-ended start on [] bytes ended = let not_so = ends-nothing on in absurd cc
-opening-ended start on (byte ∷ came) bytes ended = refl
-
-abbrev packets_for : List Job → List Reply → List ℕ
-packets_for jobs replies = reply_packets schema_version (map sync_of jobs) replies
-
-abbrev closed : ℕ → Bool → List ℕ
-closed on ended = if ended then big_bytes 4 on ++ big_bytes 4 0 else []
-
-pub output_for-nothing : (start : Start) (earlier : List InputUnit) (on : ℕ) (replies : List Reply) → output_for start earlier (Bytes on []) replies ≡ []
-output_for-nothing start earlier on replies =
-    let greet = opening start (came_on on earlier) [] in
-    let end = closing earlier (Bytes on []) in
-    ap (λ (jobs : List Job). output_unit on (greet ++ packets_for jobs replies) ++ end) (jobs_by-nothing earlier on)
-    ∙ ap (λ (l : List ℕ). output_unit on (l ++ []) ++ end) (opening-nothing start (came_on on earlier))
-    ∙ ap (closed on) (is_ended_by-nothing earlier on)
-
-pub output_for-close : (start : Start) (earlier : List InputUnit) (on : ℕ) (replies : List Reply) → output_for start earlier (Close on) replies ≡ []
-output_for-close start earlier on replies = refl
-
-module _ (start : Start) (earlier : List InputUnit) (on : ℕ) (came bytes : List ℕ) (replies : List Reply) (same : came ≡ came_on on earlier) where
-  opens_so : output_for start earlier (Bytes on bytes) replies
-      ≡ output_unit on (opening start came bytes ++ packets_for (jobs_by earlier (Bytes on bytes)) replies) ++ closing earlier (Bytes on bytes)
-  opens_so = ap (λ (l : List ℕ). output_unit on (opening start l bytes ++ packets_for (jobs_by earlier (Bytes on bytes)) replies) ++ closing earlier (Bytes on bytes)) (sym same)
-
-  pub output_for-ended : ends on came ≡ true → output_for start earlier (Bytes on bytes) replies ≡ []
-  output_for-ended ended =
-      let end = closing earlier (Bytes on bytes) in
-      opens_so
-      ∙ ap (λ (jobs : List Job). output_unit on (opening start came bytes ++ packets_for jobs replies) ++ end) (jobs_by-ended earlier on came bytes same ended)
-      ∙ ap (λ (l : List ℕ). output_unit on (l ++ []) ++ end) (opening-ended start on came bytes ended)
-      ∙ ap (closed on) (is_ended_by-ended earlier on came bytes same ended)
-
-  pub output_for-open : ends on came ≡ false → output_for start earlier (Bytes on bytes) replies
-      ≡ output_unit on (opening start came bytes ++ reply_packets schema_version (map sync_of (jobs_of on (rest_of came ++ bytes))) replies)
-      ++ (if ends on (rest_of came ++ bytes) then big_bytes 4 on ++ big_bytes 4 0 else [])
-  output_for-open goes_on =
-      let jobs = jobs_of on (rest_of came ++ bytes) in
-      opens_so
-      ∙ ap (λ (jobs : List Job). output_unit on (opening start came bytes ++ packets_for jobs replies) ++ closing earlier (Bytes on bytes)) (jobs_by-open earlier on came bytes same goes_on)
-      ∙ ap (λ (b : Bool). output_unit on (opening start came bytes ++ packets_for jobs replies) ++ closed on b) (is_ended_by-open earlier on came bytes same goes_on)
-
--- ---- steps that weren't asked for
-
--- takes and confirmations have no reply
-pub replies_in-asking : (history : History) → replies_in (asking history) ≡ replies_in history
-replies_in-asking [] = refl
-replies_in-asking (Asked name ask reply ∷ earlier) = ap (λ (l : List Reply). l ++ reply ∷ []) (replies_in-asking earlier)
-replies_in-asking (Left connection ∷ earlier) = ap (λ (l : List Reply). l ++ []) (replies_in-asking earlier)
-replies_in-asking (Took transactions upto ∷ earlier) = replies_in-asking earlier ∙ sym (append-nil (replies_in earlier))
-replies_in-asking (Confirmed upto ∷ earlier) = replies_in-asking earlier ∙ sym (append-nil (replies_in earlier))
-
--- so they aren't seen in the output
+-- takes and confirmations aren't seen in the output
 pub trace_output-asking : (start : Start) (units : List InputUnit) (history : History) → trace_output start units (asking history) ≡ trace_output start units history
-trace_output-asking start units history = ap (output_from start [] units) (replies_in-asking history)
+trace_output-asking start units history = ap (λ replies. units_text (output_from start [] units replies)) (replies_in-asking history)
+
+-- the head of a unit tells its connection
+pub connection_by : (head : UnitHead) (content : List ℕ) → connection_of (unit_by head content) ≡ head.connection
+connection_by head content = by_kind (head.kind == 0) refl
+  where
+    by_kind : (bytes : Bool) → (head.kind == 0) ≡ bytes → connection_of (unit_by head content) ≡ head.connection
+    by_kind true is = rw is refl
+    by_kind false is = rw is refl
+
+pub known_unit : (head : UnitHead) (content : List ℕ) (unit : InputUnit) → unit ≡ unit_by head content → head.connection ≤ max_connection
+    → connection_of unit ≤ max_connection
+known_unit head content unit is known = rw (is, connection_by head content) known
+
+module _ (start : Start) (node : Single) (units : List InputUnit) (earlier : History) (unit : InputUnit) (sent : List OutUnit)
+    (old states : Option (List Disk)) (took : AnswersUnit start node units earlier unit sent old states) where
+  pub took_unit : (out : List ℕ) → out ≡ units_text sent → WritesUnit start node units earlier unit out old states
+  took_unit out is = record {
+    history = took.history;
+    since = took.since;
+    lasts = took.lasts;
+    serves = took.serves;
+    grows = ap units_text took.grows ∙ units_text-append (output_of start units earlier) sent
+        ∙ ap (λ l. trace_output start units earlier ++ l) (sym is);
+  }
+
+  -- a unit that was answered and whose output couldn't be written
+  pub took_breaks : IsInterrupted start.base earlier (asks_of units ++ asks_by units unit) old states
+  took_breaks =
+      let since = took.since in
+      let asks = asks_of units ++ asks_by units unit in
+      breaks_now start.base since.0 earlier asks old states
+      (subst (λ h. IsLegal start.base h) since.1 took.serves.ready.behind.stands.legal)
+      (subst (λ h. IsPrefix (asks_in h) asks) since.1
+      (subst (λ l. IsPrefix l asks) (sym (took.serves.asks ∙ asks_of-push units unit)) ([], append-nil asks)))
+      (subst (λ h. Lasts start.base h old states) since.1 took.lasts)
+      (subst (λ h. StepsSurvive start.base h h states) since.1
+      (ready_keeps start.base took.history node.engine node.journal states took.serves.ready))

@@ -5,21 +5,23 @@ use Rattle.std.proofs.lemmas.List.{append-nil, append_assoc, length-drop, nil_fr
 use mathlib.Core.List.{IsPrefix}
 use Rattle.mx_outside.specs.Disks.{Disk}
 use Rattle.mx_model.specs.Histories.{History, asks_in}
-use Rattle.mx_top.specs.declared.server.Server.{Server}
-use Rattle.mx_top.specs.Units.{InputUnit, UnitHead, content_at, unit_at, unit_by, units_of}
-use Rattle.mx_top.specs.Connections.{asks_by, asks_of, all_asks_of}
-use Rattle.mx_top.specs.Starts.{Start}
+use Rattle.mx_node.specs.declared.single.Single.{Single}
+use Rattle.mx_top.specs.Units.{UnitHead, content_at, unit_at, unit_by, units_of}
+use Rattle.mx_node.specs.Inputs.{InputUnit}
+use Rattle.mx_node.specs.Connections.{asks_by, asks_of, all_asks_of}
+use Rattle.mx_node.specs.Starts.{Start}
 use Rattle.mx_top.specs.Stops.{IsDiskStop}
 use Rattle.mx_top.specs.TraceOutput.{trace_output}
-use Rattle.mx_top.specs.Serving.{Serves, Took}
+use Rattle.mx_node.specs.Serving.{Serves}
+use Rattle.mx_top.specs.Progress.{WritesUnit, StopsAt, ReadTo, Wrote, AnsweredUnits, InterruptedUnits, LastStep, NextStep}
 use Rattle.mx_top.specs.Runs.{place_before, BeginsTrace}
 use Rattle.mx_top.specs.declared.stop.Stop.{Stop}
 use Rattle.mx_top.specs.declared.stop.Stop.TheVariants.{BadInput, ReadFault, WriteFault, DiskFault, NoMemory}
-use Rattle.mx_top.specs.Crashes.{Lasts, BreaksOff}
-use Rattle.mx_top.specs.Progress.{StopsAt, ReadTo, Wrote, Finished, BrokeOff, Ends, GoesOn}
-use Rattle.mx_top.proofs.ConnectionLaws.{all_asks-prefix, asks_of-more}
-use Rattle.mx_top.proofs.KeepLaws.{ready_keeps}
-use Rattle.mx_top.proofs.LastingLaws.{lasts_none, lasts_on, breaks_now, breaks_on, breaks_among}
+use Rattle.mx_node.specs.Interrupted.{IsInterrupted}
+use Rattle.mx_model.specs.Survival.{Lasts}
+use Rattle.mx_node.proofs.ConnectionLaws.{all_asks-prefix, asks_of-more}
+use Rattle.mx_node.proofs.KeepLaws.{ready_keeps}
+use Rattle.mx_node.proofs.LastingLaws.{lasts_none, lasts_on, breaks_now, breaks_on, breaks_among}
 use Rattle.mx_top.proofs.UnitLaws.{unit_some, unit_none, unit_at-nil, units_of-none, units_of-some, units_of-begun}
 
 -- ---- how far the input was read
@@ -54,20 +56,20 @@ pub prefix_all : {X : Type 0} (xs : List X) → IsPrefix xs xs
 prefix_all xs = ([], append-nil xs)
 
 -- the whole output is there
-whole_output : (start : Start) (input before rest : List ℕ) (server : Server) (units : List InputUnit) (old : Option (List ℕ))
+whole_output : (start : Start) (input before rest : List ℕ) (server : Single) (units : List InputUnit) (old : Option (List ℕ))
     (first states : Option (List Disk)) → units_of input ≡ (units, rest) → Wrote start server units before old first states
-    → IsSomeAnd old (λ written. Finished start input before written server first states)
+    → IsSomeAnd old (λ written. AnsweredUnits start input before written server first states)
 whole_output start input before rest server units old first states all wrote =
     let those : (units_of input).0 ≡ units = ap (λ (x : List InputUnit × List ℕ). x.0) all in
-    subst (λ o. IsSomeAnd o (λ written. Finished start input before written server first states)) (sym wrote.written) (record {
+    subst (λ o. IsSomeAnd o (λ written. AnsweredUnits start input before written server first states)) (sym wrote.written) (record {
       history = wrote.history;
       serves = subst (λ (u : List InputUnit). Serves start server u wrote.history states) (sym those) wrote.serves;
       output = ap (λ (u : List InputUnit). before ++ trace_output start u wrote.history) (sym those);
       lasts = wrote.lasts;
     })
 
--- a front of the output is there: all that was written for these units, and a part of that for one more
-abbrev pub begun_trace : (start : Start) (input before written after : List ℕ) (units : List InputUnit) (history : History) (server : Server)
+-- a prefix of the output is there: all that was written for these units, and a part of that for one more
+abbrev pub begun_trace : (start : Start) (input before written after : List ℕ) (units : List InputUnit) (history : History) (server : Single)
     (states : Option (List Disk))
     → Serves start server units history states → IsPrefix units (units_of input).0
     → IsPrefix written (trace_output start units history) → after ≡ before ++ written → BeginsTrace start input before after
@@ -83,21 +85,21 @@ begun_trace start input before written after units history server states serves 
 }
 
 -- the run breaks off where nothing was done with the next unit
-pub untouched_among : (start : Start) (server : Server) (units all : List InputUnit) (history : History) (states : Option (List Disk))
-    → IsPrefix units all → Serves start server units history states → BreaksOff start.base history (all_asks_of all) states states
+pub untouched_among : (start : Start) (server : Single) (units all : List InputUnit) (history : History) (states : Option (List Disk))
+    → IsPrefix units all → Serves start server units history states → IsInterrupted start.base history (all_asks_of all) states states
 untouched_among start server units all history states among serves =
     breaks_now start.base [] history (all_asks_of all) states states serves.ready.behind.stands.legal
     (subst (λ l. IsPrefix l (all_asks_of all)) (sym serves.asks) (all_asks-prefix units all among))
     (lasts_none start.base history states) (ready_keeps start.base history server.engine server.journal states serves.ready)
 
--- where the run broke off behind these units, all of the output for them is there
-so_far_trace : (start : Start) (input before : List ℕ) (server : Server) (units : List InputUnit) (old : Option (List ℕ))
+-- where the run broke off after these units, all of the output for them is there
+so_far_trace : (start : Start) (input before : List ℕ) (server : Single) (units : List InputUnit) (old : Option (List ℕ))
     (first states now : Option (List Disk))
     → IsPrefix units (units_of input).0 → Wrote start server units before old first states
-    → ((history : History) → Serves start server units history states → BreaksOff start.base history (all_asks_of (units_of input).0) states now)
-    → IsSomeAnd old (λ written. BrokeOff start input before written first now)
+    → ((history : History) → Serves start server units history states → IsInterrupted start.base history (all_asks_of (units_of input).0) states now)
+    → IsSomeAnd old (λ written. InterruptedUnits start input before written first now)
 so_far_trace start input before server units old first states now begun wrote breaks =
-    subst (λ o. IsSomeAnd o (λ written. BrokeOff start input before written first now)) (sym wrote.written) (record {
+    subst (λ o. IsSomeAnd o (λ written. InterruptedUnits start input before written first now)) (sym wrote.written) (record {
       trace = begun_trace start input before (trace_output start units wrote.history) (before ++ trace_output start units wrote.history) units
           wrote.history server states wrote.serves begun (prefix_all (trace_output start units wrote.history)) refl;
       breaks = breaks_on start.base [] wrote.history (all_asks_of (units_of input).0) first states now wrote.lasts (breaks wrote.history wrote.serves);
@@ -110,10 +112,10 @@ fault_at input [] place some at = absurd (omega arith)
 fault_at input (byte ∷ rest) place some at = let here : length input - length (byte ∷ rest) ≡ place = omega arith in ap (λ n. Some n) here
 
 -- nothing is left
-pub ends_well : (input rest more : List ℕ) (place : ℕ) (server : Server) (units : List InputUnit) (old : Option (List ℕ))
+pub ends_well : (input rest more : List ℕ) (place : ℕ) (server : Single) (units : List InputUnit) (old : Option (List ℕ))
     (states : Option (List Disk)) (waiting : List ℕ)
     → ReadTo input rest place units → rest ≡ waiting ++ more → waiting ++ more ≡ []
-    → Ends (Ok tt) input (Some more) server server units old old states states
+    → LastStep (Ok tt) input (Some more) server server units old old states states
 ends_well input rest more place server units old states waiting read same none =
     let gone : rest ≡ [] = same ∙ none in
     let all : units_of input ≡ (units, []) =
@@ -127,9 +129,9 @@ ends_well input rest more place server units old states waiting read same none =
     }
 
 -- what is left begins with no unit
-ends_malformed : (input rest : List ℕ) (left : Option (List ℕ)) (place : ℕ) (server : Server) (units : List InputUnit)
+ends_malformed : (input rest : List ℕ) (left : Option (List ℕ)) (place : ℕ) (server : Single) (units : List InputUnit)
     (old : Option (List ℕ)) (states : Option (List Disk)) → ReadTo input rest place units → 0 < length rest → content_at place rest ≡ None
-    → Ends (Err (BadInput place)) input left server server units old old states states
+    → LastStep (Err (BadInput place)) input left server server units old old states states
 ends_malformed input rest left place server units old states read some none =
     let all = all_read input rest place units read none in
     record {
@@ -146,20 +148,20 @@ IsQuiet DiskFault = ⊥
 IsQuiet NoMemory = ⊤
 
 -- where nothing was done with the next unit
-ends_read : (input rest : List ℕ) (place : ℕ) (server : Server) (units : List InputUnit) (old left : Option (List ℕ)) (states : Option (List Disk))
-    (stop : Stop) → IsQuiet stop → ReadTo input rest place units → Ends (Err stop) input left server server units old old states states
+ends_read : (input rest : List ℕ) (place : ℕ) (server : Single) (units : List InputUnit) (old left : Option (List ℕ)) (states : Option (List Disk))
+    (stop : Stop) → IsQuiet stop → ReadTo input rest place units → LastStep (Err stop) input left server server units old old states states
 ends_read input rest place server units old left states stop quiet read = by_stop stop quiet
   where
     begun : IsPrefix units (units_of input).0
     begun = begun_so_far input rest place units read
 
     output : (start : Start) (before : List ℕ) (first : Option (List Disk)) → Wrote start server units before old first states
-        → IsSomeAnd old (λ written. BrokeOff start input before written first states)
+        → IsSomeAnd old (λ written. InterruptedUnits start input before written first states)
     output start before first wrote =
         so_far_trace start input before server units old first states states begun wrote
         (λ history serves. untouched_among start server units (units_of input).0 history states begun serves)
 
-    by_stop : (stop : Stop) → IsQuiet stop → Ends (Err stop) input left server server units old old states states
+    by_stop : (stop : Stop) → IsQuiet stop → LastStep (Err stop) input left server server units old old states states
     by_stop (BadInput at) quiet = absurd quiet
     by_stop ReadFault quiet = record { place = tt; output = output }
     by_stop WriteFault quiet = absurd quiet
@@ -167,14 +169,14 @@ ends_read input rest place server units old left states stop quiet read = by_sto
     by_stop NoMemory quiet = record { place = tt; output = output }
 
 -- reading the next unit stopped the run
-pub ends_stopped : (input rest waiting more : List ℕ) (place : ℕ) (server : Server) (units : List InputUnit) (old : Option (List ℕ))
+pub ends_stopped : (input rest waiting more : List ℕ) (place : ℕ) (server : Single) (units : List InputUnit) (old : Option (List ℕ))
     (states : Option (List Disk)) (stop : Stop)
     → ReadTo input rest place units → rest ≡ waiting ++ more → StopsAt place (waiting ++ more) stop
-    → Ends (Err stop) input (Some more) server server units old old states states
+    → LastStep (Err stop) input (Some more) server server units old old states states
 ends_stopped input rest waiting more place server units old states (BadInput at) read same (here, none, some) =
     let long = ap length same in
     let some' : 0 < length rest = omega arith in
-    subst (λ p. Ends (Err (BadInput p)) input (Some more) server server units old old states states) (sym here)
+    subst (λ p. LastStep (Err (BadInput p)) input (Some more) server server units old old states states) (sym here)
     (ends_malformed input rest (Some more) place server units old states read some' (ap (content_at place) same ∙ none))
 ends_stopped input rest waiting more place server units old states ReadFault read same stops = ends_read input rest place server units old (Some more) states ReadFault tt read
 ends_stopped input rest waiting more place server units old states WriteFault read same stops = absurd stops
@@ -183,32 +185,32 @@ ends_stopped input rest waiting more place server units old states NoMemory read
 
 -- ---- the next unit
 
--- the unit by other names of its bytes and of the bytes behind it
+-- the unit by other names of its bytes and of the bytes after it
 pub same_unit : (place : ℕ) (bytes content part behind after : List ℕ) (head : UnitHead) → content_at place bytes ≡ Some (unit_by head content, behind)
     → part ≡ content → after ≡ behind → content_at place bytes ≡ Some (unit_by head part, after)
 same_unit place bytes content part behind after head found same rest =
     found ∙ ap (λ (l : List ℕ). Some (unit_by head l, behind)) (sym same) ∙ ap (λ (l : List ℕ). Some (unit_by head part, l)) (sym rest)
 
 -- answering it stopped the run
-pub ends_unanswered : (input rest waiting more behind : List ℕ) (unit : InputUnit) (place : ℕ) (server after : Server) (units : List InputUnit)
+pub ends_unanswered : (input rest waiting more behind : List ℕ) (unit : InputUnit) (place : ℕ) (server after : Single) (units : List InputUnit)
     (old : Option (List ℕ)) (states now : Option (List Disk))
     (stop : Stop) → ReadTo input rest place units → rest ≡ waiting ++ more → content_at place (waiting ++ more) ≡ Some (unit, behind) → IsDiskStop stop
     → ((start : Start) (history : History) → Serves start server units history states
-    → BreaksOff start.base history (asks_of units ++ asks_by units unit) states now)
-    → Ends (Err stop) input (Some more) server after units old old states now
+    → IsInterrupted start.base history (asks_of units ++ asks_by units unit) states now)
+    → LastStep (Err stop) input (Some more) server after units old old states now
 ends_unanswered input rest waiting more behind unit place server after units old states now stop read same found stops breaks = by_stop stop stops
   where
     next : IsPrefix (units ++ unit ∷ []) (units_of input).0
     next = begun_with input rest behind place units unit read (ap (content_at place) same ∙ found)
 
     output : (start : Start) (before : List ℕ) (first : Option (List Disk)) → Wrote start server units before old first states
-        → IsSomeAnd old (λ written. BrokeOff start input before written first now)
+        → IsSomeAnd old (λ written. InterruptedUnits start input before written first now)
     output start before first wrote =
         so_far_trace start input before server units old first states now (begun_so_far input rest place units read) wrote
         (λ history serves. breaks_among start.base history (asks_of units ++ asks_by units unit) (all_asks_of (units_of input).0) states now
         (asks_of-more units unit (units_of input).0 next) (breaks start history serves))
 
-    by_stop : (stop : Stop) → IsDiskStop stop → Ends (Err stop) input (Some more) server after units old old states now
+    by_stop : (stop : Stop) → IsDiskStop stop → LastStep (Err stop) input (Some more) server after units old old states now
     by_stop (BadInput at) stops = absurd stops
     by_stop ReadFault stops = absurd stops
     by_stop WriteFault stops = absurd stops
@@ -216,20 +218,20 @@ ends_unanswered input rest waiting more behind unit place server after units old
     by_stop NoMemory stops = record { place = tt; output = output }
 
 -- all commits last, where one unit more was answered
-lasts_took : {after : Server} {units : List InputUnit} {unit : InputUnit} (start : Start) (history : History) (first states now : Option (List Disk)) (out : List ℕ)
-    → Lasts start.base history first states → (step : Took start after units history unit out states now) → Lasts start.base step.history first now
+lasts_took : {after : Single} {units : List InputUnit} {unit : InputUnit} (start : Start) (history : History) (first states now : Option (List Disk)) (out : List ℕ)
+    → Lasts start.base history first states → (step : WritesUnit start after units history unit out states now) → Lasts start.base step.history first now
 lasts_took start history first states now out lasts step =
     let since = step.since in
     subst (λ h. Lasts start.base h first now) (sym since.1)
     (lasts_on start.base since.0 history first states now lasts (subst (λ h. Lasts start.base h states now) since.1 step.lasts))
 
 -- it was answered, and its output was written in part
-pub ends_unwritten : (input rest waiting more behind out : List ℕ) (unit : InputUnit) (place : ℕ) (server after : Server) (units : List InputUnit)
+pub ends_unwritten : (input rest waiting more behind out : List ℕ) (unit : InputUnit) (place : ℕ) (server after : Single) (units : List InputUnit)
     (old new : Option (List ℕ)) (states now : Option (List Disk))
     → ReadTo input rest place units → rest ≡ waiting ++ more → content_at place (waiting ++ more) ≡ Some (unit, behind)
-    → ((start : Start) (history : History) → Serves start server units history states → Took start after units history unit out states now)
+    → ((start : Start) (history : History) → Serves start server units history states → WritesUnit start after units history unit out states now)
     → ((before : List ℕ) → old ≡ Some before → (written : List ℕ) × (new ≡ Some (before ++ written)) × IsPrefix written out)
-    → Ends (Err WriteFault) input (Some more) server after units old new states now
+    → LastStep (Err WriteFault) input (Some more) server after units old new states now
 ends_unwritten input rest waiting more behind out unit place server after units old new states now read same found took part = record {
   place = tt;
   output = λ start before first wrote.
@@ -240,7 +242,7 @@ ends_unwritten input rest waiting more behind out unit place server after units 
       let wrote_part = part (before ++ sent) wrote.written in
       let front : IsPrefix (sent ++ wrote_part.0) (trace_output start (units ++ unit ∷ []) step.history) =
       (wrote_part.2.0, append_assoc sent wrote_part.0 wrote_part.2.0 ∙ ap (λ l. sent ++ l) wrote_part.2.1 ∙ sym step.grows) in
-      subst (λ o. IsSomeAnd o (λ written. BrokeOff start input before written first now))
+      subst (λ o. IsSomeAnd o (λ written. InterruptedUnits start input before written first now))
       (sym (wrote_part.1 ∙ ap (λ l. Some l) (append_assoc before sent wrote_part.0))) (record {
         trace = begun_trace start input before (sent ++ wrote_part.0) (before ++ (sent ++ wrote_part.0)) (units ++ unit ∷ []) step.history
             after now step.serves begun front refl;
@@ -250,13 +252,13 @@ ends_unwritten input rest waiting more behind out unit place server after units 
 }
 
 -- it was answered, and all of its output was written
-pub goes_on : (input rest waiting more behind out : List ℕ) (unit : InputUnit) (place next : ℕ) (server after : Server) (units : List InputUnit)
+pub goes_on : (input rest waiting more behind out : List ℕ) (unit : InputUnit) (place next : ℕ) (server after : Single) (units : List InputUnit)
     (old new : Option (List ℕ)) (states now : Option (List Disk))
     → ReadTo input rest place units → rest ≡ waiting ++ more → content_at place (waiting ++ more) ≡ Some (unit, behind)
     → next + length behind ≡ place + length rest
-    → ((start : Start) (history : History) → Serves start server units history states → Took start after units history unit out states now)
+    → ((start : Start) (history : History) → Serves start server units history states → WritesUnit start after units history unit out states now)
     → ((before : List ℕ) → old ≡ Some before → new ≡ Some (before ++ out))
-    → GoesOn input behind next server after units old new states now
+    → NextStep input behind next server after units old new states now
 goes_on input rest waiting more behind out unit place next server after units old new states now read same found moved took all = record {
   unit = unit;
   read = read_on input rest behind place next units unit read (ap (content_at place) same ∙ found) moved;

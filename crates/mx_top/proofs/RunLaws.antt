@@ -3,39 +3,41 @@ use Rattle.std.proofs.Common.{◌≡◌, ℕ, List, [], ◌∷◌, ◌++◌, len
 use Rattle.std.specs.Prelude.{Option, Some, None, IsSomeAnd}
 use Rattle.std.proofs.lemmas.List.{append-nil}
 use mathlib.Core.List.{IsPrefix}
-use Rattle.mx_outside.specs.Disks.{Disk, IfTold, ToldAlike}
+use Rattle.mx_outside.specs.Disks.{Disk, IfKnown, KnownAlike}
 use Rattle.mx_outside.specs.Moments.{Moments}
-use Rattle.mx_model.specs.declared.tx.Tx.{Tx}
+use Rattle.mx_row.specs.declared.tx.Tx.{Tx}
 use Rattle.mx_model.specs.State.{first_state}
-use Rattle.mx_model.specs.Files.{AllFollow, Reached, nothing_yet}
+use Rattle.mx_model.specs.Directories.{AllFollow, Reached, nothing_yet}
 use Rattle.mx_model.specs.Histories.{Base, History, IsLegal, journal_of}
-use Rattle.mx_model.specs.Transactions.{clock_after}
+use Rattle.mx_row.specs.Clocks.{clock_after}
 use Rattle.mx_model.proofs.CommitLaws.{all_follow-append, commits_follow}
 use Rattle.mx_model.proofs.OnceLaws.{one_state}
-use Rattle.mx_journal.proofs.MomentLaws.{no_moments, joined}
-use Rattle.mx_journal.proofs.ToldLaws.{told_chain, told_then, where_told}
+use Rattle.mx_images.proofs.MomentLaws.{no_moments, joined}
+use Rattle.mx_images.proofs.ToldLaws.{told_chain, told_then, where_told}
 use Rattle.mx_top.specs.Units.{units_of}
-use Rattle.mx_top.specs.Connections.{all_asks_of}
-use Rattle.mx_top.specs.Starts.{Start, Begins, base_of}
-use Rattle.mx_top.specs.Crashes.{Survive, NoFewerSurvive, FollowFromNew, Recovers, ComeTo, Extend, Lasts, Keep}
-use Rattle.mx_top.specs.Progress.{BrokeOff}
+use Rattle.mx_node.specs.Connections.{all_asks_of}
+use Rattle.mx_node.specs.Starts.{Start, base_of}
+use Rattle.mx_top.specs.Starts.{Begins, first_ids}
+use Rattle.mx_node.specs.Interrupted.{StepsSurvive}
+use Rattle.mx_model.specs.Survival.{Survive, NoFewerSurvive, FollowFromNew, Recovers, ComeTo, Extend, Lasts}
+use Rattle.mx_top.specs.Progress.{InterruptedUnits}
 use Rattle.mx_top.specs.Runs.{CrashSeen, GateSeen}
 
 -- what an opening does, told for all that may be committed after it
 abbrev pub Opens : List Tx → (old new : Option (List Disk)) → Type 0
 Opens earlier old new = (transactions : List Tx) → IsPrefix earlier transactions → FollowFromNew transactions
-    → IfTold old (λ disk past. Moments (Survive transactions 0) (NoFewerSurvive transactions) new disk past)
+    → IfKnown old (λ disk past. Moments (Survive transactions 0) (NoFewerSurvive transactions) new disk past)
 
 abbrev begun_at : List ℕ → Reached → Start
-begun_at seed reached = record { seed = seed; base = base_of seed reached }
+begun_at seed reached = record { salt = seed; base = base_of (first_ids seed) reached }
 
 -- what a run begins with
 start_of : (seed : List ℕ) (earlier : List Tx) (states : Option (List Disk)) → Recovers earlier states → (start : Start) × Begins start seed states
-start_of seed earlier None recovers = (begun_at seed nothing_yet, record { seeded = refl; based = tt })
-start_of seed earlier (Some []) recovers = (begun_at seed nothing_yet, record { seeded = refl; based = tt })
+start_of seed earlier None recovers = (begun_at seed nothing_yet, record { salted = refl; based = tt })
+start_of seed earlier (Some []) recovers = (begun_at seed nothing_yet, record { salted = refl; based = tt })
 start_of seed earlier (Some (disk ∷ past)) recovers =
     let reached = recovers.told.0.reached in
-    (begun_at seed reached, record { seeded = refl; based = (reached, recovers.told.0.stands, refl) })
+    (begun_at seed reached, record { salted = refl; based = (reached, recovers.told.0.stands, refl) })
 
 -- the transactions of a directory came to what the run begins with
 comes : (start : Start) (seed : List ℕ) (earlier : List Tx) (disk : Disk) (past : List Disk) → Begins start seed (Some (disk ∷ past))
@@ -64,7 +66,7 @@ extends : (earlier : List Tx) (base : Base) (history : History) → ComeTo earli
 extends earlier base history come follow legal = record {
   earlier = earlier;
   comes = come;
-  front = ([], append-nil (earlier ++ journal_of base history));
+  prefix = ([], append-nil (earlier ++ journal_of base history));
   follow = follow_all earlier base history come follow legal;
 }
 
@@ -91,7 +93,7 @@ some_and None P is = absurd is
 some_and (Some x) P is = (x, refl, is)
 
 broke_seen : (start : Start) (seed input before after : List ℕ) (earlier : List Tx) (old middle new : Option (List Disk)) → Begins start seed old
-    → Recovers earlier old → Opens earlier old middle → BrokeOff start input before after middle new → CrashSeen seed input earlier old new
+    → Recovers earlier old → Opens earlier old middle → InterruptedUnits start input before after middle new → CrashSeen seed input earlier old new
 broke_seen start seed input before after earlier old middle new begins recovers opens broke =
     let b = broke.breaks in
     let history = b.later ++ (b.more ++ broke.trace.history) in
@@ -109,7 +111,7 @@ broke_seen start seed input before after earlier old middle new begins recovers 
   where
     moments : (old : Option (List Disk)) → Begins start seed old → Recovers earlier old → Opens earlier old middle → (history : History)
         → IsLegal start.base history → Lasts start.base history middle new
-        → IfTold old (λ disk past. Moments (Survive (earlier ++ journal_of start.base history) 0)
+        → IfKnown old (λ disk past. Moments (Survive (earlier ++ journal_of start.base history) 0)
         (NoFewerSurvive (earlier ++ journal_of start.base history)) new disk past)
     moments None begins recovers opens history legal lasts = tt
     moments (Some []) begins recovers opens history legal lasts = tt
@@ -121,9 +123,9 @@ broke_seen start seed input before after earlier old middle new begins recovers 
 
 pub crash_seen : (start : Start) (seed input before : List ℕ) (contents : Option (List ℕ)) (earlier : List Tx) (old middle new : Option (List Disk))
     → Begins start seed old → Recovers earlier old → Opens earlier old middle
-    → IsSomeAnd contents (λ after. BrokeOff start input before after middle new) → CrashSeen seed input earlier old new
+    → IsSomeAnd contents (λ after. InterruptedUnits start input before after middle new) → CrashSeen seed input earlier old new
 crash_seen start seed input before contents earlier old middle new begins recovers opens broke =
-    let (after, is, broke) = some_and contents (λ after. BrokeOff start input before after middle new) broke in
+    let (after, is, broke) = some_and contents (λ after. InterruptedUnits start input before after middle new) broke in
     broke_seen start seed input before after earlier old middle new begins recovers opens broke
 
 -- the directory was left as it was
@@ -136,8 +138,8 @@ unchanged_seen seed input earlier states recovers =
 -- ---- at the end
 
 pub gate_seen : (start : Start) (seed input before : List ℕ) (contents : Option (List ℕ)) (earlier : List Tx) (old middle new : Option (List Disk))
-    → Begins start seed old → Recovers earlier old → ToldAlike old middle
-    → IsSomeAnd contents (λ after. BrokeOff start input before after middle new)
+    → Begins start seed old → Recovers earlier old → KnownAlike old middle
+    → IsSomeAnd contents (λ after. InterruptedUnits start input before after middle new)
     → IsSomeAnd contents (λ after. GateSeen seed input before after earlier old new)
 unfolding comes extends
 gate_seen start seed input before None earlier old middle new begins recovers alike broke = broke
@@ -155,9 +157,9 @@ gate_seen start seed input before (Some after) earlier old middle new begins rec
       keep = keep old begins recovers alike (b.later ++ (b.more ++ broke.trace.history)) (b.more ++ broke.trace.history) b.legal b.lasts b.keep;
     })
   where
-    keep : (old : Option (List Disk)) → Begins start seed old → Recovers earlier old → ToldAlike old middle → (history first : History)
-        → IsLegal start.base history → Lasts start.base history middle new → Keep start.base history first new
-        → IfTold new (λ disk past. Survive (earlier ++ journal_of start.base history) (length (earlier ++ journal_of start.base first)) disk)
+    keep : (old : Option (List Disk)) → Begins start seed old → Recovers earlier old → KnownAlike old middle → (history first : History)
+        → IsLegal start.base history → Lasts start.base history middle new → StepsSurvive start.base history first new
+        → IfKnown new (λ disk past. Survive (earlier ++ journal_of start.base history) (length (earlier ++ journal_of start.base first)) disk)
     keep old begins recovers alike history first legal lasts kept =
         told_then old new (λ disk past. Survive (earlier ++ journal_of start.base history) (length (earlier ++ journal_of start.base first)) disk)
         (told_chain old middle new alike lasts.told)

@@ -6,7 +6,8 @@ use Rattle.mx_model.specs.declared.damage.Damage.{Damage}
 use Rattle.mx_top.specs.declared.status.Status.TheVariants as status
 use Rattle.mx_top.specs.declared.stop.Stop.{Stop}
 use Rattle.mx_top.specs.declared.stop.Stop.TheVariants.{BadInput, ReadFault, WriteFault, DiskFault, NoMemory}
-use Rattle.mx_top.specs.Starts.{Start, Begins}
+use Rattle.mx_node.specs.Starts.{Start}
+use Rattle.mx_top.specs.Starts.{Begins}
 use Rattle.mx_top.specs.Runs.{OutputSeen}
 use Rattle.mx_top.specs.Progress.{RunSeen, status_of}
 

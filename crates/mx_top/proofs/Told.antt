@@ -1,24 +1,24 @@
 -- How far a run has come, where the input tells what it has left.
-use Rattle.std.proofs.Common.{◌≡◌, ℕ, List, [], ◌++◌, Some, get_or, slice_set, refl, sym, ap, ◌∙◌, subst, arith, ◌∷◌}
+use Rattle.std.proofs.Common.{◌≡◌, ℕ, List, [], ◌++◌, Some, get_or, slice_set, refl, sym, ap, ◌∙◌, subst, arith, ◌∷◌, inl, inr}
 use Rattle.std.specs.Prelude.{◌⊎◌, Option, IsSomeAnd}
-use Rattle.std.proofs.Common.{inl, inr}
 use Rattle.std.proofs.lemmas.List.{append-nil}
 use Rattle.mx_outside.specs.Disks.{Disk}
 use Rattle.mx_model.specs.declared.damage.Damage.{Damage}
-use Rattle.mx_top.specs.declared.server.Server.{Server}
-use Rattle.mx_top.specs.Units.{InputUnit, units_of}
-use Rattle.mx_top.specs.Serving.{Serves}
-use Rattle.mx_top.specs.Starts.{Start}
+use Rattle.mx_node.specs.declared.single.Single.{Single}
+use Rattle.mx_top.specs.Units.{units_of}
+use Rattle.mx_node.specs.Inputs.{InputUnit}
+use Rattle.mx_node.specs.Serving.{Serves}
+use Rattle.mx_node.specs.Starts.{Start}
 use Rattle.mx_top.specs.declared.status.Status.{Status}
 use Rattle.mx_top.specs.declared.status.Status.TheVariants as status
 use Rattle.mx_top.specs.Runs.{PlaceSeen, fault_place, status_by}
-use Rattle.mx_top.specs.Progress.{ReadTo, Wrote, BrokeOff, GoesOn}
-use Rattle.mx_top.proofs.LastingLaws.{lasts_none}
+use Rattle.mx_top.specs.Progress.{ReadTo, Wrote, InterruptedUnits, NextStep}
+use Rattle.mx_node.proofs.LastingLaws.{lasts_none}
 use Rattle.mx_top.proofs.ProgressLaws.{untouched_among}
 
 -- The input was read up to this place; and where the server had served nothing first, all of the output for the units read
 -- was written.
-pub record HasRead (input : List ℕ) (left : Option (List ℕ)) (waiting : List ℕ) (place : ℕ) (first server : Server) (old new : Option (List ℕ))
+pub record HasRead (input : List ℕ) (left : Option (List ℕ)) (waiting : List ℕ) (place : ℕ) (first server : Single) (old new : Option (List ℕ))
     (states now : Option (List Disk)) : Type 0 where
   pub rest : List ℕ
   pub left_is : left ≡ Some rest
@@ -27,7 +27,7 @@ pub record HasRead (input : List ℕ) (left : Option (List ℕ)) (waiting : List
   pub wrote : (start : Start) (before : List ℕ) → Serves start first [] [] states → old ≡ Some before → Wrote start server units before new states now
 
 -- nothing was read or written yet
-pub has_read_nothing : (input waiting : List ℕ) (left : Option (List ℕ)) (server : Server) (old : Option (List ℕ)) (states : Option (List Disk))
+pub has_read_nothing : (input waiting : List ℕ) (left : Option (List ℕ)) (server : Single) (old : Option (List ℕ)) (states : Option (List Disk))
     → left ≡ Some input → waiting ≡ []
     → HasRead input left waiting 0 server server old old states states
 unfolding units_of
@@ -47,10 +47,10 @@ has_read_nothing input waiting left server old states told none =
     }
 
 -- one unit more
-pub has_read_more : (input waiting rest : List ℕ) (left : Option (List ℕ)) (next : ℕ) (first server after : Server) (units : List InputUnit)
+pub has_read_more : (input waiting rest : List ℕ) (left : Option (List ℕ)) (next : ℕ) (first server after : Single) (units : List InputUnit)
     (old middle new : Option (List ℕ))
     (states between now : Option (List Disk))
-    → left ≡ Some rest → GoesOn input (waiting ++ rest) next server after units middle new between now
+    → left ≡ Some rest → NextStep input (waiting ++ rest) next server after units middle new between now
     → ((start : Start) (before : List ℕ) → Serves start first [] [] states → old ≡ Some before → Wrote start server units before middle states between)
     → HasRead input left waiting next first after old new states now
 has_read_more input waiting rest left next first server after units old middle new states between now told on wrote = record {
@@ -62,10 +62,10 @@ has_read_more input waiting rest left next first server after units old middle n
 }
 
 -- nothing was written or done
-pub begins_nothing : (start : Start) (input before : List ℕ) (server : Server) (old : Option (List ℕ)) (states : Option (List Disk))
-    → Serves start server [] [] states → old ≡ Some before → IsSomeAnd old (λ written. BrokeOff start input before written states states)
+pub begins_nothing : (start : Start) (input before : List ℕ) (server : Single) (old : Option (List ℕ)) (states : Option (List Disk))
+    → Serves start server [] [] states → old ≡ Some before → IsSomeAnd old (λ written. InterruptedUnits start input before written states states)
 begins_nothing start input before server old states serves was =
-    subst (λ o. IsSomeAnd o (λ written. BrokeOff start input before written states states)) (sym was) (record {
+    subst (λ o. IsSomeAnd o (λ written. InterruptedUnits start input before written states states)) (sym was) (record {
       trace = record {
         units = [];
         begun = ((units_of input).0, refl);
@@ -79,7 +79,7 @@ begins_nothing start input before server old states serves was =
       breaks = untouched_among start server [] (units_of input).0 [] states ((units_of input).0, refl) serves;
     })
 
--- a run that no fault ended has the status that its input demands, or memory was missing, or the directory stands for nothing
+-- a run that no fault ended has the status that its input demands, or memory ran out, or the directory is corrupt or inconsistent
 pub completes : (ended : Status) (input : List ℕ) (left : Option (List ℕ)) → PlaceSeen ended input left → (ended ≡ status.BadWords → ⊥)
     → (ended ≡ status.ReadFault → ⊥) → (ended ≡ status.WriteFault → ⊥) → (ended ≡ status.DiskFault → ⊥)
     → (ended ≡ status_by (fault_place input)) ⊎ (ended ≡ status.NoMemory) ⊎ ((damage : Damage) × (ended ≡ status.Damaged damage))

@@ -8,7 +8,8 @@ use Rattle.mx_msgpack.specs.Readers.{Advances, all_from, number_at, bytes_at}
 use Rattle.mx_msgpack.proofs.Options.{bind_some, allowed, same_some}
 use Rattle.mx_msgpack.proofs.PieceLaws.{number_rest, bytes_at-shorter}
 use Rattle.mx_msgpack.proofs.ReaderLaws.{all_from_none, all_from_some}
-use Rattle.mx_top.specs.Units.{InputUnit, max_connection, max_unit_size, max_offset, UnitHead, is_unit_kind, is_within, unit_head_at, unit_by, content_at, unit_at, units_of}
+use Rattle.mx_top.specs.Units.{max_unit_size, max_offset, UnitHead, is_unit_kind, is_within, unit_head_at, unit_by, content_at, unit_at, units_of}
+use Rattle.mx_node.specs.Inputs.{InputUnit, max_connection}
 
 -- ---- what stands first
 

@@ -13,7 +13,7 @@ waiting-consume start end count items within =
     ∙ drop-take count (end - (start + count)) (drop start items)
     ∙ ap (λ l. take (end - (start + count)) l) (drop-drop count start items))
 
--- they stay where the buffer keeps its front
+-- they stay where the buffer keeps its start
 waiting-kept : (start end : ℕ) (old new : List ℕ) → take end new ≡ take end old
     → take (end - start) (drop start new) ≡ take (end - start) (drop start old)
 waiting-kept start end old new kept = between_is new start end ∙ ap (drop start) kept ∙ sym (between_is old start end)

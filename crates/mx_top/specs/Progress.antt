@@ -1,28 +1,28 @@
--- How far a run has come, in its input and in its output.
-use Rattle.std.specs.Prelude.{◌≡◌, ⊤, ℕ, ◌+◌, ◌<◌, List, [], ◌∷◌, ◌++◌, length, Option, Some, None, Result, Ok, Err, IsSomeAnd}
+-- Only private functions and proofs need these: how far a run has come, in its input and in its output.
+use Rattle.std.specs.Prelude.{◌≡◌, ℕ, ◌+◌, ◌<◌, List, [], ◌∷◌, ◌++◌, length, Option, Some, None, Result, Ok, Err, IsSomeAnd}
 use Rattle.mx_msgpack.specs.Readers.{all_from}
-use Rattle.mx_outside.specs.Disks.{Disk, IfTold}
+use Rattle.mx_outside.specs.Disks.{Disk, IfKnown}
 use Rattle.mx_model.specs.Histories.{History}
-use Rattle.mx_top.specs.declared.server.Server.{Server}
+use Rattle.mx_node.specs.declared.single.Single.{Single}
 use Rattle.mx_top.specs.declared.status.Status.{Status}
 use Rattle.mx_top.specs.declared.status.Status.TheVariants as status
+use Rattle.mx_top.specs.Stops.{IsReadStop}
 use Rattle.mx_top.specs.declared.stop.Stop.{Stop}
 use Rattle.mx_top.specs.declared.stop.Stop.TheVariants.{BadInput, ReadFault, WriteFault, DiskFault, NoMemory}
-use Rattle.mx_top.specs.Units.{InputUnit, content_at, unit_at, units_of}
-use Rattle.mx_top.specs.Connections.{all_asks_of}
+use Rattle.mx_top.specs.Units.{content_at, unit_at, units_of}
+use Rattle.mx_node.specs.Inputs.{InputUnit}
+use Rattle.mx_node.specs.Connections.{all_asks_of}
 use Rattle.mx_top.specs.TraceOutput.{trace_output}
-use Rattle.mx_top.specs.Serving.{Serves}
-use Rattle.mx_top.specs.Starts.{Start}
-use Rattle.mx_top.specs.Crashes.{Lasts, BreaksOff}
-use Rattle.mx_top.specs.Runs.{IsTrace, BeginsTrace, Keeps, PlaceSeen}
+use Rattle.mx_node.specs.Serving.{Serves, DirectoryHolds}
+use Rattle.mx_node.specs.Starts.{Start}
+use Rattle.mx_node.specs.Interrupted.{IsInterrupted}
+use Rattle.mx_model.specs.Survival.{Lasts}
+use Rattle.mx_top.specs.Runs.{IsTrace, BeginsTrace, PlaceSeen}
 
 -- what stops a run where a unit stands at this place in the bytes that are left
 abbrev pub StopsAt : (place : ℕ) → (bytes : List ℕ) → Stop → Type 0
 StopsAt place bytes (BadInput at) = (at ≡ place) × (content_at place bytes ≡ None) × (0 < length bytes)
-StopsAt place bytes ReadFault = ⊤
-StopsAt place bytes WriteFault = ⊥
-StopsAt place bytes DiskFault = ⊥
-StopsAt place bytes NoMemory = ⊤
+StopsAt place bytes stop = IsReadStop stop
 
 abbrev pub after_units : List InputUnit → List InputUnit × List ℕ → List InputUnit × List ℕ
 after_units units others = (units ++ others.0, others.1)
@@ -46,57 +46,59 @@ status_of (Ok done) = status.Ok
 status_of (Err stop) = status_of_stop stop
 
 -- these units were answered, and all of the output for them was written, since the directory had its first states
-pub record Wrote (start : Start) (server : Server) (units : List InputUnit) (before : List ℕ) (contents : Option (List ℕ)) (first states : Option (List Disk)) : Type 0 where
+pub record Wrote (start : Start) (server : Single) (units : List InputUnit) (before : List ℕ) (contents : Option (List ℕ)) (first states : Option (List Disk)) : Type 0 where
   pub history : History
   pub serves : Serves start server units history states
   pub written : contents ≡ Some (before ++ trace_output start units history)
   pub lasts : Lasts start.base history first states
 
 -- all of the input's units were answered, and all of the output was written
-pub record Finished (start : Start) (input before after : List ℕ) (server : Server) (first states : Option (List Disk)) : Type 0 where
+pub record AnsweredUnits (start : Start) (input before after : List ℕ) (server : Single) (first states : Option (List Disk)) : Type 0 where
   pub history : History
   pub serves : Serves start server (units_of input).0 history states
   pub output : after ≡ before ++ trace_output start (units_of input).0 history
   pub lasts : Lasts start.base history first states
 
 -- the run broke off: what was written, and what the directory keeps
-pub record BrokeOff (start : Start) (input before after : List ℕ) (first states : Option (List Disk)) : Type 0 where
+pub record InterruptedUnits (start : Start) (input before after : List ℕ) (first states : Option (List Disk)) : Type 0 where
   pub trace : BeginsTrace start input before after
-  pub breaks : BreaksOff start.base trace.history (all_asks_of (units_of input).0) first states
+  pub breaks : IsInterrupted start.base trace.history (all_asks_of (units_of input).0) first states
 
 -- what the end of the units, or the cause that stopped the run among them, says of the output and of the directory
-abbrev pub EndSeen : Result (Unit {0}) Stop → (start : Start) → (input before after : List ℕ) → (server : Server) → (first states : Option (List Disk)) → Type 0
-EndSeen (Ok done) start input before after server first states = Finished start input before after server first states
-EndSeen (Err (BadInput at)) start input before after server first states = Finished start input before after server first states
-EndSeen (Err ReadFault) start input before after server first states = BrokeOff start input before after first states
-EndSeen (Err WriteFault) start input before after server first states = BrokeOff start input before after first states
-EndSeen (Err DiskFault) start input before after server first states = BrokeOff start input before after first states
-EndSeen (Err NoMemory) start input before after server first states = BrokeOff start input before after first states
+abbrev pub EndSeen : Result (Unit {0}) Stop → (start : Start) → (input before after : List ℕ) → (server : Single) → (first states : Option (List Disk)) → Type 0
+EndSeen (Ok done) start input before after server first states = AnsweredUnits start input before after server first states
+EndSeen (Err (BadInput at)) start input before after server first states = AnsweredUnits start input before after server first states
+EndSeen (Err _) start input before after server first states = InterruptedUnits start input before after first states
 
 -- all of the input's units were answered, all of the output was written, and the directory keeps what was committed
-pub record Completed (start : Start) (input before after : List ℕ) (states : Option (List Disk)) : Type 0 where
+pub record CompleteUnits (start : Start) (input before after : List ℕ) (states : Option (List Disk)) : Type 0 where
   pub history : History
   pub trace : IsTrace start history input before after
-  pub keeps : IfTold states (λ disk past. Keeps start.base history disk)
+  pub keeps : IfKnown states (λ disk past. DirectoryHolds start.base history disk)
 
 -- the same once the journal is ended in order
 abbrev pub RunSeen : Result (Unit {0}) Stop → (start : Start) → (input before after : List ℕ) → (states : Option (List Disk)) → Type 0
-RunSeen (Ok done) start input before after states = Completed start input before after states
-RunSeen (Err (BadInput at)) start input before after states = Completed start input before after states
-RunSeen (Err ReadFault) start input before after states = BeginsTrace start input before after
-RunSeen (Err WriteFault) start input before after states = BeginsTrace start input before after
-RunSeen (Err DiskFault) start input before after states = BeginsTrace start input before after
-RunSeen (Err NoMemory) start input before after states = BeginsTrace start input before after
+RunSeen (Ok done) start input before after states = CompleteUnits start input before after states
+RunSeen (Err (BadInput at)) start input before after states = CompleteUnits start input before after states
+RunSeen (Err _) start input before after states = BeginsTrace start input before after
 
 -- the units ended so: what this says of the input, and where all of the output for these units was written, what it says of the output
-pub record Ends (ended : Result (Unit {0}) Stop) (input : List ℕ) (left : Option (List ℕ)) (server after : Server) (units : List InputUnit)
+pub record LastStep (ended : Result (Unit {0}) Stop) (input : List ℕ) (left : Option (List ℕ)) (server after : Single) (units : List InputUnit)
     (old new : Option (List ℕ)) (states now : Option (List Disk)) : Type 0 where
   pub place : PlaceSeen (status_of ended) input left
   pub output : (start : Start) (before : List ℕ) (first : Option (List Disk)) → Wrote start server units before old first states
       → IsSomeAnd new (λ written. EndSeen ended start input before written after first now)
 
+-- one unit more was answered, by this output
+pub record WritesUnit (start : Start) (node : Single) (units : List InputUnit) (earlier : History) (unit : InputUnit) (output : List ℕ) (old states : Option (List Disk)) : Type 0 where
+  pub history : History
+  pub since : (more : History) × (history ≡ more ++ earlier)
+  pub lasts : Lasts start.base history old states
+  pub serves : Serves start node (units ++ unit ∷ []) history states
+  pub grows : trace_output start (units ++ unit ∷ []) history ≡ trace_output start units earlier ++ output
+
 -- one unit more was read and answered
-pub record GoesOn (input rest : List ℕ) (place : ℕ) (server after : Server) (units : List InputUnit)
+pub record NextStep (input rest : List ℕ) (place : ℕ) (server after : Single) (units : List InputUnit)
     (old new : Option (List ℕ)) (states now : Option (List Disk)) : Type 0 where
   pub unit : InputUnit
   pub read : ReadTo input rest place (units ++ unit ∷ [])

@@ -1,18 +1,21 @@
 -- What a run of the program does, seen from outside.
-use Rattle.std.specs.Prelude.{◌≡◌, ◌⊎◌, ⊤, ℕ, ◌-◌, ◌≤◌, List, [], ◌∷◌, ◌++◌, length, Option, Some, None, Ok, Err}
+use Rattle.std.specs.Prelude.{◌≡◌, ◌⊎◌, ⊤, ℕ, ◌-◌, ◌≤◌, List, [], ◌∷◌, ◌++◌, length, Option, Some, None, Err}
 use mathlib.Core.List.{IsPrefix}
-use Rattle.mx_outside.specs.Disks.{Disk, IfTold}
+use Rattle.mx_outside.specs.Disks.{Disk, IfKnown}
 use Rattle.mx_outside.specs.Moments.{Moments}
-use Rattle.mx_model.specs.declared.tx.Tx.{Tx}
-use Rattle.mx_model.specs.Files.{Reached, IsDirectoryState}
-use Rattle.mx_model.specs.Histories.{Base, History, IsLegal, HasMemory, asks_in, history_from, journal_of, ledger_of, state_of, clock_of}
+use Rattle.mx_row.specs.declared.tx.Tx.{Tx}
+use Rattle.mx_model.specs.Directories.{IsDirectoryState}
+use Rattle.mx_model.specs.Histories.{History, IsLegal, HasMemory, asks_in, history_from, journal_of, ledger_of}
 use Rattle.mx_top.specs.declared.status.Status.{Status}
 use Rattle.mx_top.specs.declared.status.Status.TheVariants as status
-use Rattle.mx_top.specs.Units.{InputUnit, units_of}
-use Rattle.mx_top.specs.Connections.{asks_of, all_asks_of}
+use Rattle.mx_top.specs.Units.{units_of}
+use Rattle.mx_node.specs.Inputs.{InputUnit}
+use Rattle.mx_node.specs.Connections.{asks_of, all_asks_of}
 use Rattle.mx_top.specs.TraceOutput.{trace_output}
-use Rattle.mx_top.specs.Starts.{Start, Begins, AllOnDisk}
-use Rattle.mx_top.specs.Crashes.{Survive, NoFewerSurvive}
+use Rattle.mx_node.specs.Serving.{DirectoryHolds}
+use Rattle.mx_node.specs.Starts.{Start}
+use Rattle.mx_top.specs.Starts.{Begins}
+use Rattle.mx_model.specs.Survival.{Survive, NoFewerSurvive}
 
 abbrev pub place_before : List ℕ → List ℕ → Option ℕ
 place_before input [] = None
@@ -28,14 +31,14 @@ expected_output start input =
     trace_output start (units_of input).0 (history_from start.base [] (all_asks_of (units_of input).0))
 
 -- What was written is the whole output for the input's units and this legal history of their requests. Where none was
--- told that memory was missing, it is a function of the start and the input.
+-- answered that memory ran out, it is a function of the start and the input.
 pub record IsTrace (start : Start) (history : History) (input before after : List ℕ) : Type 0 where
   pub legal : IsLegal start.base history
   pub asks : asks_in history ≡ all_asks_of (units_of input).0
   pub output : after ≡ before ++ trace_output start (units_of input).0 history
   pub determined : HasMemory history → after ≡ before ++ expected_output start input
 
--- What was written is a front of the output for units that begin the input's, and a legal history of requests that begin theirs.
+-- What was written is a prefix of the output for units that begin the input's, and a legal history of requests that begin theirs.
 pub record BeginsTrace (start : Start) (input before after : List ℕ) : Type 0 where
   pub units : List InputUnit
   pub begun : IsPrefix units (units_of input).0
@@ -46,25 +49,16 @@ pub record BeginsTrace (start : Start) (input before after : List ℕ) : Type 0 
   pub part : IsPrefix written (trace_output start units history)
   pub output : after ≡ before ++ written
 
--- The directory stands for what the history has come to, and all of its journals are on the disk.
-pub record Keeps (base : Base) (history : History) (disk : Disk) : Type 0 where
-  pub reached : Reached
-  pub stands : IsDirectoryState disk.now (Ok reached)
-  pub ids : reached.ids ≡ Some base.ids
-  pub state : reached.state ≡ state_of base history
-  pub clock : reached.clock ≡ clock_of base history
-  pub synced : AllOnDisk disk
-
 -- The run answered the input to its end or its fault, and left its commits in the directory.
-pub record Ended (seed input before after : List ℕ) (old new : Option (List Disk)) : Type 0 where
+pub record CompleteRun (seed input before after : List ℕ) (old new : Option (List Disk)) : Type 0 where
   pub start : Start
   pub begins : Begins start seed old
   pub history : History
   pub trace : IsTrace start history input before after
-  pub keeps : IfTold new (λ disk past. Keeps start.base history disk)
+  pub keeps : IfKnown new (λ disk past. DirectoryHolds start.base history disk)
 
 -- the run ended early
-pub record Stopped (seed input before after : List ℕ) (old : Option (List Disk)) : Type 0 where
+pub record InterruptedRun (seed input before after : List ℕ) (old : Option (List Disk)) : Type 0 where
   pub start : Start
   pub begins : Begins start seed old
   pub trace : BeginsTrace start input before after
@@ -74,38 +68,29 @@ abbrev pub PlaceSeen : Status → (input : List ℕ) → (left : Option (List �
 PlaceSeen status.Ok input left = (fault_place input ≡ None) × (left ≡ Some [])
 PlaceSeen (status.BadInput at) input left = fault_place input ≡ Some at
 PlaceSeen status.BadWords input left = left ≡ Some input
-PlaceSeen status.ReadFault input left = ⊤
-PlaceSeen status.WriteFault input left = ⊤
-PlaceSeen status.DiskFault input left = ⊤
-PlaceSeen status.NoMemory input left = ⊤
 PlaceSeen (status.Damaged damage) input left = left ≡ Some input
+PlaceSeen _ input left = ⊤
 
--- Nothing was written, or a front of what the database that the directory stands for would answer. A run that failed before
+-- Nothing was written, or a prefix of what the database that the directory stands for would answer. A run that failed before
 -- it had opened the directory wrote nothing.
-abbrev pub Front : (seed input before after : List ℕ) → Option (List Disk) → Type 0
-Front seed input before after old = (after ≡ before) ⊎ Stopped seed input before after old
+abbrev pub NothingOrInterrupted : (seed input before after : List ℕ) → Option (List Disk) → Type 0
+NothingOrInterrupted seed input before after old = (after ≡ before) ⊎ InterruptedRun seed input before after old
 
 -- what a status says of the output and of the directory
 abbrev pub OutputSeen : Status → (seed input before after : List ℕ) → (old new : Option (List Disk)) → Type 0
-OutputSeen status.Ok seed input before after old new = Ended seed input before after old new
-OutputSeen (status.BadInput at) seed input before after old new = Ended seed input before after old new
+OutputSeen status.Ok seed input before after old new = CompleteRun seed input before after old new
+OutputSeen (status.BadInput at) seed input before after old new = CompleteRun seed input before after old new
 OutputSeen status.BadWords seed input before after old new = (after ≡ before) × (new ≡ old)
-OutputSeen status.ReadFault seed input before after old new = Stopped seed input before after old
-OutputSeen status.WriteFault seed input before after old new = Stopped seed input before after old
-OutputSeen status.DiskFault seed input before after old new = Front seed input before after old
-OutputSeen status.NoMemory seed input before after old new = Front seed input before after old
+OutputSeen status.ReadFault seed input before after old new = InterruptedRun seed input before after old
+OutputSeen status.WriteFault seed input before after old new = InterruptedRun seed input before after old
+OutputSeen status.DiskFault seed input before after old new = NothingOrInterrupted seed input before after old
+OutputSeen status.NoMemory seed input before after old new = NothingOrInterrupted seed input before after old
 OutputSeen (status.Damaged damage) seed input before after old new = (after ≡ before) × (new ≡ old)
 
--- the directory stands for nothing, by this damage, where it tells its files
+-- the directory is corrupt or inconsistent, by this damage, where it tells its files
 abbrev pub DamageSeen : Status → Option (List Disk) → Type 0
-DamageSeen status.Ok old = ⊤
-DamageSeen (status.BadInput at) old = ⊤
-DamageSeen status.BadWords old = ⊤
-DamageSeen status.ReadFault old = ⊤
-DamageSeen status.WriteFault old = ⊤
-DamageSeen status.DiskFault old = ⊤
-DamageSeen status.NoMemory old = ⊤
-DamageSeen (status.Damaged damage) old = IfTold old (λ disk past. IsDirectoryState disk.now (Err damage))
+DamageSeen (status.Damaged damage) old = IfKnown old (λ disk past. IsDirectoryState disk.now (Err damage))
+DamageSeen _ old = ⊤
 
 -- At each moment of the run, whatever a crash left stood for the first ones of these transactions: those that the directory
 -- stood for, and those that a history of the input's requests committed. It never stood for fewer than before.
@@ -117,7 +102,7 @@ pub record CrashSeen (seed input : List ℕ) (earlier : List Tx) (old new : Opti
   pub asks : IsPrefix (asks_in history) (all_asks_of (units_of input).0)
   pub transactions : List Tx
   pub all : transactions ≡ earlier ++ journal_of start.base history
-  pub moments : IfTold old (λ disk past. Moments (Survive transactions 0) (NoFewerSurvive transactions) new disk past)
+  pub moments : IfKnown old (λ disk past. Moments (Survive transactions 0) (NoFewerSurvive transactions) new disk past)
 
 -- The replies that stand in the output are those of a history. Whatever a crash leaves has all that was committed in it and,
 -- beyond it, in each step that was confirmed; what a later step committed may be there too.
@@ -130,10 +115,10 @@ pub record Gated (seed input before after : List ℕ) (earlier : List Tx) (old n
   pub legal : IsLegal start.base (later ++ (more ++ trace.history))
   pub asks : IsPrefix (asks_in (later ++ (more ++ trace.history))) (all_asks_of (units_of input).0)
   pub confirmed : (ledger_of start.base (later ++ (more ++ trace.history))).durable ≤ length (more ++ trace.history)
-  pub keep : IfTold new (λ disk past. Survive (earlier ++ journal_of start.base (later ++ (more ++ trace.history)))
+  pub keep : IfKnown new (λ disk past. Survive (earlier ++ journal_of start.base (later ++ (more ++ trace.history)))
       (length (earlier ++ journal_of start.base (more ++ trace.history))) disk)
 
--- no reply went out before all that it saw was on the disk
+-- no reply went out before all that it saw was durable
 abbrev pub GateSeen : (seed input before after : List ℕ) → List Tx → (old new : Option (List Disk)) → Type 0
 GateSeen seed input before after earlier old new = (after ≡ before) ⊎ Gated seed input before after earlier old new
 

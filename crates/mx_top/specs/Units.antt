@@ -1,19 +1,7 @@
 -- The units of an input: bytes that come on connections, in pieces, and the closes of connections.
 use Rattle.std.specs.Prelude.{ℕ, ◌+◌, ◌-◌, ◌^◌, Bool, ◌&&◌, ◌||◌, List, length, Option, Some, None, nat_le, ◌==◌, if◌then◌else◌}
 use Rattle.mx_msgpack.specs.Readers.{Reader, ◌>>=◌, all_from, number_at, bytes_at}
-
-pub data InputUnit : Type 0 where
-  Bytes : (connection : ℕ) (bytes : List ℕ) → InputUnit
-  Close : (connection : ℕ) → InputUnit
-
--- the connection of a unit
-abbrev pub connection_of : InputUnit → ℕ
-connection_of (Bytes on bytes) = on
-connection_of (Close on) = on
-
--- the greatest number of a connection, the most bytes that a unit brings, and the byte that no unit passes
-abbrev pub max_connection : ℕ
-max_connection = 1023
+use Rattle.mx_node.specs.Inputs.{InputUnit, Bytes, Close, max_connection}
 
 abbrev pub max_unit_size : ℕ
 max_unit_size = 16777216

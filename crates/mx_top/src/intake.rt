@@ -79,7 +79,7 @@ impl Intake {
         ensures fault { result ≡ Err ReadFault → Rose (S.faults source.old) (S.faults source.new) }
         ensures stops { IfErr result IsReadStop }
     {
-        // Waiting bytes are moved only where the room behind them runs out.
+        // Waiting bytes are moved only where the room after them runs out.
         if self.buffer.len() - self.start < need {
             move_to_front(&mut self.buffer, self.start, self.end, need)?;
             self.end -= self.start;
@@ -96,7 +96,7 @@ impl Intake {
     }
 }
 
-/// Moves the bytes of `start..end` to the front of the buffer, which has room for `need` bytes then.
+/// Moves the bytes of `start..end` to the start of the buffer, which has room for `need` bytes then.
 fn move_to_front(
     buffer: &mut Vec<u8>,
     start: usize,

@@ -13,7 +13,7 @@ pub enum Status {
     /// The first malformed unit of the input begins at byte `at`, counted from 0.
     #[error("BadInput {at}")]
     BadInput { at: u64 },
-    /// The words are no command.
+    /// The arguments are unrecognised.
     #[error("BadWords")]
     BadWords,
     /// The input failed.
@@ -25,10 +25,10 @@ pub enum Status {
     /// The directory failed.
     #[error("DiskFault")]
     DiskFault,
-    /// No memory was found.
+    /// An allocation failed.
     #[error("NoMemory")]
     NoMemory,
-    /// The directory stands for nothing.
+    /// The directory is corrupt or inconsistent.
     #[error("Damaged {0}")]
     Damaged(Damage),
 }

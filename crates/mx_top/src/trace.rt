@@ -1,27 +1,34 @@
 //! The command `trace`: opens the directory, reads units, answers them, and writes output units.
 
-ghost use Rattle.std.specs.Prelude.{◌≡◌, ◌<◌, ◌≤◌, ◌++◌, ℕ, List, [], Some, Ok, Err, IfOk, IfSome, IsSomeAnd, MatchOption, MatchResult};
+ghost use Rattle.std.specs.Prelude.{◌≡◌, ◌<◌, ◌≤◌, ◌++◌, ℕ, List, [], Some, Ok, Err, IfOk, IfSome, IsSomeAnd, MatchOption, MatchResult, OnOk, OnErr, IfErr};
 ghost use Rattle.mx_outside.specs.Causes.{Rose};
 ghost use Rattle.mx_top.specs.declared.stop.Stop.TheVariants.{ReadFault, WriteFault, DiskFault};
 ghost use Rattle.mx_top.specs.declared.status.Status.TheVariants as status;
-ghost use Rattle.mx_top.specs.Stops.{AtBadInput};
-ghost use Rattle.mx_top.specs.Units.{InputUnit, max_offset};
-ghost use Rattle.mx_top.specs.Starts.{Start};
-ghost use Rattle.mx_top.specs.Serving.{CanServe, Serves};
-ghost use Rattle.mx_model.specs.declared.tx.Tx.{Tx};
-ghost use Rattle.mx_top.specs.Crashes.{Recovers};
+ghost use Rattle.mx_top.specs.Causes.{HasCauses};
+ghost use Rattle.mx_top.specs.Stops.{AtBadInput, IsDiskStop};
+ghost use Rattle.mx_top.specs.Units.{max_offset, unit_by};
+ghost use Rattle.mx_top.specs.UnitViews.{head_view};
+ghost use Rattle.mx_model.specs.Histories.{History};
+ghost use Rattle.mx_node.specs.Inputs.{InputUnit, max_connection};
+ghost use Rattle.mx_node.specs.Connections.{all_asks_of, asks_by, asks_of};
+ghost use Rattle.mx_node.specs.Interrupted.{IsInterrupted};
+ghost use Rattle.mx_node.specs.Starts.{Start};
+ghost use Rattle.mx_node.specs.Serving.{CanServe, EndedNode, Serves};
+ghost use Rattle.mx_row.specs.declared.tx.Tx.{Tx};
+ghost use Rattle.mx_model.specs.Survival.{Recovers};
 ghost use Rattle.mx_top.specs.Runs.{PlaceSeen, OutputSeen, DamageSeen, CrashSeen, GateSeen};
-ghost use Rattle.mx_top.specs.Progress.{ReadTo, Ends, EndSeen, BrokeOff, RunSeen, GoesOn, status_of};
+ghost use Rattle.mx_top.specs.Progress.{ReadTo, LastStep, EndSeen, InterruptedUnits, RunSeen, NextStep, WritesUnit, status_of};
 
 use crate::delivery::deliver;
+use crate::ids::first_ids;
 use crate::intake::Intake;
-use crate::opening::open;
-use crate::opening_fault::OpeningFault;
-use crate::server::Server;
+use crate::output_unit::write_units;
 use crate::status::Status;
 use crate::stop::Stop;
-use crate::units::{UNIT_HEAD, next_unit};
+use crate::units::{UNIT_HEAD, UnitHead, next_unit, unit_of};
+use mx_node::Single;
 use mx_outside::{Dir, Failed, Sink, Source};
+use mx_recover::RecoverFault;
 use std::alloc::Global;
 
 /// Opens the directory, reads the units of the input to its end, answers them, and writes an output
@@ -43,50 +50,40 @@ pub(crate) fn trace<D: Dir, S: Source, K: Sink>(
     ensures gate { (bytes before : List ℕ) (earlier : List Tx) → S.left input.old ≡ Some bytes → K.contents output.old ≡ Some before
         → Recovers earlier (D.states dir.old)
         → IsSomeAnd (K.contents output.new) (λ written. GateSeen seed.now bytes before written earlier (D.states dir.old) (D.states dir.new)) }
-    ensures reads { S.faults input.old ≤ S.faults input.new }
-    ensures read_fault { result ≡ status.ReadFault → Rose (S.faults input.old) (S.faults input.new) }
-    ensures writes { K.faults output.old ≤ K.faults output.new }
-    ensures write_fault { result ≡ status.WriteFault → Rose (K.faults output.old) (K.faults output.new) }
-    ensures disks { D.faults dir.old ≤ D.faults dir.new }
-    ensures disk_fault { result ≡ status.DiskFault → Rose (D.faults dir.old) (D.faults dir.new) }
+    ensures causes { HasCauses (result ≡ status.ReadFault) (result ≡ status.WriteFault) (result ≡ status.DiskFault)
+        (S.faults input.old) (S.faults input.new) (K.faults output.old) (K.faults output.new) (D.faults dir.old) (D.faults dir.new) }
 {
-    match open(alloc, dir, seed) {
-        Ok(opened) => match Server::new(alloc, seed, opened) {
-            Ok(server) => status_of(run_units(alloc, server, dir, input, output)),
-            Err(_) => Status::NoMemory,
-        },
-        Err(OpeningFault::Damaged(damage)) => Status::Damaged(damage),
-        Err(OpeningFault::Failed) => Status::DiskFault,
-        Err(OpeningFault::NoMemory) => Status::NoMemory,
+    let ids = first_ids(seed);
+    match Single::start(alloc, dir, &ids, seed) {
+        Ok(node) => status_of(run_units(alloc, node, dir, input, output)),
+        Err(RecoverFault::Damaged(damage)) => Status::Damaged(damage),
+        Err(RecoverFault::Failed) => Status::DiskFault,
+        Err(RecoverFault::NoMemory) => Status::NoMemory,
     }
 }
 
 /// Answers the units of the input, and ends the journal in order at the input's end or fault.
 fn run_units<D: Dir, S: Source, K: Sink>(
     alloc: Global,
-    server: Server,
+    node: Single,
     dir: &mut D,
     input: &mut S,
     output: &mut K,
 ) -> Result<(), Stop>
-    requires { CanServe server (D.states dir.old) }
+    requires { CanServe node (D.states dir.old) }
     ensures place { (bytes : List ℕ) → S.left input.old ≡ Some bytes → PlaceSeen (status_of result) bytes (S.left input.new) }
-    ensures output { (start : Start) (bytes before : List ℕ) → Serves start server [] [] (D.states dir.old) → S.left input.old ≡ Some bytes → K.contents output.old ≡ Some before
+    ensures output { (start : Start) (bytes before : List ℕ) → Serves start node [] [] (D.states dir.old) → S.left input.old ≡ Some bytes → K.contents output.old ≡ Some before
         → IsSomeAnd (K.contents output.new) (λ written. RunSeen result start bytes before written (D.states dir.new)) }
-    ensures breaks { (start : Start) (bytes before : List ℕ) → Serves start server [] [] (D.states dir.old) → S.left input.old ≡ Some bytes → K.contents output.old ≡ Some before
-        → IsSomeAnd (K.contents output.new) (λ written. BrokeOff start bytes before written (D.states dir.old) (D.states dir.new)) }
-    ensures reads { S.faults input.old ≤ S.faults input.new }
-    ensures read_fault { result ≡ Err ReadFault → Rose (S.faults input.old) (S.faults input.new) }
-    ensures writes { K.faults output.old ≤ K.faults output.new }
-    ensures write_fault { result ≡ Err WriteFault → Rose (K.faults output.old) (K.faults output.new) }
-    ensures disks { D.faults dir.old ≤ D.faults dir.new }
-    ensures disk_fault { result ≡ Err DiskFault → Rose (D.faults dir.old) (D.faults dir.new) }
+    ensures breaks { (start : Start) (bytes before : List ℕ) → Serves start node [] [] (D.states dir.old) → S.left input.old ≡ Some bytes → K.contents output.old ≡ Some before
+        → IsSomeAnd (K.contents output.new) (λ written. InterruptedUnits start bytes before written (D.states dir.old) (D.states dir.new)) }
+    ensures causes { HasCauses (result ≡ Err ReadFault) (result ≡ Err WriteFault) (result ≡ Err DiskFault)
+        (S.faults input.old) (S.faults input.new) (K.faults output.old) (K.faults output.new) (D.faults dir.old) (D.faults dir.new) }
 {
-    let mut server = server;
-    match answer_units(alloc, &mut server, dir, input, output) {
-        Ok(()) => server.end(dir),
+    let mut node = node;
+    match answer_units(alloc, &mut node, dir, input, output) {
+        Ok(()) => end_node(node, dir),
         Err(Stop::BadInput { at }) => {
-            server.end(dir)?;
+            end_node(node, dir)?;
             Err(Stop::BadInput { at })
         }
         Err(Stop::ReadFault) => Err(Stop::ReadFault),
@@ -96,32 +93,43 @@ fn run_units<D: Dir, S: Source, K: Sink>(
     }
 }
 
+/// Takes the departures of the open connections, and ends the journal in order.
+fn end_node<D: Dir>(node: Single, dir: &mut D) -> Result<(), Stop>
+    requires { CanServe node (D.states dir.old) }
+    ensures closed { (start : Start) (units : List InputUnit) (history : History) → Serves start node units history (D.states dir.old)
+        → OnOk result (EndedNode start units history (D.states dir.old) (D.states dir.new)) }
+    ensures breaks { (start : Start) (units : List InputUnit) (history : History) → Serves start node units history (D.states dir.old)
+        → OnErr result (IsInterrupted start.base history (all_asks_of units) (D.states dir.old) (D.states dir.new)) }
+    ensures later { D.faults dir.old ≤ D.faults dir.new }
+    ensures fault { result ≡ Err DiskFault → Rose (D.faults dir.old) (D.faults dir.new) }
+    ensures stops { IfErr result IsDiskStop }
+{
+    node.end(dir)?;
+    Ok(())
+}
+
 /// Answers the units of the input to its end, and writes an output unit for each that has bytes.
 fn answer_units<D: Dir, S: Source, K: Sink>(
     alloc: Global,
-    server: &mut Server,
+    node: &mut Single,
     dir: &mut D,
     input: &mut S,
     output: &mut K,
 ) -> Result<(), Stop>
-    requires { CanServe server.old (D.states dir.old) }
+    requires { CanServe node.old (D.states dir.old) }
     ensures place { (bytes : List ℕ) → S.left input.old ≡ Some bytes → PlaceSeen (status_of result) bytes (S.left input.new) }
-    ensures output { (start : Start) (bytes before : List ℕ) → Serves start server.old [] [] (D.states dir.old)
+    ensures output { (start : Start) (bytes before : List ℕ) → Serves start node.old [] [] (D.states dir.old)
         → S.left input.old ≡ Some bytes → K.contents output.old ≡ Some before
-        → IsSomeAnd (K.contents output.new) (λ written. EndSeen result start bytes before written server.new (D.states dir.old) (D.states dir.new)) }
-    ensures serves { MatchResult result (λ _. CanServe server.new (D.states dir.new))
-        (λ stop. AtBadInput stop (CanServe server.new (D.states dir.new))) }
-    ensures reads { S.faults input.old ≤ S.faults input.new }
-    ensures read_fault { result ≡ Err ReadFault → Rose (S.faults input.old) (S.faults input.new) }
-    ensures writes { K.faults output.old ≤ K.faults output.new }
-    ensures write_fault { result ≡ Err WriteFault → Rose (K.faults output.old) (K.faults output.new) }
-    ensures disks { D.faults dir.old ≤ D.faults dir.new }
-    ensures disk_fault { result ≡ Err DiskFault → Rose (D.faults dir.old) (D.faults dir.new) }
+        → IsSomeAnd (K.contents output.new) (λ written. EndSeen result start bytes before written node.new (D.states dir.old) (D.states dir.new)) }
+    ensures serves { MatchResult result (λ _. CanServe node.new (D.states dir.new))
+        (λ stop. AtBadInput stop (CanServe node.new (D.states dir.new))) }
+    ensures causes { HasCauses (result ≡ Err ReadFault) (result ≡ Err WriteFault) (result ≡ Err DiskFault)
+        (S.faults input.old) (S.faults input.new) (K.faults output.old) (K.faults output.new) (D.faults dir.old) (D.faults dir.new) }
 {
     let mut intake = Intake::new(alloc)?;
     let mut out = Vec::new(alloc);
     let mut place = 0;
-    'units: while let Some(next) = step(server, &mut intake, &mut out, place, dir, input, output)? {
+    'units: while let Some(next) = step(node, &mut intake, &mut out, place, dir, input, output)? {
         place = next;
     }
     Ok(())
@@ -130,7 +138,7 @@ fn answer_units<D: Dir, S: Source, K: Sink>(
 /// Reads the unit at this place, answers it and writes the output unit for it. Says at which place
 /// the next one stands, or nothing at the end of the input.
 fn step<D: Dir, S: Source, K: Sink>(
-    server: &mut Server,
+    node: &mut Single,
     intake: &mut Intake,
     out: &mut Vec<u8>,
     place: u64,
@@ -138,22 +146,18 @@ fn step<D: Dir, S: Source, K: Sink>(
     input: &mut S,
     output: &mut K,
 ) -> Result<Option<u64>, Stop>
-    requires { CanServe server.old (D.states dir.old) }
+    requires { CanServe node.old (D.states dir.old) }
     ensures ahead { IfOk result (λ found. IfSome found (λ next. (place < next) × (next ≤ max_offset))) }
     ensures told { (bytes left : List ℕ) (units : List InputUnit) → S.left input.old ≡ Some left → ReadTo bytes (intake.old ++ left) place units
         → (more : List ℕ) × (S.left input.new ≡ Some more) × MatchResult result
         (λ found. MatchOption found
-        (Ends (Ok tt) bytes (Some more) server.old server.new units (K.contents output.old) (K.contents output.new) (D.states dir.old) (D.states dir.new))
-        (λ next. GoesOn bytes (intake.new ++ more) next server.old server.new units (K.contents output.old) (K.contents output.new) (D.states dir.old) (D.states dir.new)))
-        (λ stop. Ends (Err stop) bytes (Some more) server.old server.new units (K.contents output.old) (K.contents output.new) (D.states dir.old) (D.states dir.new)) }
-    ensures serves { MatchResult result (λ _. CanServe server.new (D.states dir.new))
-        (λ stop. AtBadInput stop (CanServe server.new (D.states dir.new))) }
-    ensures reads { S.faults input.old ≤ S.faults input.new }
-    ensures read_fault { result ≡ Err ReadFault → Rose (S.faults input.old) (S.faults input.new) }
-    ensures writes { K.faults output.old ≤ K.faults output.new }
-    ensures write_fault { result ≡ Err WriteFault → Rose (K.faults output.old) (K.faults output.new) }
-    ensures disks { D.faults dir.old ≤ D.faults dir.new }
-    ensures disk_fault { result ≡ Err DiskFault → Rose (D.faults dir.old) (D.faults dir.new) }
+        (LastStep (Ok tt) bytes (Some more) node.old node.new units (K.contents output.old) (K.contents output.new) (D.states dir.old) (D.states dir.new))
+        (λ next. NextStep bytes (intake.new ++ more) next node.old node.new units (K.contents output.old) (K.contents output.new) (D.states dir.old) (D.states dir.new)))
+        (λ stop. LastStep (Err stop) bytes (Some more) node.old node.new units (K.contents output.old) (K.contents output.new) (D.states dir.old) (D.states dir.new)) }
+    ensures serves { MatchResult result (λ _. CanServe node.new (D.states dir.new))
+        (λ stop. AtBadInput stop (CanServe node.new (D.states dir.new))) }
+    ensures causes { HasCauses (result ≡ Err ReadFault) (result ≡ Err WriteFault) (result ≡ Err DiskFault)
+        (S.faults input.old) (S.faults input.new) (K.faults output.old) (K.faults output.new) (D.faults dir.old) (D.faults dir.new) }
 {
     let Some(head) = next_unit(intake, input, place)? else {
         return Ok(None);
@@ -161,12 +165,37 @@ fn step<D: Dir, S: Source, K: Sink>(
     let size = head.size as usize;
     let (_, rest) = intake.as_slice().split_at(UNIT_HEAD);
     let (content, _) = rest.split_at(size);
-    server.unit(dir, head, content, out)?;
+    answer_unit(node, dir, head, content, out)?;
     intake.consume(UNIT_HEAD + size);
     match deliver(output, out) {
         Ok(()) => Ok(Some(place + (UNIT_HEAD + size) as u64)),
         Err(Failed) => Err(Stop::WriteFault),
     }
+}
+
+/// Answers the unit of this head and these bytes, and puts its output units into `out`, in place of
+/// what that has. What the unit commits is durable then.
+fn answer_unit<D: Dir>(
+    node: &mut Single,
+    dir: &mut D,
+    head: UnitHead,
+    content: &[u8],
+    out: &mut Vec<u8>,
+) -> Result<(), Stop>
+    requires serves { CanServe node.old (D.states dir.old) }
+    requires connection { head.connection.0 ≤ max_connection }
+    ensures took { (start : Start) (units : List InputUnit) (history : History) → Serves start node.old units history (D.states dir.old)
+        → OnOk result (WritesUnit start node.new units history (unit_by (head_view head) content.now) out.new.items (D.states dir.old) (D.states dir.new)) }
+    ensures breaks { (start : Start) (units : List InputUnit) (history : History) → Serves start node.old units history (D.states dir.old)
+        → OnErr result (IsInterrupted start.base history (asks_of units ++ asks_by units (unit_by (head_view head) content.now)) (D.states dir.old) (D.states dir.new)) }
+    ensures serves { OnOk result (CanServe node.new (D.states dir.new)) }
+    ensures later { D.faults dir.old ≤ D.faults dir.new }
+    ensures fault { result ≡ Err DiskFault → Rose (D.faults dir.old) (D.faults dir.new) }
+    ensures stops { IfErr result IsDiskStop }
+{
+    let sent = node.unit(dir, unit_of(head, content))?;
+    write_units(sent.as_slice(), out)?;
+    Ok(())
 }
 
 /// The status of a run whose units ended so.

@@ -1,10 +1,13 @@
-//! The units of an input, one after the other.
+//! The units of an input.
 
 ghost use Rattle.std.specs.Prelude.{◌≡◌, ◌+◌, ◌<◌, ◌≤◌, ◌++◌, ℕ, List, [], length, take, drop, Some, Err, IfOk, IfSome, MatchOption, MatchResult};
 ghost use Rattle.std.specs.Option.{option_map};
 ghost use Rattle.mx_outside.specs.Causes.{Rose};
-ghost use Rattle.mx_top.specs.Units.{content_at, max_connection, max_offset, unit_by, unit_head_at};
+ghost use Rattle.mx_top.specs.Units.{content_at, max_offset, unit_by, unit_head_at};
+ghost use Rattle.mx_node.specs.Inputs.{max_connection};
+ghost use Rattle.mx_node.specs.Inputs.{max_connection};
 ghost use Rattle.mx_top.specs.UnitViews.{head_view};
+ghost use Rattle.mx_node.specs.Views.{unit_view};
 ghost use Rattle.mx_top.specs.Progress.{StopsAt};
 ghost use Rattle.mx_top.specs.declared.stop.Stop.TheVariants.{ReadFault, WriteFault, DiskFault};
 
@@ -12,15 +15,13 @@ use crate::intake::Intake;
 use crate::stop::Stop;
 use mx_base::ConnId;
 use mx_msgpack::number_at;
+use mx_node::{MAX_CONNECTION, Unit};
 use mx_outside::Source;
 
 /// The bytes before those that a unit brings: a kind, a connection and a length.
 pub(crate) const UNIT_HEAD: usize = 9;
 
-/// The greatest number of a connection.
-pub(crate) const MAX_CONNECTION: u32 = 1023;
-
-/// The most bytes that a unit brings.
+/// The maximum number of bytes that a unit brings.
 const MAX_UNIT_SIZE: u32 = 16_777_216;
 
 /// The byte that no unit passes.
@@ -117,4 +118,19 @@ fn unit_head_at(place: u64, bytes: &[u8]) -> Option<(UnitHead, &[u8])>
         size,
     };
     Some((head, rest))
+}
+
+/// The unit of this head and these bytes.
+pub(crate) fn unit_of(head: UnitHead, content: &[u8]) -> Unit<'_>
+    ensures { unit_view result ≡ unit_by (head_view head) content.now }
+{
+    match head.kind {
+        UnitKind::Bytes => Unit::Bytes {
+            conn: head.connection,
+            bytes: content,
+        },
+        UnitKind::Close => Unit::Close {
+            conn: head.connection,
+        },
+    }
 }

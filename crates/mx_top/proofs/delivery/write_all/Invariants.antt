@@ -1,7 +1,7 @@
 use Rattle.std.proofs.Common.{◌≡◌, ◌++◌, ℕ, List, Some, ◌≤◌, length}
 use Rattle.mx_top.proofs.delivery.write_all.Given as goal
 
--- what the output held is followed by a front of the bytes, and the rest of them is still to be written
+-- what the output held is followed by a prefix of the bytes, and the rest of them is still to be written
 abbrev pub invariant-loop-rest : goal.invariant-loop-rest
 invariant-loop-rest g l =
     ((before : List ℕ) → g.K.Sink.contents l.initial.output ≡ Some before → (written : List ℕ)

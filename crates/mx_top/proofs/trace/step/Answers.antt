@@ -14,7 +14,7 @@ returns-in_err-head-clause-told g c = λ bytes left units told read.
     rw (p.1, p.2) (
       t.0,
       t.1,
-      ends_stopped bytes (c.args.intake.now ++ left) c.next_unit.new.intake t.0 c.args.place c.args.server.now units
+      ends_stopped bytes (c.args.intake.now ++ left) c.next_unit.new.intake t.0 c.args.place c.args.node.now units
           (g.K.Sink.contents c.args.output.now) (g.D.Dir.states c.args.dir.now) c.in_err-head.field-0.0 read t.2 t.3,
     )
 
@@ -24,14 +24,14 @@ returns-in_default-clause-told g c = λ bytes left units told read.
     let none = rw c.in_default.is at t.3 in (
       t.0,
       t.1,
-      ends_well bytes (c.args.intake.now ++ left) t.0 c.args.place c.args.server.now units
+      ends_well bytes (c.args.intake.now ++ left) t.0 c.args.place c.args.node.now units
           (g.K.Sink.contents c.args.output.now) (g.D.Dir.states c.args.dir.now) c.next_unit.new.intake read t.2 none,
     )
 
-pub returns-in_err-unit-clause-told : goal.returns-in_err-unit-clause-told
-returns-in_err-unit-clause-told g c = λ bytes left units told read.
+pub returns-in_err-answer_unit-clause-told : goal.returns-in_err-answer_unit-clause-told
+returns-in_err-answer_unit-clause-told g c = λ bytes left units told read.
     let t = c.in_ok-head.ensures.told left told in
-    let p = err_from_is_err_and c.from_residual-in_err-unit.result c.from_residual-in_err-unit.ensures.1 in
+    let p = err_from_is_err_and c.from_residual-in_err-answer_unit.result c.from_residual-in_err-answer_unit.ensures.1 in
     let waiting = c.next_unit.new.intake in
     let size = c.in-Some.head.size in
     let found = rw c.in-Some.is at t.3 in
@@ -41,11 +41,11 @@ returns-in_err-unit-clause-told g c = λ bytes left units told read.
       t.0,
       t.1,
       ends_unanswered bytes (c.args.intake.now ++ left) waiting t.0 (drop size (drop 9 waiting) ++ t.0)
-          (unit_by (head_view c.in-Some.head) c.split_at-2.result.0.now) c.args.place c.args.server.now c.unit.new.self units
-          (g.K.Sink.contents c.args.output.now) (g.D.Dir.states c.args.dir.now) (g.D.Dir.states c.unit.new.dir) c.in_err-unit.field-0.0 read t.2
+          (unit_by (head_view c.in-Some.head) c.split_at-2.result.0.now) c.args.place c.args.node.now c.answer_unit.new.node units
+          (g.K.Sink.contents c.args.output.now) (g.D.Dir.states c.args.dir.now) (g.D.Dir.states c.answer_unit.new.dir) c.in_err-answer_unit.field-0.0 read t.2
           (same_unit c.args.place (waiting ++ t.0) (take size (drop 9 waiting)) c.split_at-2.result.0.now (drop size (drop 9 waiting) ++ t.0)
           (drop size (drop 9 waiting) ++ t.0) (head_view c.in-Some.head) found content refl)
-          c.in_err-unit.ensures.stops (λ start history serves. c.in_err-unit.ensures.breaks start units history serves),
+          c.in_err-answer_unit.ensures.stops (λ start history serves. c.in_err-answer_unit.ensures.breaks start units history serves),
     )
 
 pub returns-in-Ok-clause-told : goal.returns-in-Ok-clause-told
@@ -65,10 +65,10 @@ returns-in-Ok-clause-told g c = λ bytes left units told read.
     moves c.args.place size (c.args.intake.now ++ left) waiting t.0 c.consume.new.self t.2 c.consume.ensures fits.0 in (
       t.0,
       t.1,
-      goes_on bytes (c.args.intake.now ++ left) waiting t.0 (c.consume.new.self ++ t.0) c.unit.new.out.items unit
-          c.args.place (c.args.place + (9 + size)) c.args.server.now c.unit.new.self units (g.K.Sink.contents c.args.output.now) (g.K.Sink.contents c.deliver.new.output)
-          (g.D.Dir.states c.args.dir.now) (g.D.Dir.states c.unit.new.dir) read t.2 here moved
-          (λ start history serves. c.in_ok-unit.ensures.took start units history serves)
+      goes_on bytes (c.args.intake.now ++ left) waiting t.0 (c.consume.new.self ++ t.0) c.answer_unit.new.out.items unit
+          c.args.place (c.args.place + (9 + size)) c.args.node.now c.answer_unit.new.node units (g.K.Sink.contents c.args.output.now) (g.K.Sink.contents c.deliver.new.output)
+          (g.D.Dir.states c.args.dir.now) (g.D.Dir.states c.answer_unit.new.dir) read t.2 here moved
+          (λ start history serves. c.in_ok-answer_unit.ensures.took start units history serves)
           (λ before was. let d = c.in-Ok.ensures.told before was in d.1 ∙ ap (λ (l : List ℕ). Some (before ++ l)) (d.3 ∙ c.deref.ensures.value)),
     )
 
@@ -82,12 +82,12 @@ returns-in-Err-clause-told g c = λ bytes left units told read.
     c.split_at-2.ensures.front ∙ ap (λ (l : List ℕ). take size l) (c.split_at.ensures.back ∙ ap (λ (l : List ℕ). drop 9 l) c.as_slice.ensures) in (
       t.0,
       t.1,
-      ends_unwritten bytes (c.args.intake.now ++ left) waiting t.0 (drop size (drop 9 waiting) ++ t.0) c.unit.new.out.items
-          (unit_by (head_view c.in-Some.head) c.split_at-2.result.0.now) c.args.place c.args.server.now c.unit.new.self units
+      ends_unwritten bytes (c.args.intake.now ++ left) waiting t.0 (drop size (drop 9 waiting) ++ t.0) c.answer_unit.new.out.items
+          (unit_by (head_view c.in-Some.head) c.split_at-2.result.0.now) c.args.place c.args.node.now c.answer_unit.new.node units
           (g.K.Sink.contents c.args.output.now) (g.K.Sink.contents c.deliver.new.output)
-          (g.D.Dir.states c.args.dir.now) (g.D.Dir.states c.unit.new.dir) read t.2
+          (g.D.Dir.states c.args.dir.now) (g.D.Dir.states c.answer_unit.new.dir) read t.2
           (same_unit c.args.place (waiting ++ t.0) (take size (drop 9 waiting)) c.split_at-2.result.0.now (drop size (drop 9 waiting) ++ t.0)
           (drop size (drop 9 waiting) ++ t.0) (head_view c.in-Some.head) found content refl)
-          (λ start history serves. c.in_ok-unit.ensures.took start units history serves)
+          (λ start history serves. c.in_ok-answer_unit.ensures.took start units history serves)
           (λ before was. let d = c.in-Err.ensures.told before was in (d.0, d.1, subst (IsPrefix d.0) c.deref.ensures.value d.2)),
     )

@@ -1,0 +1,93 @@
+-- What recovers again: a directory all of which is durable, as a new one, or one that a crash left.
+use Rattle.std.proofs.Common.{◌≡◌, ℕ, ◌≤◌, List, [], ◌∷◌, ◌++◌, length, map, take, Option, Some, None, refl, sym, ap, ◌∙◌, subst, arith}
+use Rattle.std.specs.Ordering.{nat_cmp}
+use Rattle.std.specs.Cmp.Lexicographic.{slice_cmp}
+use Rattle.std.specs.FinMap as finite
+use Rattle.std.specs.FinMap.{get-empty, len-empty, len-entries}
+use Rattle.std.specs.List.{filter}
+use Rattle.std.proofs.lemmas.List.{nil_from_length}
+use Rattle.mx_msgpack.proofs.Options.{same_some}
+use Rattle.mx_outside.specs.Disks.{Disk, File, Leaves, IsImage, synced_file}
+use Rattle.mx_row.specs.declared.tx.Tx.{Tx}
+use Rattle.mx_model.specs.State.{first_state}
+use Rattle.mx_model.specs.Directories.{directory_state, nothing_yet}
+use Rattle.mx_files.specs.Names.{is_journal, is_snapshot}
+use Rattle.mx_images.specs.Fair.{IsFairEnd, AllDurable}
+use Rattle.mx_model.specs.Survival.{FollowFromNew, Recovers, StandsAfter, Survive}
+use Rattle.mx_node.proofs.OpenLaws.{none_older}
+use Rattle.mx_node.proofs.RecoveryLaws.{all_taken, found_again}
+use Rattle.mx_node.proofs.ServingLaws.{all_follow-take}
+
+-- a directory all of which is durable recovers the transactions that it stands for
+recovers_all : (transactions : List Tx) (disk : Disk) → FollowFromNew transactions → AllDurable disk → disk.older ≡ finite.empty
+    → StandsAfter transactions disk.now → Recovers transactions (Some (disk ∷ []))
+recovers_all transactions disk follow whole no_older after = record {
+  follow = follow;
+  told = (
+    after,
+    λ image fair. (
+      length transactions,
+      omega arith,
+      omega arith,
+      subst (λ txs. StandsAfter txs image) (sym (all_taken transactions)) (record {
+        reached = after.reached;
+        stands = found_again disk after.reached whole no_older after.stands image fair;
+        state = after.state;
+        clock = after.clock;
+      }),
+    ),
+  );
+}
+
+-- ---- a new directory
+
+abbrev no_files : Disk
+no_files = record { now = finite.empty; older = finite.empty }
+
+none_on_disk : AllDurable no_files
+none_on_disk name file kind there = let none : finite.get no_files.now name ≡ None = get-empty (slice_cmp nat_cmp) name in absurd cc
+
+no_names : finite.keys no_files.now ≡ []
+no_names =
+    ap (map (λ (e : List ℕ × File). e.0))
+    (nil_from_length (finite.entries no_files.now) (sym (len-entries no_files.now) ∙ len-empty (slice_cmp nat_cmp) File))
+
+pub none_recovers : Recovers [] (Some (no_files ∷ []))
+none_recovers = recovers_all [] no_files tt none_on_disk refl (record {
+  reached = nothing_yet;
+  stands = (
+    [],
+    [],
+    record { names = ap (filter is_journal) (sym no_names); each = tt },
+    refl,
+    ap (λ names. directory_state (filter is_snapshot names) []) (sym no_names),
+  );
+  state = refl;
+  clock = refl;
+})
+
+-- ---- what a crash left
+
+-- a file that a crash left has all its bytes durable
+left_synced : (was found : Option File) (file : File) → Leaves IsFairEnd was found → found ≡ Some file → file.synced ≡ length file.bytes
+left_synced None found file is there = absurd cc
+left_synced (Some old) found file (end, fair, is) there =
+    let left = take old.synced old.bytes ++ end in
+    subst (λ (f : File). f.synced ≡ length f.bytes) (same_some (synced_file left) file (sym is ∙ there)) refl
+
+left_on_disk : (disk image : Disk) → IsImage IsFairEnd disk image → AllDurable image
+left_on_disk disk image left name file kind there =
+    let (place, was, below, is, leaves) = left.each name in
+    (left_synced was (finite.get image.now name) file leaves there, none_older image name left.durable)
+
+pub left_recovers : (transactions : List Tx) (least : ℕ) (disk image : Disk) → FollowFromNew transactions → Survive transactions least disk
+    → IsImage IsFairEnd disk image
+    → (count : ℕ) × (least ≤ count) × (count ≤ length transactions) × Recovers (take count transactions) (Some (image ∷ []))
+left_recovers transactions least disk image follow survive left =
+    let (count, enough, short, after) = survive image.now (λ name counted. left.each name) in (
+      count,
+      enough,
+      short,
+      recovers_all (take count transactions) image (all_follow-take first_state nothing_yet.clock transactions count follow)
+          (left_on_disk disk image left) left.durable after,
+    )

@@ -1,0 +1,231 @@
+-- What one unit more brings to its connection: bytes, jobs, asks and perhaps the end.
+use Rattle.std.proofs.Common.{◌≡◌, ℕ, Bool, true, false, cond, List, [], ◌∷◌, ◌++◌, length, map, Option, Some, None, Result, Ok, Err, refl, sym, ap, ◌∙◌, subst, inl, inr, ◌⊎◌, arith}
+use Rattle.std.specs.Prelude.{not, ◌&&◌, if◌then◌else◌}
+use Rattle.std.proofs.lemmas.List.{append-nil, append_assoc, drop_at, drop_all, map-append}
+use mathlib.Core.List.{IsPrefix}
+use Rattle.mx_base.specs.declared.refusal.Refusal.{Refusal}
+use Rattle.mx_base.specs.declared.ids.TxnName.{TxnName}
+use Rattle.mx_frame.specs.Packets.{First, Packet, NeedMore, Broken, size_at, first_frame, packets_of, rest_of, is_broken, breaks_off}
+use Rattle.mx_frame.proofs.FrameLaws.{packets_of-append, rest_of-append, broken_stays}
+use Rattle.mx_request.specs.declared.request.Ask.{Ask}
+use Rattle.mx_request.specs.declared.request.Head3.{Head3}
+use Rattle.mx_request.specs.declared.request.Request.{Request}
+use Rattle.mx_msgpack.specs.Maps.{pairs_in}
+use Rattle.mx_request.specs.Requests.{request_in}
+use Rattle.mx_request.proofs.AskableLaws.{asked_is_askable}
+use Rattle.mx_session.specs.declared.job.Job.{Job}
+use Rattle.mx_session.specs.Jobs.{maps_in, asked_job, job_by, job_in, broken_job, jobs_of, some_ends, ends}
+use Rattle.mx_session.specs.Sessions.{JobSeen, next_by}
+use Rattle.mx_session.proofs.JobLaws.{nothing_after_the_end, in_pieces}
+use Rattle.mx_model.specs.Histories.{leaving}
+use Rattle.mx_node.specs.Inputs.{InputUnit, Bytes, Close}
+use Rattle.mx_node.specs.Connections.{came_after, came_from, came_on, is_open, gained, jobs_by, is_ended_by, IsJob, asked_by, asks_by, asks_from, asks_of, leaves_of, all_asks_of, jobs_from}
+
+-- ---- one unit more
+
+came_from-push : (connection : ℕ) (came : List ℕ) (units : List InputUnit) (unit : InputUnit)
+    → came_from connection came (units ++ unit ∷ []) ≡ came_after connection (came_from connection came units) unit
+came_from-push connection came [] unit = refl
+came_from-push connection came (first ∷ units) unit = came_from-push connection (came_after connection came first) units unit
+
+pub came_on-push : (connection : ℕ) (units : List InputUnit) (unit : InputUnit)
+    → came_on connection (units ++ unit ∷ []) ≡ came_after connection (came_on connection units) unit
+came_on-push connection units unit = came_from-push connection [] units unit
+
+pub asks_from-append : (earlier units more : List InputUnit)
+    → asks_from earlier (units ++ more) ≡ asks_from earlier units ++ asks_from (earlier ++ units) more
+asks_from-append earlier [] more = ap (λ (l : List InputUnit). asks_from l more) (sym (append-nil earlier))
+asks_from-append earlier (unit ∷ units) more =
+    let later = earlier ++ unit ∷ [] in
+    ap (λ (l : List (TxnName × Ask)). asks_by earlier unit ++ l) (asks_from-append later units more)
+    ∙ sym (append_assoc (asks_by earlier unit) (asks_from later units) (asks_from (later ++ units) more))
+    ∙ ap (λ (l : List InputUnit). (asks_by earlier unit ++ asks_from later units) ++ asks_from l more) (append_assoc earlier (unit ∷ []) units)
+
+pub jobs_from-append : (earlier units more : List InputUnit)
+    → jobs_from earlier (units ++ more) ≡ jobs_from earlier units ++ jobs_from (earlier ++ units) more
+jobs_from-append earlier [] more = ap (λ (l : List InputUnit). jobs_from l more) (sym (append-nil earlier))
+jobs_from-append earlier (unit ∷ units) more =
+    let later = earlier ++ unit ∷ [] in
+    ap (λ (l : List Job). jobs_by earlier unit ++ l) (jobs_from-append later units more)
+    ∙ sym (append_assoc (jobs_by earlier unit) (jobs_from later units) (jobs_from (later ++ units) more))
+    ∙ ap (λ (l : List InputUnit). (jobs_by earlier unit ++ jobs_from later units) ++ jobs_from l more) (append_assoc earlier (unit ∷ []) units)
+
+pub asks_of-push : (units : List InputUnit) (unit : InputUnit) → asks_of (units ++ unit ∷ []) ≡ asks_of units ++ asks_by units unit
+asks_of-push units unit =
+    asks_from-append [] units (unit ∷ []) ∙ ap (λ (l : List (TxnName × Ask)). asks_of units ++ l) (append-nil (asks_by units unit))
+
+pub jobs_from-push : (units : List InputUnit) (unit : InputUnit) → jobs_from [] (units ++ unit ∷ []) ≡ jobs_from [] units ++ jobs_by units unit
+jobs_from-push units unit =
+    jobs_from-append [] units (unit ∷ []) ∙ ap (λ (l : List Job). jobs_from [] units ++ l) (append-nil (jobs_by units unit))
+
+-- the asks of units that begin others begin theirs
+pub asks_of-prefix : (one other : List InputUnit) → IsPrefix one other → IsPrefix (asks_of one) (asks_of other)
+asks_of-prefix one other (rest, is) = (asks_from one rest, sym (asks_from-append [] one rest) ∙ ap asks_of is)
+
+pub all_asks-prefix : (one other : List InputUnit) → IsPrefix one other → IsPrefix (asks_of one) (all_asks_of other)
+all_asks-prefix one other (rest, is) = (
+  asks_from one rest ++ leaves_of other,
+  sym (append_assoc (asks_of one) (asks_from one rest) (leaves_of other))
+      ∙ ap (λ (l : List (TxnName × Ask)). l ++ leaves_of other) (sym (asks_from-append [] one rest) ∙ ap asks_of is),
+)
+
+pub asks_of-more : (units : List InputUnit) (unit : InputUnit) (all : List InputUnit) → IsPrefix (units ++ unit ∷ []) all
+    → IsPrefix (asks_of units ++ asks_by units unit) (all_asks_of all)
+asks_of-more units unit all begun =
+    subst (λ (l : List (TxnName × Ask)). IsPrefix l (all_asks_of all)) (asks_of-push units unit) (all_asks-prefix (units ++ unit ∷ []) all begun)
+
+-- ---- pieces of a connection's bytes
+
+some_ends-append : (jobs more : List (Job × Bool)) → some_ends jobs ≡ false → some_ends (jobs ++ more) ≡ some_ends more
+some_ends-append [] more e = refl
+some_ends-append ((job, true) ∷ jobs) more e = absurd cc
+some_ends-append ((job, false) ∷ jobs) more e = some_ends-append jobs more e
+
+some_ends-stays : (jobs more : List (Job × Bool)) → some_ends jobs ≡ true → some_ends (jobs ++ more) ≡ true
+some_ends-stays [] more e = absurd cc
+some_ends-stays ((job, true) ∷ jobs) more e = refl
+some_ends-stays ((job, false) ∷ jobs) more e = some_ends-stays jobs more e
+
+-- a test that one of two holds
+either_holds : (a b : Bool) → cond a true b ≡ true → (a ≡ true) ⊎ (b ≡ true)
+either_holds true b e = inl refl
+either_holds false b e = inr e
+
+neither_holds : (a b : Bool) → cond a true b ≡ false → (a ≡ false) × (b ≡ false)
+neither_holds true b e = absurd cc
+neither_holds false b e = (refl, e)
+
+holds_also : (a b : Bool) → b ≡ true → cond a true b ≡ true
+holds_also true b e = refl
+holds_also false b e = e
+
+abbrev packet_jobs : (on : ℕ) → List ℕ → List (Job × Bool)
+packet_jobs on bytes = map (job_in on) (packets_of bytes)
+
+module _ (on : ℕ) (came bytes : List ℕ) where
+  in_two : packet_jobs on (came ++ bytes) ≡ packet_jobs on came ++ packet_jobs on (rest_of came ++ bytes)
+  in_two = ap (λ (packets : List (List ℕ)). map (job_in on) packets) (packets_of-append came bytes)
+      ∙ map-append (job_in on) (packets_of came) (packets_of (rest_of came ++ bytes))
+
+  -- before the end a piece ends the connection where it does so with what was left
+  pub ends-piece : ends on came ≡ false → ends on (came ++ bytes) ≡ ends on (rest_of came ++ bytes)
+  ends-piece goes_on =
+      let neither = neither_holds (some_ends (packet_jobs on came)) (breaks_off came) goes_on in
+      let some : some_ends (packet_jobs on (came ++ bytes)) ≡ some_ends (packet_jobs on (rest_of came ++ bytes)) =
+      ap some_ends in_two ∙ some_ends-append (packet_jobs on came) (packet_jobs on (rest_of came ++ bytes)) neither.0 in
+      let breaks : breaks_off (came ++ bytes) ≡ breaks_off (rest_of came ++ bytes) = ap (λ (l : List ℕ). is_broken (first_frame l)) (rest_of-append came bytes) in
+      ap (λ (b : Bool). cond b true (breaks_off (came ++ bytes))) some
+      ∙ ap (cond (some_ends (packet_jobs on (rest_of came ++ bytes))) true) breaks
+
+  -- an end stays
+  pub ends-stays : ends on came ≡ true → ends on (came ++ bytes) ≡ true
+  ends-stays ended = by_cause (either_holds (some_ends (packet_jobs on came)) (breaks_off came) ended)
+    where
+      by_cause : (some_ends (packet_jobs on came) ≡ true) ⊎ (breaks_off came ≡ true) → ends on (came ++ bytes) ≡ true
+      by_cause (inl some) =
+          ap (λ (b : Bool). cond b true (breaks_off (came ++ bytes)))
+          (ap some_ends in_two ∙ some_ends-stays (packet_jobs on came) (packet_jobs on (rest_of came ++ bytes)) some)
+      by_cause (inr breaks) = holds_also (some_ends (packet_jobs on (came ++ bytes))) (breaks_off (came ++ bytes)) (broken_stays came bytes breaks).0
+
+pub rest_of-nothing : rest_of [] ≡ []
+rest_of-nothing = refl
+
+pub ends-nothing : (on : ℕ) → ends on [] ≡ false
+unfolding first_frame size_at
+ends-nothing on = refl
+
+-- ---- the jobs of a unit, and the end that it brings
+
+pub gained-append : {X : Type 0} (xs ys : List X) → gained xs (xs ++ ys) ≡ ys
+gained-append xs ys = drop_at xs ys (length xs) refl
+
+pub gained-nothing : {X : Type 0} (xs : List X) → gained xs xs ≡ []
+gained-nothing xs = drop_all (length xs) xs (omega arith)
+
+test_same : (b : Bool) → (not b && b) ≡ false
+test_same true = refl
+test_same false = refl
+
+module _ (earlier : List InputUnit) (on : ℕ) (came bytes : List ℕ) (same : came ≡ came_on on earlier) where
+  brings : jobs_by earlier (Bytes on bytes) ≡ gained (jobs_of on came) (jobs_of on (came ++ bytes))
+  brings = ap (λ (l : List ℕ). gained (jobs_of on l) (jobs_of on (l ++ bytes))) (sym same)
+
+  ends_so : is_ended_by earlier (Bytes on bytes) ≡ (not (ends on came) && ends on (came ++ bytes))
+  ends_so = ap (λ (l : List ℕ). not (ends on l) && ends on (l ++ bytes)) (sym same)
+
+  -- before the end: the jobs of what was left, with the unit's bytes after it
+  pub jobs_by-open : ends on came ≡ false → jobs_by earlier (Bytes on bytes) ≡ jobs_of on (rest_of came ++ bytes)
+  jobs_by-open goes_on =
+      brings ∙ ap (gained (jobs_of on came)) (in_pieces on came bytes goes_on)
+      ∙ gained-append (jobs_of on came) (jobs_of on (rest_of came ++ bytes))
+
+  -- after the end: none
+  pub jobs_by-ended : ends on came ≡ true → jobs_by earlier (Bytes on bytes) ≡ []
+  jobs_by-ended ended =
+      brings ∙ ap (gained (jobs_of on came)) (nothing_after_the_end on came bytes ended) ∙ gained-nothing (jobs_of on came)
+
+  pub is_ended_by-open : ends on came ≡ false → is_ended_by earlier (Bytes on bytes) ≡ ends on (rest_of came ++ bytes)
+  is_ended_by-open goes_on = ends_so ∙ ap (λ (b : Bool). not b && ends on (came ++ bytes)) goes_on ∙ ends-piece on came bytes goes_on
+
+  pub is_ended_by-ended : ends on came ≡ true → is_ended_by earlier (Bytes on bytes) ≡ false
+  is_ended_by-ended ended = ends_so ∙ ap (λ (b : Bool). not b && ends on (came ++ bytes)) ended
+
+  abbrev all_by : List Job → Bool → List (TxnName × Ask)
+  all_by jobs ended = map asked_by jobs ++ (if ended then leaving on ∷ [] else [])
+
+  pub asks_by-open : ends on came ≡ false → asks_by earlier (Bytes on bytes)
+      ≡ map asked_by (jobs_of on (rest_of came ++ bytes)) ++ (if ends on (rest_of came ++ bytes) then leaving on ∷ [] else [])
+  asks_by-open goes_on =
+      ap (λ (jobs : List Job). all_by jobs (is_ended_by earlier (Bytes on bytes))) (jobs_by-open goes_on)
+      ∙ ap (all_by (jobs_of on (rest_of came ++ bytes))) (is_ended_by-open goes_on)
+
+  pub asks_by-ended : ends on came ≡ true → asks_by earlier (Bytes on bytes) ≡ []
+  asks_by-ended ended =
+      ap (λ (jobs : List Job). all_by jobs (is_ended_by earlier (Bytes on bytes))) (jobs_by-ended ended) ∙ ap (all_by []) (is_ended_by-ended ended)
+
+-- a unit without bytes brings nothing
+pub jobs_by-nothing : (earlier : List InputUnit) (on : ℕ) → jobs_by earlier (Bytes on []) ≡ []
+jobs_by-nothing earlier on =
+    let came = came_on on earlier in
+    ap (λ (l : List ℕ). gained (jobs_of on came) (jobs_of on l)) (append-nil came) ∙ gained-nothing (jobs_of on came)
+
+pub is_ended_by-nothing : (earlier : List InputUnit) (on : ℕ) → is_ended_by earlier (Bytes on []) ≡ false
+is_ended_by-nothing earlier on =
+    let came = came_on on earlier in
+    ap (λ (l : List ℕ). not (ends on came) && ends on l) (append-nil came) ∙ test_same (ends on came)
+
+pub asks_by-nothing : (earlier : List InputUnit) (on : ℕ) → asks_by earlier (Bytes on []) ≡ []
+asks_by-nothing earlier on =
+    ap (λ (jobs : List Job). map asked_by jobs ++ (if is_ended_by earlier (Bytes on []) then leaving on ∷ [] else [])) (jobs_by-nothing earlier on)
+    ∙ ap (λ (b : Bool). cond b (leaving on ∷ []) []) (is_ended_by-nothing earlier on)
+
+-- a close brings that the connection leaves, where it is there
+pub asks_by-close : (earlier : List InputUnit) (on : ℕ)
+    → asks_by earlier (Close on) ≡ (if is_open on (came_on on earlier) then leaving on ∷ [] else [])
+asks_by-close earlier on = refl
+
+-- ---- jobs can be asked
+
+abbrev found_maps : (on : ℕ) → List ℕ → Option (List ℕ × List ℕ) → Type 0
+found_maps on packet maps = IsJob (job_by on packet maps).0
+
+sound_packet : (on : ℕ) (packet : List ℕ) → IsJob (job_in on packet).0
+sound_packet on packet = by_maps (maps_in packet)
+  where
+    by_asked : (header body : List ℕ) (asked : Result (Head3 × Request) Refusal) → request_in (pairs_in header) (pairs_in body) ≡ asked
+        → IsJob (asked_job on (pairs_in header) asked)
+    by_asked header body (Ok (head, request)) e = (asked_is_askable header body head request e).0
+    by_asked header body (Err refusal) e = tt
+
+    by_maps : (maps : Option (List ℕ × List ℕ)) → found_maps on packet maps
+    by_maps None = tt
+    by_maps (Some (header, body)) = by_asked header body (request_in (pairs_in header) (pairs_in body)) refl
+
+pub job_is_sound : (connection : ℕ) (bytes : List ℕ) (job : Job) (rest : List ℕ) (last : Bool)
+    → next_by connection bytes (first_frame bytes) ≡ JobSeen job rest last → IsJob job
+job_is_sound connection bytes job rest last = by_first (first_frame bytes)
+  where
+    by_first : (first : First) → next_by connection bytes first ≡ JobSeen job rest last → IsJob job
+    by_first (Packet content others) seen = let is : (job_in connection content).0 ≡ job = cc in subst (λ (j : Job). IsJob j) is (sound_packet connection content)
+    by_first NeedMore seen = absurd cc
+    by_first Broken seen = let is : broken_job connection ≡ job = cc in subst (λ (j : Job). IsJob j) is tt

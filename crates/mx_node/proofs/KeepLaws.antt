@@ -1,0 +1,58 @@
+-- All that a ready server committed is durable.
+use Rattle.std.proofs.Common.{◌≡◌, ◌≤◌, List, [], ◌∷◌, ◌++◌, length, take, refl, ap, ◌∙◌, sym, subst, arith, length-append}
+use Rattle.std.specs.Prelude.{Option}
+use Rattle.std.proofs.lemmas.List.{take_all}
+use Rattle.mx_outside.specs.Disks.{Disk, IfKnown}
+use Rattle.mx_model.specs.Histories.{Base, History, Asked, Left, Took, Confirmed, entry_replies, replies_in, journal_of}
+use Rattle.mx_engine.specs.declared.engine.Engine.{Engine}
+use Rattle.mx_journal.specs.declared.journal.Journal.{Journal}
+use Rattle.mx_node.specs.Interrupted.{StepsSurvive}
+use Rattle.mx_model.specs.Survival.{Survive, Lasts}
+use Rattle.mx_node.specs.Ready.{Ready, taken_of}
+use Rattle.mx_node.proofs.LastingLaws.{keep_longer, keep_on}
+use Rattle.mx_node.proofs.ServingLaws.{behind_keeps}
+
+pub ready_keeps : (base : Base) (history : History) (engine : Engine) (journal : Journal) (states : Option (List Disk))
+    → Ready base history engine journal states → StepsSurvive base history history states
+ready_keeps base history engine journal states ready = λ transactions all.
+    let commits = journal_of base history in
+    let taken : taken_of base history ≡ commits = ap (λ n. take n commits) ready.taken ∙ take_all (length commits) commits (omega arith) in
+    subst (λ txs. IfKnown states (λ disk past. Survive transactions (length (all.earlier ++ txs)) disk)) taken
+    (behind_keeps base history engine journal states ready.behind transactions all)
+
+-- ---- steps without a reply
+
+-- a longer history has no fewer replies
+replies_grow : (more history : History) → length (replies_in history) ≤ length (replies_in (more ++ history))
+replies_grow [] history = omega arith
+replies_grow (entry ∷ more) history =
+    let fewer = replies_grow more history in
+    let parts = length-append (replies_in (more ++ history)) (entry_replies entry) in
+    omega arith
+
+-- steps without a reply commit nothing
+no_reply_no_commit : (base : Base) (more history : History) → length (replies_in (more ++ history)) ≤ length (replies_in history)
+    → journal_of base (more ++ history) ≡ journal_of base history
+no_reply_no_commit base [] history few = refl
+no_reply_no_commit base (Asked name ask reply ∷ more) history few =
+    let grow = replies_grow more history in
+    let parts = length-append (replies_in (more ++ history)) (reply ∷ []) in
+    absurd (omega arith)
+no_reply_no_commit base (Left connection ∷ more) history few =
+    let parts = length-append (replies_in (more ++ history)) [] in
+    no_reply_no_commit base more history (omega arith)
+no_reply_no_commit base (Took transactions upto ∷ more) history few =
+    let parts = length-append (replies_in (more ++ history)) [] in
+    no_reply_no_commit base more history (omega arith)
+no_reply_no_commit base (Confirmed upto ∷ more) history few =
+    let parts = length-append (replies_in (more ++ history)) [] in
+    no_reply_no_commit base more history (omega arith)
+
+-- so all that was committed still is durable after them
+pub keep_unreplied : (base : Base) (more history : History) (old new : Option (List Disk)) → replies_in (more ++ history) ≡ replies_in history
+    → StepsSurvive base history history old → Lasts base (more ++ history) old new → StepsSurvive base (more ++ history) (more ++ history) new
+keep_unreplied base more history old new told keep lasts = λ transactions all.
+    let few = ap length told in
+    let same : journal_of base (more ++ history) ≡ journal_of base history = no_reply_no_commit base more history (omega arith) in
+    let kept = keep_on base (more ++ history) history old new (keep_longer base more history history old keep) lasts in
+    subst (λ txs. IfKnown new (λ disk past. Survive transactions (length (all.earlier ++ txs)) disk)) (sym same) (kept transactions all)

@@ -1,0 +1,16 @@
+pub mod ReadyLaws
+pub mod StepLaws
+pub mod TableLaws
+pub mod ServerLaws
+pub mod BreakLaws
+pub mod ClosingLaws
+pub mod ConnectionLaws
+pub mod OutputLaws
+pub mod SessionLaws
+pub mod EndLaws
+pub mod OpenLaws
+pub mod RecoveryLaws
+pub mod LastingLaws
+pub mod ServingLaws
+pub mod KeepLaws
+pub mod AgainLaws

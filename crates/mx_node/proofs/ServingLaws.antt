@@ -1,0 +1,353 @@
+-- What a crash leaves of a database whose journal is written to.
+use Rattle.std.proofs.Common.{◌≡◌, ℕ, zero, suc, ◌+◌, ◌-◌, ◌≤◌, Bool, true, false, cond, List, [], ◌∷◌, ◌++◌, length, map, sum, take, drop, Option, Some, None, Ok, refl, sym, ap, ◌∙◌, subst, arith}
+use Rattle.std.specs.Prelude.{is_some, IfSome}
+use Rattle.std.specs.List.{filter, AllByRecursion}
+use Rattle.std.specs.FinMap as finite
+use Rattle.std.specs.FinMap.{get-empty}
+use Rattle.std.specs.Ordering.{nat_cmp}
+use Rattle.std.specs.Cmp.Lexicographic.{slice_cmp, bytes_decides}
+use Rattle.std.proofs.lemmas.List.{append-nil, drop_at, length-append, take_all, take_at, take-append-drop, take-append-le}
+use mathlib.Core.List.{IsPrefix}
+use Rattle.mx_outside.specs.Disks.{Disk, File, Files, IfKnown, Leaves, synced_file, KnownAlike}
+use Rattle.mx_outside.specs.Moments.{Moments}
+use Rattle.mx_xlog.specs.declared.head.Head.{Head}
+use Rattle.mx_xlog.specs.Headers.{IsHeader, header_of}
+use Rattle.mx_xlog.specs.Reading.{blocks_of}
+use Rattle.mx_xlog.proofs.ReadingLaws.{blocks_of_nothing}
+use Rattle.mx_row.specs.declared.tx.Tx.{Tx}
+use Rattle.mx_model.specs.State.{State, first_state}
+use Rattle.mx_model.specs.Answers.{state_after_rows}
+use Rattle.mx_model.specs.Transactions.{state_after}
+use Rattle.mx_row.specs.Clocks.{clock_after, clock_after_one}
+use Rattle.mx_row.specs.Rows.{transaction_text}
+use Rattle.mx_model.specs.Directories.{Named, Reached, AllFollow, Continues, ids_in, nothing_yet}
+use Rattle.mx_xlog.specs.Files.{ReadsAs}
+use Rattle.mx_files.specs.Names.{is_journal, is_snapshot, same_bytes, counts}
+use Rattle.mx_model.specs.Histories.{Base, History, Took, IsLegal, ledger_of, journal_of}
+use Rattle.mx_files.proofs.NameLaws.{journal_name-is_journal}
+use Rattle.mx_model.proofs.HistoryLaws.{state_after-append}
+use Rattle.mx_row.proofs.ClockLaws.{clock_after-append}
+use Rattle.mx_model.proofs.CommitLaws.{commits_follow}
+use Rattle.mx_model.proofs.DirectoryLaws.{ReadAll, names_of, names_same, stands_after, same_itself}
+use Rattle.mx_model.proofs.TransactionLaws.{after_blocks_again}
+use Rattle.mx_journal.proofs.BlockLaws.{blocks_again}
+use Rattle.mx_engine.specs.declared.engine.Engine.{Engine}
+use Rattle.mx_journal.specs.declared.journal.Journal.{Journal}
+use Rattle.mx_images.specs.Fair.{IsFairEnd, IsFair, AllDurable}
+use Rattle.mx_journal.specs.Crashes.{HasFile, HasAtLeast, NoFewer, read_of}
+use Rattle.mx_journal.specs.Written.{IsWritten, Waits, blocks_text, file_text, name_of}
+use Rattle.mx_images.specs.Changes.{SameOthers}
+use Rattle.mx_images.proofs.MomentLaws.{weaker_from}
+use Rattle.mx_images.proofs.ToldLaws.{told_weaker, told_both}
+use Rattle.mx_node.specs.Ready.{Behind, Ready, taken_of}
+use Rattle.mx_model.specs.Survival.{StandsAfter, Survive, NoFewerSurvive, FollowFromNew, ComeTo, Extend, Lasts}
+use Rattle.mx_model.proofs.CountLaws.{counted_once}
+use Rattle.mx_model.proofs.ImageLaws.{fair_now, leaves_some, reads_again, left_whole, read_in_image, journal_counts, snapshot_counts, WasRead, all_were_read}
+use Rattle.mx_node.proofs.ReadyLaws.{IsOnDisk}
+
+-- ---- the journals beside the one that is written to
+
+all_pass : (p : List ℕ → Bool) (names : List (List ℕ)) → AllByRecursion (λ name. p name ≡ true) (filter p names)
+all_pass p [] = tt
+all_pass p (name ∷ names) = by_test (all_pass p names) (p name) refl
+  where
+    by_test : AllByRecursion (λ name. p name ≡ true) (filter p names) → (b : Bool) → p name ≡ b
+        → AllByRecursion (λ name. p name ≡ true) (cond b (name ∷ filter p names) (filter p names))
+    by_test others true is = (is, others)
+    by_test others false is = others
+
+of_names : (P : List ℕ → Type 0) (files : List Named) (more : List (List ℕ)) → AllByRecursion P (names_of files ++ more)
+    → AllByRecursion (λ (file : Named). P file.0) files
+of_names P [] more all = tt
+of_names P (file ∷ files) more all = (all.0, of_names P files more all.1)
+
+module _ (name : List ℕ) (disk now : Disk) (image : Files) (synced : AllDurable disk) (no_older : disk.older ≡ finite.empty)
+    (same : SameOthers name disk now) (fair : IsFair now image) where
+  -- what a crash leaves of another file
+  left_of : (other : List ℕ) → counts other ≡ true → same_bytes other name ≡ false
+      → Leaves IsFairEnd (finite.get disk.now other) (finite.get image other)
+  left_of other is differs =
+      subst (λ was. Leaves IsFairEnd was (finite.get image other)) (same.files other differs)
+      (fair_now now image other (ap (λ older. finite.get older other) (same.older ∙ no_older) ∙ get-empty (slice_cmp nat_cmp) other) fair is)
+
+  all_synced : (other : List ℕ) → is_journal other ≡ true → (was : Option File) → finite.get disk.now other ≡ was
+      → IfSome was (λ (file : File). file.synced ≡ length file.bytes)
+  all_synced other is None there = tt
+  all_synced other is (Some file) there = (synced other file is there).0
+
+  reads_in_image : (files : List Named) → AllByRecursion (λ (file : Named). is_journal file.0 ≡ true) files
+      → AllByRecursion (λ (file : Named). same_bytes file.0 name ≡ false) files → AllByRecursion WasRead files → ReadAll disk.now files
+      → ReadAll image files
+  reads_in_image [] journals others were reads = tt
+  reads_in_image (file ∷ files) journals others were reads =
+      let (read, is) = were.0 in (
+        subst (λ found. IfSome (finite.get image file.0) (λ (f : File). ReadsAs f.bytes found)) (sym is)
+            (read_in_image (finite.get disk.now file.0) (finite.get image file.0) read
+            (all_synced file.0 journals.0 (finite.get disk.now file.0) refl)
+            (subst (λ found. IfSome (finite.get disk.now file.0) (λ (f : File). ReadsAs f.bytes found)) is reads.0)
+            (left_of file.0 (journal_counts file.0 journals.0) others.0)),
+        reads_in_image files journals.1 others.1 were.1 reads.1,
+      )
+
+  there_in_image : is_some (finite.get disk.now name) ≡ true → is_some (finite.get image name) ≡ true → (other : List ℕ) → counts other ≡ true
+      → is_some (finite.get image other) ≡ is_some (finite.get disk.now other)
+  there_in_image was there other is = by_test (same_bytes other name) refl
+    where
+      by_test : (b : Bool) → same_bytes other name ≡ b → is_some (finite.get image other) ≡ is_some (finite.get disk.now other)
+      by_test true own =
+          let key : other ≡ name = (bytes_decides other name).0 own in
+          ap (λ k. is_some (finite.get image k)) key ∙ there ∙ sym was ∙ ap (λ k. is_some (finite.get disk.now k)) (sym key)
+      by_test false differs = leaves_some (finite.get disk.now other) (finite.get image other) (left_of other is differs)
+
+  -- what a crash leaves goes on from the same base
+  pub continues_in_image : (base : Base) → Continues base name disk.now → is_some (finite.get disk.now name) ≡ true
+      → is_some (finite.get image name) ≡ true → Continues base name image
+  continues_in_image base c was there =
+      let same_there = there_in_image was there in
+      let journals : filter is_journal (finite.keys image) ≡ filter is_journal (finite.keys disk.now) =
+      names_same is_journal image disk.now (λ q is. same_there q (journal_counts q is)) in
+      let snapshots : filter is_snapshot (finite.keys image) ≡ filter is_snapshot (finite.keys disk.now) =
+      names_same is_snapshot image disk.now (λ q is. same_there q (snapshot_counts q is)) in
+      let are_journals = subst (AllByRecursion (λ q. is_journal q ≡ true)) c.names (all_pass is_journal (finite.keys disk.now)) in
+      record {
+        earlier = c.earlier;
+        reached = c.reached;
+        no_snapshot = snapshots ∙ c.no_snapshot;
+        names = journals ∙ c.names;
+        others = c.others;
+        reads = reads_in_image c.earlier (of_names (λ q. is_journal q ≡ true) c.earlier (name ∷ []) are_journals) c.others
+            (all_were_read c.earlier nothing_yet c.reached c.reaches) c.reads;
+        reaches = c.reaches;
+        ids = c.ids;
+        state = c.state;
+        clock = c.clock;
+      }
+
+-- ---- the journal's own file
+
+-- a file whose transactions are durable has them whatever a crash leaves
+pub has_written : (journal : Journal) (disk : Disk) (txs waits : List Tx) → IsWritten journal disk txs
+    → HasAtLeast journal.head (txs ++ waits) (length txs) disk
+has_written journal disk txs waits written image fair =
+    let head = journal.head in
+    let text = file_text head txs in
+    let size = length (header_of head) in
+    let own = journal_counts (name_of head) (journal_name-is_journal (sum head.clock)) in
+    let (end, ends, is) = subst (λ was. Leaves IsFairEnd was (finite.get image (name_of head))) written.file
+    (fair_now disk image (name_of head) written.no_older fair own) in
+    let header : IsHeader text head size = record { fits = written.fits; sized = refl; begins = (blocks_text txs, refl) } in
+    let blocks : map transaction_text txs ≡ blocks_of (drop size text) =
+    sym (ap blocks_of (drop_at (header_of head) (blocks_text txs) size refl ∙ sym (append-nil (blocks_text txs)))
+    ∙ blocks_again txs [] written.sound blocks_of_nothing) in
+    let all : take (length txs) (txs ++ waits) ≡ txs = take_at txs waits (length txs) refl in (
+      length txs,
+      omega arith,
+      omega (arith, length-append txs waits),
+      (
+        synced_file (text ++ end),
+        left_whole (synced_file text) end _ refl is,
+        subst (λ l. ReadsAs (text ++ end) (Some (read_of head l))) (sym all)
+            (reads_again (synced_file text) (read_of head txs) end refl (header, blocks) ends),
+      ),
+    )
+
+-- ---- what the directory stands for
+
+pub all_follow-take : (now : State) (clock : List ℕ) (txs : List Tx) (count : ℕ) → AllFollow now clock txs → AllFollow now clock (take count txs)
+all_follow-take now clock txs zero all = tt
+all_follow-take now clock [] (suc count) all = tt
+all_follow-take now clock (tx ∷ txs) (suc count) all =
+    (all.0, all.1, all.2, all_follow-take (state_after_rows now tx.rows) (clock_after_one clock tx) txs count all.3)
+
+take_behind : {X : Type 0} (xs ys : List X) (count : ℕ) → take (length xs + count) (xs ++ ys) ≡ xs ++ take count ys
+take_behind [] ys count = ap (λ (n : ℕ). take n ys) (omega arith)
+take_behind (x ∷ xs) ys count =
+    let one : suc (length xs) + count ≡ suc (length xs + count) = omega arith in
+    ap (λ (n : ℕ). take n (x ∷ (xs ++ ys))) one ∙ ap (λ l. x ∷ l) (take_behind xs ys count)
+
+-- The journal of this head goes on from the base, to which the earlier transactions came, and it is for these transactions,
+-- the first ones of all after the earlier ones.
+pub record Served (base : Base) (head : Head) (txs earlier transactions : List Tx) (disk : Disk) : Type 0 where
+  pub begins : head.clock ≡ base.clock
+  pub whose : ids_in head ≡ base.ids
+  pub kind : head.snapshot ≡ false
+  pub there : is_some (finite.get disk.now (name_of head)) ≡ true
+  pub continues : Continues base (name_of head) disk.now
+  pub synced : AllDurable disk
+  pub no_older : disk.older ≡ finite.empty
+  pub follow : AllFollow base.state base.clock txs
+  pub comes : ComeTo earlier base
+  pub front : IsPrefix (earlier ++ txs) transactions
+  pub from_new : FollowFromNew transactions
+
+-- no other file changed, and whatever a crash leaves the journal's file has so many transactions at least
+abbrev pub IsMoment : Head → List Tx → ℕ → Disk → Disk → Type 0
+IsMoment head txs least disk now = SameOthers (name_of head) disk now × HasAtLeast head txs least now
+
+as_it_was : (name : List ℕ) (disk : Disk) → SameOthers name disk disk
+as_it_was name disk = record { files = λ other differs. refl; older = refl }
+
+module _ (base : Base) (head : Head) (txs earlier transactions : List Tx) (disk : Disk) (served : Served base head txs earlier transactions disk) where
+  front_of_all : (count : ℕ) → count ≤ length txs
+      → (take (length earlier + count) transactions ≡ earlier ++ take count txs) × (length earlier + count ≤ length transactions)
+  front_of_all count few =
+      let (rest, is) = served.front in
+      let within : length earlier + count ≤ length (earlier ++ txs) = omega (arith, length-append earlier txs) in (
+        sym (ap (take (length earlier + count)) is) ∙ take-append-le (length earlier + count) (earlier ++ txs) rest within ∙ take_behind earlier txs count,
+        subst (λ (l : List Tx). length earlier + count ≤ length l) is (omega (arith, length-append (earlier ++ txs) rest)),
+      )
+
+  -- files that go on from the base, where the journal's has the first ones of its transactions
+  pub image_stands : (image : Files) (count : ℕ) → Continues base (name_of head) image → count ≤ length txs → HasFile head (take count txs) image
+      → StandsAfter (take (length earlier + count) transactions) image
+  image_stands image count continues few (file, there, reads) =
+      let some = take count txs in
+      let name = name_of head in
+      let begun : Reached = record { ids = Some base.ids; state = base.state; clock = base.clock } in
+      let reached : Reached = record { ids = Some base.ids; state = state_after base.state some; clock = clock_after base.clock some } in
+      let all = sym (front_of_all count few).0 in
+      record {
+        reached = reached;
+        stands = stands_after base name image file (read_of head some) (Ok reached) continues there reads served.kind (same_itself name) served.begins
+            served.whose (after_blocks_again name (length (header_of head)) some begun (all_follow-take base.state base.clock txs count served.follow));
+        state = ap (λ state. state_after state some) (sym served.comes.state) ∙ sym (state_after-append first_state earlier some)
+            ∙ ap (state_after first_state) all;
+        clock = ap (λ clock. clock_after clock some) (sym served.comes.clock) ∙ sym (clock_after-append nothing_yet.clock earlier some)
+            ∙ ap (clock_after nothing_yet.clock) all;
+      }
+
+  moment_stands : (now : Disk) (image : Files) (count : ℕ) → SameOthers (name_of head) disk now → IsFair now image → count ≤ length txs
+      → HasFile head (take count txs) image → StandsAfter (take (length earlier + count) transactions) image
+  moment_stands now image count same fair few has =
+      image_stands image count
+      (continues_in_image (name_of head) disk now image served.synced served.no_older same fair base served.continues served.there (ap is_some has.1)) few has
+
+  -- the earlier ones survive, and what the journal's file has
+  pub survives : (now : Disk) (least : ℕ) → IsMoment head txs least disk now → Survive transactions (length earlier + least) now
+  survives now least (same, has) image fair =
+      let (count, enough, few, file) = has image fair in (
+        length earlier + count,
+        omega (arith, enough),
+        (front_of_all count few).1,
+        moment_stands now image count same fair few file,
+      )
+
+  -- a bound for the directory is one for the journal's file
+  bound_of_file : (now : Disk) (least bound : ℕ) → IsMoment head txs least disk now → Survive transactions bound now
+      → HasAtLeast head txs (bound - length earlier) now
+  bound_of_file now least bound (same, has) survive image fair =
+      let (count, enough, few, file) = has image fair in
+      let (number, above, within, stands) = survive image fair in
+      let same_number : number ≡ length earlier + count =
+      counted_once transactions number (length earlier + count) image served.from_new within (front_of_all count few).1 stands
+      (moment_stands now image count same fair few file) in
+      (count, omega (arith, above, same_number), few, file)
+
+  survive_less : (now : Disk) (least less : ℕ) → less ≤ least → Survive transactions least now → Survive transactions less now
+  survive_less now least less below survive image fair =
+      let (count, enough, few, stands) = survive image fair in
+      (count, omega (arith, below, enough), few, stands)
+
+  -- where the journal's file has no fewer, no fewer survive
+  pub no_fewer_survive : (older newer : Disk) (least : ℕ) → IsMoment head txs least disk older → IsMoment head txs least disk newer
+      → NoFewer head txs older newer → NoFewerSurvive transactions older newer
+  no_fewer_survive older newer least before after keeps bound survive =
+      let file = keeps (bound - length earlier) (bound_of_file older least bound before survive) in
+      survive_less newer (length earlier + (bound - length earlier)) bound (omega arith) (survives newer (bound - length earlier) (after.0, file))
+
+  -- what the journal's calls leave meanwhile
+  pub lasting : (least : ℕ) (new : Option (List Disk)) (past : List Disk) → HasAtLeast head txs least disk
+      → Moments (IsMoment head txs least disk) (NoFewer head txs) new disk past
+      → Moments (Survive transactions 0) (NoFewerSurvive transactions) new disk past
+  lasting least new past has =
+      weaker_from (λ now moment. (moment, survive_less now (length earlier + least) 0 (omega arith) (survives now least moment)))
+      (λ older newer before after. no_fewer_survive older newer least before after) new disk past (as_it_was (name_of head) disk, has)
+
+-- ---- a server
+
+served_by : (base : Base) (history : History) (engine : Engine) (journal : Journal) (states : Option (List Disk)) (disk : Disk)
+    → Behind base history engine journal states → IsOnDisk base journal (taken_of base history) disk
+    → (transactions : List Tx) → (all : Extend base history transactions)
+    → Served base journal.head (journal_of base history) all.earlier transactions disk
+served_by base history engine journal states disk behind (written, continues, synced, no_older) transactions all = record {
+  begins = behind.begins;
+  whose = behind.whose;
+  kind = written.kind;
+  there = ap is_some written.file;
+  continues = continues;
+  synced = synced;
+  no_older = no_older;
+  follow = commits_follow base history behind.stands.legal;
+  comes = all.comes;
+  front = all.prefix;
+  from_new = all.follow;
+}
+
+-- the journal's file has what was taken
+has_taken : (base : Base) (history : History) (journal : Journal) (disk : Disk) → IsWritten journal disk (taken_of base history)
+    → HasAtLeast journal.head (journal_of base history) (length (taken_of base history)) disk
+has_taken base history journal disk written =
+    let all = take-append-drop (ledger_of base history).taken (journal_of base history) in
+    subst (λ txs. HasAtLeast journal.head txs (length (taken_of base history)) disk) all (has_written journal disk (taken_of base history) _ written)
+
+-- what is durable between two requests survives
+pub behind_keeps : (base : Base) (history : History) (engine : Engine) (journal : Journal) (states : Option (List Disk))
+    → Behind base history engine journal states → (transactions : List Tx) → (all : Extend base history transactions)
+    → IfKnown states (λ disk past. Survive transactions (length (all.earlier ++ taken_of base history)) disk)
+behind_keeps base history engine journal states behind transactions all =
+    let taken = taken_of base history in
+    told_weaker states (λ disk past synced_file.
+    subst (λ (least : ℕ). Survive transactions least disk) (sym (length-append all.earlier taken))
+    (survives base journal.head (journal_of base history) all.earlier transactions disk
+    (served_by base history engine journal states disk behind synced_file transactions all) disk (length taken)
+    (as_it_was (name_of journal.head) disk, has_taken base history journal disk synced_file.0)))
+    behind.written
+
+-- what a call of the journal leaves meanwhile
+pub call_lasts : (base : Base) (history : History) (engine : Engine) (journal : Journal) (old new : Option (List Disk))
+    → Behind base history engine journal old → KnownAlike old new
+    → IfKnown old (λ disk past. IsWritten journal disk (taken_of base history)
+    → Moments (IsMoment journal.head (journal_of base history) (length (taken_of base history)) disk) (NoFewer journal.head (journal_of base history)) new disk past)
+    → Lasts base history old new
+call_lasts base history engine journal old new behind alike moments = record {
+  told = alike;
+  moments = λ transactions all.
+      told_both old (λ disk past synced_file shown.
+      lasting base journal.head (journal_of base history) all.earlier transactions disk
+      (served_by base history engine journal old disk behind synced_file transactions all) (length (taken_of base history)) new past
+      (has_taken base history journal disk synced_file.0) (shown synced_file.0))
+      behind.written moments;
+}
+
+-- writing out what the engine handed out, in a journal that it was pushed to
+pub write_out_lasts : (base : Base) (history : History) (engine : Engine) (journal pushed : Journal) (old new : Option (List Disk))
+    (txs : List Tx) (upto : ℕ) → Behind base history engine journal old → KnownAlike old new → IsLegal base (Took txs upto ∷ history) → Waits pushed txs
+    → ((disk : Disk) (done : List Tx) → IsWritten journal disk done → IsWritten pushed disk done) → pushed.head ≡ journal.head
+    → ((done waits : List Tx) → IfKnown old (λ disk past. IsWritten pushed disk done → Waits pushed waits
+    → Moments (IsMoment pushed.head (done ++ waits) (length done) disk) (NoFewer pushed.head (done ++ waits)) new disk past))
+    → Lasts base history old new
+write_out_lasts base history engine journal pushed old new txs upto behind alike legal waits keeps head moments =
+    let taken = taken_of base history in
+    let all : taken ++ txs ≡ journal_of base history =
+    ap (λ rest. taken ++ rest) legal.1.0 ∙ take-append-drop (ledger_of base history).taken (journal_of base history) in
+    call_lasts base history engine journal old new behind alike
+    (told_weaker old (λ disk past shown written.
+    subst (λ l. Moments (IsMoment journal.head l (length taken) disk) (NoFewer journal.head l) new disk past) all
+    (subst (λ h. Moments (IsMoment h (taken ++ txs) (length taken) disk) (NoFewer h (taken ++ txs)) new disk past) head
+    (shown (keeps disk taken written) waits)))
+    (moments taken txs))
+
+-- ending the journal
+pub end_lasts : (base : Base) (history : History) (engine : Engine) (journal : Journal) (old new : Option (List Disk))
+    → Ready base history engine journal old → KnownAlike old new
+    → ((txs : List Tx) → IfKnown old (λ disk past. IsWritten journal disk txs
+    → Moments (IsMoment journal.head txs (length txs) disk) (NoFewer journal.head txs) new disk past))
+    → Lasts base history old new
+end_lasts base history engine journal old new ready alike moments =
+    let taken = taken_of base history in
+    let all : taken ≡ journal_of base history =
+    ap (λ n. take n (journal_of base history)) ready.taken ∙ take_all (length (journal_of base history)) (journal_of base history) (omega arith) in
+    call_lasts base history engine journal old new ready.behind alike
+    (told_weaker old (λ disk past shown written.
+    subst (λ l. Moments (IsMoment journal.head l (length taken) disk) (NoFewer journal.head l) new disk past) all (shown written))
+    (moments taken))

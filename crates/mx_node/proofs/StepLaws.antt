@@ -1,0 +1,157 @@
+-- One job more, and what it adds to a history and to what its connection is sent.
+use Rattle.std.proofs.Common.{◌≡◌, ℕ, ◌+◌, ◌≤◌, List, [], ◌∷◌, ◌++◌, length, map, refl, sym, ap, ◌∙◌, subst, arith, length-append}
+use Rattle.std.specs.Prelude.{Option}
+use Rattle.std.proofs.lemmas.Bool.{le-leb}
+use Rattle.std.proofs.lemmas.List.{append-nil, append_assoc, map_push, map-append, length-map}
+use mathlib.Core.List.{IsPrefix}
+use Rattle.mx_base.specs.declared.ids.TxnName.{TxnName}
+use Rattle.mx_outside.specs.Disks.{Disk}
+use Rattle.mx_request.specs.declared.request.Ask.{Ask}
+use Rattle.mx_session.specs.declared.job.Job.{Job}
+use Rattle.mx_session.specs.Sessions.{SessionState, Waiting, released}
+use Rattle.mx_model.specs.declared.reply.Reply.{Reply}
+use Rattle.mx_row.specs.declared.tx.Tx.{Tx}
+use Rattle.mx_model.specs.Histories.{Base, History, Took, Confirmed, IsLegal, asks_in, replies_in, ledger_of}
+use Rattle.mx_model.specs.ReplyStream.{packet_of_reply, packets_of_replies}
+use Rattle.mx_engine.specs.declared.engine.Engine.{Engine}
+use Rattle.mx_engine.specs.Standing.{EngineStandsFor}
+use Rattle.mx_journal.specs.declared.journal.Journal.{Journal}
+use Rattle.mx_node.specs.Connections.{asked_by}
+use Rattle.mx_node.specs.Outputs.{schema_version, sync_of}
+use Rattle.mx_node.specs.Ready.{Ready, Replied, AnswersJob, AnswersJobs, step_of, steps_of}
+use Rattle.mx_node.specs.Interrupted.{StepsSurvive, IsInterrupted}
+use Rattle.mx_model.specs.Survival.{Lasts}
+use Rattle.mx_node.proofs.OutputLaws.{reply_packets-append}
+use Rattle.mx_node.proofs.KeepLaws.{ready_keeps}
+use Rattle.mx_node.proofs.LastingLaws.{lasts_none, lasts_on, breaks_now, breaks_on, breaks_among}
+
+-- ---- one job
+
+-- the engine's answer and its packet are what a job is replied
+pub replied_by : (base : Base) (history : History) (engine : Engine) (job : Job) (packet : List ℕ) (ask : Ask) (reply : Reply) → job.ask ≡ ask
+    → EngineStandsFor engine base (step_of (record job { ask = ask }) reply ∷ history) → packet ≡ packet_of_reply schema_version job.sync.0 reply
+    → Replied base history engine job packet
+replied_by base history engine job packet ask reply asked stands spelled = record {
+  reply = reply;
+  stands = subst (λ (a : Ask). EngineStandsFor engine base (step_of (record job { ask = a }) reply ∷ history)) (sym asked) stands;
+  spelled = spelled;
+}
+
+-- once a take after a step is confirmed, the step is durable
+pub step_durable : (base : Base) (txs : List Tx) (upto : ℕ) (history : History) → IsLegal base (Confirmed upto ∷ Took txs upto ∷ history)
+    → length history ≤ (ledger_of base (Confirmed upto ∷ Took txs upto ∷ history)).durable
+step_durable base txs upto history legal = omega (arith, legal.0.1.1)
+
+-- so the one reply that waits for it leaves
+pub reply_leaves : (front durable : ℕ) (reply : List ℕ) → front ≤ durable → released durable (record { front = front; reply = reply } ∷ []) ≡ (reply, [])
+reply_leaves front durable reply within = rw (le-leb front durable within) (rw (append-nil reply) refl)
+
+-- a session whose one reply left
+pub session_sent : (before pushed after : SessionState) (front durable : ℕ) (reply : List ℕ) → front ≤ durable → before.waiting ≡ []
+    → pushed ≡ record before { waiting = before.waiting ++ record { front = front; reply = reply } ∷ [] }
+    → after ≡ record pushed { waiting = (released durable pushed.waiting).1; out = pushed.out ++ (released durable pushed.waiting).0 }
+    → after ≡ record before { out = before.out ++ reply }
+session_sent before pushed after front durable reply within idle push release =
+    let waits : pushed.waiting ≡ record { front = front; reply = reply } ∷ [] =
+    ap (λ (s : SessionState). s.waiting) push ∙ ap (λ (l : List Waiting). l ++ record { front = front; reply = reply } ∷ []) idle in
+    let left : released durable pushed.waiting ≡ (reply, []) = ap (released durable) waits ∙ reply_leaves front durable reply within in
+    release
+    ∙ ap (λ (x : List ℕ × List Waiting). record pushed { waiting = x.1; out = pushed.out ++ x.0 }) left
+    ∙ ap (λ (s : SessionState). record s { waiting = []; out = s.out ++ reply }) push
+    ∙ ap (λ (l : List Waiting). record before { waiting = l; out = before.out ++ reply }) (sym idle)
+
+-- ---- jobs in order
+
+-- no job
+pub answered_none : (base : Base) (earlier : History) (engine : Engine) (journal : Journal) (states : Option (List Disk)) (out : List ℕ)
+    → Ready base earlier engine journal states → AnswersJobs base earlier engine journal states states [] out out
+answered_none base earlier engine journal states out ready = record {
+  history = earlier;
+  replies = [];
+  ready = ready;
+  since = ([], refl);
+  lasts = lasts_none base earlier states;
+  asks = sym (append-nil (asks_in earlier));
+  told = sym (append-nil (replies_in earlier));
+  each = refl;
+  output = sym (append-nil out);
+}
+
+module _ (base : Base) (earlier : History) (old new : Engine) (begun written : Journal) (first before_states states : Option (List Disk))
+    (before middle : List ℕ) (next after : SessionState) (jobs : List Job) (job : Job)
+    (so_far : AnswersJobs base earlier old begun first before_states jobs before middle) where
+  -- one job more
+  pub answered_more : next.out ≡ middle → AnswersJob base so_far.history new written before_states states job next after
+      → AnswersJobs base earlier new written first states (jobs ++ job ∷ []) before after.out
+  answered_more same step = record {
+    history = steps_of job step.reply step.transactions step.upto so_far.history;
+    replies = so_far.replies ++ step.reply ∷ [];
+    ready = step.ready;
+    since = (
+      steps_of job step.reply step.transactions step.upto so_far.since.0,
+      ap (steps_of job step.reply step.transactions step.upto) so_far.since.1,
+    );
+    lasts = lasts_on base (steps_of job step.reply step.transactions step.upto []) so_far.history first before_states states so_far.lasts step.lasts;
+    asks = append-nil _ ∙ append-nil _ ∙ ap (λ (l : List (TxnName × Ask)). l ++ asked_by job ∷ []) so_far.asks
+        ∙ append_assoc (asks_in earlier) (map asked_by jobs) (asked_by job ∷ [])
+        ∙ ap (λ (l : List (TxnName × Ask)). asks_in earlier ++ l) (sym (map_push asked_by jobs job));
+    told = append-nil _ ∙ append-nil _ ∙ ap (λ (l : List Reply). l ++ step.reply ∷ []) so_far.told
+        ∙ append_assoc (replies_in earlier) so_far.replies (step.reply ∷ []);
+    each = length-append so_far.replies (step.reply ∷ []) ∙ ap (λ (n : ℕ). n + 1) so_far.each ∙ sym (length-append jobs (job ∷ []));
+    output =
+        let packet = packet_of_reply schema_version job.sync.0 step.reply in
+        let packets = packets_of_replies schema_version (map sync_of jobs) so_far.replies in
+        let same_long : length (map sync_of jobs) ≡ length so_far.replies = length-map jobs sync_of ∙ sym so_far.each in
+        ap (λ (s : SessionState). s.out) step.output
+        ∙ ap (λ (l : List ℕ). l ++ packet) (same ∙ so_far.output)
+        ∙ append_assoc before packets packet
+        ∙ ap (λ (l : List ℕ). before ++ l) (
+        ap (λ (l : List ℕ). packets ++ l) (sym (append-nil packet))
+        ∙ sym (reply_packets-append schema_version (map sync_of jobs) (job.sync.0 ∷ []) so_far.replies (step.reply ∷ []) same_long)
+        ∙ ap (λ (l : List ℕ). packets_of_replies schema_version l (so_far.replies ++ step.reply ∷ [])) (sym (map_push sync_of jobs job)));
+  }
+
+-- what the first jobs ask begins what all of them ask
+first_asks : (earlier : List (TxnName × Ask)) (first rest all : List Job) → all ≡ first ++ rest
+    → IsPrefix (earlier ++ map asked_by first) (earlier ++ map asked_by all)
+first_asks earlier first rest all is = (
+  map asked_by rest,
+  append_assoc earlier (map asked_by first) (map asked_by rest)
+      ∙ ap (λ (l : List (TxnName × Ask)). earlier ++ l) (sym (map-append asked_by first rest) ∙ ap (map asked_by) (sym is)),
+)
+
+-- the run broke off after these jobs
+pub breaks_behind : (base : Base) (earlier : History) (engine : Engine) (journal : Journal) (first states : Option (List Disk)) (before after : List ℕ)
+    (jobs rest all : List Job) → all ≡ jobs ++ rest → AnswersJobs base earlier engine journal first states jobs before after
+    → IsInterrupted base earlier (asks_in earlier ++ map asked_by all) first states
+breaks_behind base earlier engine journal first states before after jobs rest all is so_far =
+    let asks = asks_in earlier ++ map asked_by all in
+    let since = so_far.since in
+    let among : IsPrefix (asks_in so_far.history) asks =
+    subst (λ (l : List (TxnName × Ask)). IsPrefix l asks) (sym so_far.asks) (first_asks (asks_in earlier) jobs rest all is) in
+    breaks_now base since.0 earlier asks first states
+    (subst (λ (h : History). IsLegal base h) since.1 so_far.ready.behind.stands.legal)
+    (subst (λ (h : History). IsPrefix (asks_in h) asks) since.1 among)
+    (subst (λ (h : History). Lasts base h first states) since.1 so_far.lasts)
+    (subst (λ (h : History). StepsSurvive base h h states) since.1 (ready_keeps base so_far.history engine journal states so_far.ready))
+
+-- the run broke off at the job after these
+pub breaks_at : (base : Base) (earlier : History) (engine : Engine) (journal : Journal) (first before_states states : Option (List Disk))
+    (before middle : List ℕ) (jobs : List Job) (job : Job) (rest all : List Job) → all ≡ jobs ++ job ∷ rest
+    → (so_far : AnswersJobs base earlier engine journal first before_states jobs before middle)
+    → IsInterrupted base so_far.history (asks_in so_far.history ++ asked_by job ∷ []) before_states states
+    → IsInterrupted base earlier (asks_in earlier ++ map asked_by all) first states
+breaks_at base earlier engine journal first before_states states before middle jobs job rest all is so_far breaks =
+    let asks = asks_in earlier ++ map asked_by all in
+    let since = so_far.since in
+    let one_more : asks_in so_far.history ++ asked_by job ∷ [] ≡ asks_in earlier ++ map asked_by (jobs ++ job ∷ []) =
+    ap (λ (l : List (TxnName × Ask)). l ++ asked_by job ∷ []) so_far.asks
+    ∙ append_assoc (asks_in earlier) (map asked_by jobs) (asked_by job ∷ [])
+    ∙ ap (λ (l : List (TxnName × Ask)). asks_in earlier ++ l) (sym (map_push asked_by jobs job)) in
+    let among : IsPrefix (asks_in so_far.history ++ asked_by job ∷ []) asks =
+    subst (λ (l : List (TxnName × Ask)). IsPrefix l asks) (sym one_more)
+    (first_asks (asks_in earlier) (jobs ++ job ∷ []) rest all (is ∙ sym (append_assoc jobs (job ∷ []) rest))) in
+    breaks_on base since.0 earlier asks first before_states states
+    (subst (λ (h : History). Lasts base h first before_states) since.1 so_far.lasts)
+    (subst (λ (h : History). IsInterrupted base h asks before_states states) since.1
+    (breaks_among base so_far.history (asks_in so_far.history ++ asked_by job ∷ []) asks before_states states among breaks))

@@ -1,0 +1,87 @@
+use Rattle.std.proofs.Common.{length, Ok, refl}
+use Rattle.mx_images.proofs.MomentLaws.{joined}
+use Rattle.mx_images.proofs.ToldLaws.{told_chain, told_same}
+use Rattle.mx_model.specs.Survival.{Survive, NoFewerSurvive}
+use Rattle.mx_recover.specs.declared.fault.RecoverFault.{RecoverFault}
+use Rattle.mx_node.proofs.OpenLaws.{durable_at, opens}
+use Rattle.mx_node.proofs.RecoveryLaws.{unchanged_survive, left_survive, made_durable_after, some_survive}
+use Rattle.mx_node.proofs.start.open.Goals as goal
+
+pub begin-requires-clause-durable : goal.begin-requires-clause-durable
+begin-requires-clause-durable g c =
+    let reached = c.in_ok-reached.ensures.stands in (
+      reached.0,
+      durable_at c.in_ok-reached.reached reached.0 _ _ _ reached.1 reached.2 c.recover.ensures.states c.make_durable.ensures.told c.in_ok-make_durable.ensures.durable,
+    )
+
+pub returns-in-Ok-clause-opened : goal.returns-in-Ok-clause-opened
+returns-in-Ok-clause-opened g c = λ salt.
+    let reached = c.in_ok-reached.ensures.stands in
+    opens {E = RecoverFault} (Ok c.in-Ok.opened) c.args.ids.now salt reached.0 _ _ _ refl reached.2
+    (c.in-Ok.ensures.ready reached.0
+    (durable_at c.in_ok-reached.reached reached.0 _ _ _ reached.1 reached.2 c.recover.ensures.states c.make_durable.ensures.told c.in_ok-make_durable.ensures.durable))
+
+pub returns-in_err-reached-clause-moments : goal.returns-in_err-reached-clause-moments
+returns-in_err-reached-clause-moments g c = λ earlier transactions recovers front follow.
+    unchanged_survive transactions _ _ c.recover.ensures.states
+
+pub returns-in_err-make_durable-clause-moments : goal.returns-in_err-make_durable-clause-moments
+returns-in_err-make_durable-clause-moments g c = λ earlier transactions recovers front follow.
+    left_survive earlier transactions _ _ _ front c.recover.ensures.states recovers c.make_durable.ensures.moments
+
+pub returns-in-Ok-clause-moments : goal.returns-in-Ok-clause-moments
+returns-in-Ok-clause-moments g c = λ earlier transactions recovers front follow.
+    let reached = c.in_ok-reached.ensures.stands in
+    let durable = durable_at c.in_ok-reached.reached reached.0 _ _ _ reached.1 reached.2 c.recover.ensures.states c.make_durable.ensures.told
+    c.in_ok-make_durable.ensures.durable in
+    joined (Survive transactions 0) (NoFewerSurvive transactions) _ _ _
+    (left_survive earlier transactions _ _ _ front c.recover.ensures.states recovers c.make_durable.ensures.moments)
+    (some_survive transactions (length earlier) _ _
+    (c.begin.ensures.moments reached.0 earlier transactions durable
+    (made_durable_after earlier c.in_ok-reached.reached reached.0 _ _ _ _ refl c.recover.ensures.states c.make_durable.ensures.told recovers
+    reached.2 durable)
+    front follow))
+
+pub returns-in_err-reached-clause-told : goal.returns-in_err-reached-clause-told
+returns-in_err-reached-clause-told g c = told_same _ _ c.recover.ensures.states
+
+pub returns-in_err-make_durable-clause-told : goal.returns-in_err-make_durable-clause-told
+returns-in_err-make_durable-clause-told g c = told_chain _ _ _ (told_same _ _ c.recover.ensures.states) c.make_durable.ensures.told
+
+pub returns-in-Ok-clause-told : goal.returns-in-Ok-clause-told
+returns-in-Ok-clause-told g c =
+    told_chain _ _ _ (told_chain _ _ _ (told_same _ _ c.recover.ensures.states) c.make_durable.ensures.told) c.begin.ensures.told
+
+pub returns-in-Err-Failed-clause-moments : goal.returns-in-Err-Failed-clause-moments
+returns-in-Err-Failed-clause-moments g c = λ earlier transactions recovers front follow.
+    let reached = c.in_ok-reached.ensures.stands in
+    let durable = durable_at c.in_ok-reached.reached reached.0 _ _ _ reached.1 reached.2 c.recover.ensures.states c.make_durable.ensures.told
+    c.in_ok-make_durable.ensures.durable in
+    joined (Survive transactions 0) (NoFewerSurvive transactions) _ _ _
+    (left_survive earlier transactions _ _ _ front c.recover.ensures.states recovers c.make_durable.ensures.moments)
+    (some_survive transactions (length earlier) _ _
+    (c.begin.ensures.moments reached.0 earlier transactions durable
+    (made_durable_after earlier c.in_ok-reached.reached reached.0 _ _ _ _ refl c.recover.ensures.states c.make_durable.ensures.told recovers
+    reached.2 durable)
+    front follow))
+
+pub returns-in-Err-Failed-clause-told : goal.returns-in-Err-Failed-clause-told
+returns-in-Err-Failed-clause-told g c =
+    told_chain _ _ _ (told_chain _ _ _ (told_same _ _ c.recover.ensures.states) c.make_durable.ensures.told) c.begin.ensures.told
+
+pub returns-in-Err-NoMemory-clause-moments : goal.returns-in-Err-NoMemory-clause-moments
+returns-in-Err-NoMemory-clause-moments g c = λ earlier transactions recovers front follow.
+    let reached = c.in_ok-reached.ensures.stands in
+    let durable = durable_at c.in_ok-reached.reached reached.0 _ _ _ reached.1 reached.2 c.recover.ensures.states c.make_durable.ensures.told
+    c.in_ok-make_durable.ensures.durable in
+    joined (Survive transactions 0) (NoFewerSurvive transactions) _ _ _
+    (left_survive earlier transactions _ _ _ front c.recover.ensures.states recovers c.make_durable.ensures.moments)
+    (some_survive transactions (length earlier) _ _
+    (c.begin.ensures.moments reached.0 earlier transactions durable
+    (made_durable_after earlier c.in_ok-reached.reached reached.0 _ _ _ _ refl c.recover.ensures.states c.make_durable.ensures.told recovers
+    reached.2 durable)
+    front follow))
+
+pub returns-in-Err-NoMemory-clause-told : goal.returns-in-Err-NoMemory-clause-told
+returns-in-Err-NoMemory-clause-told g c =
+    told_chain _ _ _ (told_chain _ _ _ (told_same _ _ c.recover.ensures.states) c.make_durable.ensures.told) c.begin.ensures.told

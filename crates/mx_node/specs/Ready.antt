@@ -1,0 +1,97 @@
+-- How engine, journal and directory stand together between two requests.
+use Rattle.std.specs.Prelude.{◌≡◌, ⊤, ℕ, true, false, List, [], ◌∷◌, ◌++◌, length, take, map, Option}
+use Rattle.std.specs.FinMap as finite
+use Rattle.mx_outside.specs.Disks.{Disk, IfKnown}
+use Rattle.mx_model.specs.declared.reply.Reply.{Reply}
+use Rattle.mx_row.specs.declared.tx.Tx.{Tx}
+use Rattle.mx_row.specs.Rows.{IsTransaction}
+use Rattle.mx_session.specs.declared.job.Job.{Job}
+use Rattle.mx_session.specs.Jobs.{ends}
+use Rattle.mx_session.specs.Sessions.{SessionState}
+use Rattle.mx_frame.specs.Packets.{rest_of}
+use Rattle.mx_row.specs.Clocks.{clock_after, clock_after_one, follows}
+use Rattle.mx_model.specs.Directories.{Continues, ids_in}
+use Rattle.mx_model.specs.Histories.{Base, History, Entry, Asked, Took, Confirmed, asks_in, replies_in, ledger_of, journal_of}
+use Rattle.mx_model.specs.ReplyStream.{packet_of_reply, packets_of_replies}
+use Rattle.mx_engine.specs.declared.engine.Engine.{Engine}
+use Rattle.mx_engine.specs.Standing.{EngineStandsFor}
+use Rattle.mx_journal.specs.declared.journal.Journal.{Journal}
+use Rattle.mx_journal.specs.Written.{IsWritten, Waits, name_of}
+use Rattle.mx_images.specs.Fair.{AllDurable}
+use Rattle.mx_model.specs.Survival.{Lasts}
+use Rattle.mx_node.specs.Connections.{asked_by}
+use Rattle.mx_node.specs.Outputs.{schema_version, sync_of}
+
+-- the commits that were taken to be written
+abbrev pub taken_of : Base → History → List Tx
+taken_of base history = take (ledger_of base history).taken (journal_of base history)
+
+-- The engine stands for the history. Of its commits those that were taken are in the journal's file and durable, where
+-- the directory tells its files; the journal's file begins where the other files end.
+pub record Behind (base : Base) (history : History) (engine : Engine) (journal : Journal) (states : Option (List Disk)) : Type 0 where
+  pub stands : EngineStandsFor engine base history
+  pub begins : journal.head.clock ≡ base.clock
+  pub whose : ids_in journal.head ≡ base.ids
+  pub clock : journal.clock ≡ clock_after base.clock (taken_of base history)
+  pub waits : Waits journal []
+  pub written : IfKnown states (λ disk past. IsWritten journal disk (taken_of base history)
+      × Continues base (name_of journal.head) disk.now × AllDurable disk × (disk.older ≡ finite.empty))
+
+-- the same, and all commits were taken
+pub record Ready (base : Base) (history : History) (engine : Engine) (journal : Journal) (states : Option (List Disk)) : Type 0 where
+  pub behind : Behind base history engine journal states
+  pub taken : (ledger_of base history).taken ≡ length (journal_of base history)
+
+-- so they stand for some history
+abbrev pub IsBehind : Engine → Journal → Option (List Disk) → Type 0
+IsBehind engine journal states = (base : Base) × (history : History) × Behind base history engine journal states
+
+abbrev pub IsReady : Engine → Journal → Option (List Disk) → Type 0
+IsReady engine journal states = (base : Base) × (history : History) × Ready base history engine journal states
+
+-- each of these transactions can be written, and has the next lsns after those before it
+abbrev pub AllComeNext : List ℕ → List Tx → Type 0
+AllComeNext clock [] = ⊤
+AllComeNext clock (tx ∷ txs) = IsTransaction tx × (follows clock tx ≡ true) × AllComeNext (clock_after_one clock tx) txs
+
+-- the step of a job
+abbrev pub step_of : Job → Reply → Entry
+step_of job reply = Asked job.name job.ask reply
+
+-- the engine took the step of a job, and this is the packet of its reply
+pub record Replied (base : Base) (history : History) (engine : Engine) (job : Job) (packet : List ℕ) : Type 0 where
+  pub reply : Reply
+  pub stands : EngineStandsFor engine base (step_of job reply ∷ history)
+  pub spelled : packet ≡ packet_of_reply schema_version job.sync.0 reply
+
+-- the steps of a job: it is answered, and what is committed is taken, written and confirmed
+abbrev pub steps_of : Job → Reply → List Tx → ℕ → History → History
+steps_of job reply transactions upto history = Confirmed upto ∷ Took transactions upto ∷ step_of job reply ∷ history
+
+-- the job was answered, what it committed is durable, and its reply may leave
+pub record AnswersJob (base : Base) (earlier : History) (engine : Engine) (journal : Journal) (old states : Option (List Disk)) (job : Job) (before after : SessionState) : Type 0 where
+  pub reply : Reply
+  pub transactions : List Tx
+  pub upto : ℕ
+  pub ready : Ready base (steps_of job reply transactions upto earlier) engine journal states
+  pub lasts : Lasts base (steps_of job reply transactions upto earlier) old states
+  pub output : after ≡ record before { out = before.out ++ packet_of_reply schema_version job.sync.0 reply }
+
+-- the same for these jobs, in order, each with the output `before` and `after` it
+pub record AnswersJobs (base : Base) (earlier : History) (engine : Engine) (journal : Journal) (old states : Option (List Disk)) (jobs : List Job) (before after : List ℕ) : Type 0 where
+  pub history : History
+  pub replies : List Reply
+  pub ready : Ready base history engine journal states
+  pub since : (more : History) × (history ≡ more ++ earlier)
+  pub lasts : Lasts base history old states
+  pub asks : asks_in history ≡ asks_in earlier ++ map asked_by jobs
+  pub told : replies_in history ≡ replies_in earlier ++ replies
+  pub each : length replies ≡ length jobs
+  pub output : after ≡ before ++ packets_of_replies schema_version (map sync_of jobs) replies
+
+-- all jobs of a session's bytes were taken, and no reply waits
+pub record TakenAll (old new : SessionState) : Type 0 where
+  pub whose : new.connection ≡ old.connection
+  pub idle : new.waiting ≡ []
+  pub ended : new.ended ≡ ends old.connection old.rest
+  pub rest : new.ended ≡ false → new.rest ≡ rest_of old.rest

@@ -1,0 +1,105 @@
+-- What a server has done for the units so far.
+use Rattle.std.specs.Prelude.{◌≡◌, ℕ, suc, ◌≤◌, Bool, false, not, List, [], ◌∷◌, ◌++◌, length, slice_index_or, Option, Some, None, IfSome, if◌then◌else◌, Ok}
+use Rattle.mx_outside.specs.Disks.{Disk, IfKnown}
+use Rattle.mx_frame.specs.Packets.{rest_of}
+use Rattle.mx_session.specs.Jobs.{ends}
+use Rattle.mx_session.specs.Sessions.{SessionState}
+use Rattle.mx_model.specs.Histories.{History, Left, IsLegal, asks_in, replies_in, Base, state_of, clock_of}
+use Rattle.mx_node.specs.declared.single.Single.{Single}
+use Rattle.mx_node.specs.Inputs.{InputUnit, max_connection}
+use Rattle.mx_node.specs.Connections.{came_on, asks_of, all_asks_of, jobs_from}
+use Rattle.mx_node.specs.Starts.{Start, start_greeting}
+use Rattle.mx_node.specs.Outputs.{output_of}
+use Rattle.mx_model.specs.declared.out_units.OutUnit.{OutUnit}
+use Rattle.mx_node.specs.Ready.{Ready, IsReady}
+use Rattle.mx_model.specs.Survival.{Lasts}
+use Rattle.mx_model.specs.Directories.{Reached, IsDirectoryState}
+use Rattle.mx_images.specs.Fair.{AllDurable}
+
+-- The directory stands for what the history has come to, and all of its journals are durable.
+pub record DirectoryHolds (base : Base) (history : History) (disk : Disk) : Type 0 where
+  pub reached : Reached
+  pub stands : IsDirectoryState disk.now (Ok reached)
+  pub ids : reached.ids ≡ Some base.ids
+  pub state : reached.state ≡ state_of base history
+  pub clock : reached.clock ≡ clock_of base history
+  pub synced : AllDurable disk
+
+-- The session of a connection on which these bytes came: none of its replies waits or is to be sent, and the bytes after the
+-- whole packets wait, unless one of these ended the connection.
+pub record Attends (connection : ℕ) (came : List ℕ) (session : SessionState) : Type 0 where
+  pub whose : session.connection ≡ connection
+  pub idle : session.waiting ≡ []
+  pub sent : session.out ≡ []
+  pub ended : session.ended ≡ ends connection came
+  pub rest : session.ended ≡ false → session.rest ≡ rest_of came
+
+abbrev pub IsSome : (connection : ℕ) → (came : List ℕ) → Option SessionState → Type 0
+IsSome connection came None = ⊥
+IsSome connection came (Some session) = Attends connection came session
+
+-- the session of a connection, and none where no byte came on it
+abbrev pub HasSession : (connection : ℕ) → (came : List ℕ) → Option SessionState → Type 0
+HasSession connection [] found = found ≡ None
+HasSession connection (byte ∷ bytes) found = IsSome connection (byte ∷ bytes) found
+
+-- the session of a connection in a table by their numbers
+abbrev pub session_at : List (Option SessionState) → ℕ → Option SessionState
+session_at sessions connection = slice_index_or sessions connection None
+
+-- the session's connection is there
+abbrev pub goes_on : Option SessionState → Bool
+goes_on None = false
+goes_on (Some session) = not session.ended
+
+-- the table has a place for each connection
+abbrev pub IsTable : List (Option SessionState) → Type 0
+IsTable sessions = length sessions ≡ suc max_connection
+
+-- no reply of a session waits
+abbrev pub IsIdle : SessionState → Type 0
+IsIdle session = session.waiting ≡ []
+
+-- engine, journal and directory stand together, each connection has its place, and no reply waits
+pub record CanServe (server : Single) (states : Option (List Disk)) : Type 0 where
+  pub ready : IsReady server.engine server.journal states
+  pub table : IsTable server.sessions.items
+  pub idle : (connection : ℕ) → IfSome (session_at server.sessions.items connection) IsIdle
+
+-- the session of a connection that opens, on which this greeting leaves
+abbrev pub opened : (connection : ℕ) → (greeting : List ℕ) → SessionState
+opened connection greeting = record { connection = connection; rest = []; ended = false; waiting = []; out = greeting }
+
+-- The open connections of a table leave, the first place being this connection's: what the history comes to.
+abbrev pub left_from : (connection : ℕ) → List (Option SessionState) → History → History
+left_from connection [] history = history
+left_from connection (None ∷ others) history = left_from (suc connection) others history
+left_from connection (Some session ∷ others) history =
+    left_from (suc connection) others (if session.ended then history else Left connection ∷ history)
+
+-- The server has answered the jobs of these units, and keeps a session for each connection that they opened and didn't close.
+pub record Serves (start : Start) (server : Single) (units : List InputUnit) (history : History) (states : Option (List Disk)) : Type 0 where
+  pub greeting : server.greeting ≡ start_greeting start
+  pub ready : Ready start.base history server.engine server.journal states
+  pub asks : asks_in history ≡ asks_of units
+  pub told : length (replies_in history) ≡ length (jobs_from [] units)
+  pub table : IsTable server.sessions.items
+  pub sessions : (connection : ℕ) → connection ≤ max_connection → HasSession connection (came_on connection units) (session_at server.sessions.items connection)
+
+-- one unit more was answered, and this is sent for it
+pub record AnswersUnit (start : Start) (server : Single) (units : List InputUnit) (earlier : History) (unit : InputUnit) (sent : List OutUnit) (old states : Option (List Disk)) : Type 0 where
+  pub history : History
+  pub since : (more : History) × (history ≡ more ++ earlier)
+  pub lasts : Lasts start.base history old states
+  pub serves : Serves start server (units ++ unit ∷ []) history states
+  pub grows : output_of start (units ++ unit ∷ []) history ≡ output_of start units earlier ++ sent
+
+-- The open connections left, and the journal was ended in order.
+pub record EndedNode (start : Start) (units : List InputUnit) (earlier : History) (old states : Option (List Disk)) : Type 0 where
+  pub history : History
+  pub since : (more : History) × (history ≡ more ++ earlier)
+  pub legal : IsLegal start.base history
+  pub asks : asks_in history ≡ all_asks_of units
+  pub told : replies_in history ≡ replies_in earlier
+  pub lasts : Lasts start.base history old states
+  pub keeps : IfKnown states (λ disk past. DirectoryHolds start.base history disk)

@@ -1,0 +1,73 @@
+//! Commits: what an engine committed is written to the journal and synced.
+
+ghost use Rattle.std.specs.Prelude.{◌≡◌, ◌+◌, ◌<◌, ◌^◌, ◌++◌, ◌∷◌, ℕ, List, OnOk};
+ghost use Rattle.mx_outside.specs.Causes.{HasCauseOf};
+ghost use Rattle.mx_outside.specs.Disks.{Disk};
+ghost use Rattle.mx_journal.specs.declared.fault.JournalFault.TheVariants.{Failed};
+ghost use Rattle.mx_journal.specs.Written.{IsWritten, Waits};
+ghost use Rattle.mx_row.specs.declared.tx.Tx.{Tx};
+ghost use Rattle.mx_model.specs.Histories.{Base, History, Left, Took, Confirmed};
+ghost use Rattle.mx_model.specs.Survival.{Lasts};
+ghost use Rattle.mx_engine.specs.Standing.{EngineStandsFor};
+ghost use Rattle.mx_node.specs.Ready.{Behind, IsBehind, Ready, AllComeNext};
+
+use mx_base::ConnId;
+use mx_engine::Engine;
+use mx_journal::{Journal, JournalFault};
+use mx_outside::Dir;
+use mx_row::Tx;
+use std::alloc::{AllocError, Global};
+
+/// The maximum number of an engine's steps: one for each entry, three for a job.
+pub(crate) const MAX_STEPS: u64 = (1 << 63) - 1;
+
+/// Writes what the engine committed, and tells the engine once it is durable.
+pub(crate) fn write_out<D: Dir>(
+    alloc: Global,
+    engine: &mut Engine,
+    journal: &mut Journal,
+    dir: &mut D,
+) -> Result<(), JournalFault>
+    requires room { engine.old.count + 2 < 2 ^ 63 }
+    requires behind { IsBehind engine.old journal.old (D.states dir.old) }
+    ensures ready { (base : Base) (history : History) → Behind base history engine.old journal.old (D.states dir.old)
+        → OnOk result ((txs : List Tx) × (upto : ℕ) × Ready base (Confirmed upto ∷ Took txs upto ∷ history) engine.new journal.new (D.states dir.new)) }
+    ensures lasts { (base : Base) (history : History) → Behind base history engine.old journal.old (D.states dir.old)
+        → Lasts base history (D.states dir.old) (D.states dir.new) }
+    ensures cause { HasCauseOf Failed (D.faults dir.old) (D.faults dir.new) result }
+{
+    let pending = engine.take_pending();
+    push_all(alloc, journal, pending.txs.as_slice())?;
+    journal.write_out(alloc, dir)?;
+    engine.confirm(pending.upto);
+    Ok(())
+}
+
+/// Puts transactions after those that wait to be written.
+fn push_all(alloc: Global, journal: &mut Journal, txs: &[Tx]) -> Result<(), AllocError>
+    requires { AllComeNext journal.old.next txs.now }
+    ensures waits { (waits : List Tx) → Waits journal.old waits → OnOk result (Waits journal.new (waits ++ txs.now)) }
+    ensures written { (disk : Disk) (done : List Tx) → IsWritten journal.old disk done → IsWritten journal.new disk done }
+    ensures head { journal.new.head ≡ journal.old.head }
+    ensures clock { journal.new.clock ≡ journal.old.clock }
+{
+    for tx in txs {
+        journal.push(alloc, tx)?;
+    }
+    Ok(())
+}
+
+/// Takes a connection's departure.
+///
+/// # Errors
+/// The engine can take no more steps.
+pub(crate) fn leave(engine: &mut Engine, connection: ConnId) -> Result<(), AllocError>
+    ensures { (base : Base) (history : History) → EngineStandsFor engine.old base history
+        → OnOk result (EngineStandsFor engine.new base (Left connection.0 ∷ history)) }
+{
+    if engine.count() >= MAX_STEPS {
+        return Err(AllocError);
+    }
+    engine.leave(connection);
+    Ok(())
+}

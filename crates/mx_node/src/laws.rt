@@ -1,0 +1,21 @@
+//! Theorems that other crates may use.
+
+ghost use Rattle.std.specs.Prelude.{ℕ, ◌≤◌, List, [], ◌∷◌, length, take, Some};
+ghost use Rattle.std.specs.FinMap as finite;
+ghost use Rattle.mx_outside.specs.Disks.{Disk, IsImage};
+ghost use Rattle.mx_row.specs.declared.tx.Tx.{Tx};
+ghost use Rattle.mx_images.specs.Fair.{IsFairEnd};
+ghost use Rattle.mx_model.specs.Survival.{FollowFromNew, Recovers, Survive};
+
+/// A theorem, which does nothing when it is called: a directory without files recovers no transaction.
+pub fn an_empty_directory_recovers()
+    ensures { Recovers [] (Some (record { now = finite.empty; older = finite.empty } ∷ [])) }
+{}
+
+/// A theorem, which does nothing when it is called: a crash image, where so many transactions
+/// survive, recovers a prefix of them, of at least so many.
+pub fn what_a_crash_leaves_recovers()
+    ensures { (transactions : List Tx) (least : ℕ) (disk image : Disk) → FollowFromNew transactions → Survive transactions least disk
+        → IsImage IsFairEnd disk image
+        → (count : ℕ) × (least ≤ count) × (count ≤ length transactions) × Recovers (take count transactions) (Some (image ∷ [])) }
+{}

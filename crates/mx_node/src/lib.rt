@@ -1,0 +1,14 @@
+//! A node in one thread: it opens a directory, answers what its connections ask, and journals commits.
+#![tactic(auto)]
+
+mod commits;
+mod jobs;
+mod laws;
+mod sessions;
+mod single;
+mod start;
+mod unit;
+
+pub use laws::{an_empty_directory_recovers, what_a_crash_leaves_recovers};
+pub use single::Single;
+pub use unit::{MAX_CONNECTION, Unit};

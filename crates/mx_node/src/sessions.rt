@@ -1,0 +1,150 @@
+//! The sessions of a node's connections, by the numbers of the connections.
+
+ghost use Rattle.std.specs.Prelude.{◌≡◌, ◌<◌, ℕ, ◌∷◌, ◌++◌, [], length, None, Some, OnOk, IfOk, slice_set, unwrap_or, if◌then◌else◌};
+ghost use Rattle.mx_model.specs.Histories.{Base, History, Left};
+ghost use Rattle.mx_engine.specs.Standing.{EngineStandsFor};
+ghost use Rattle.mx_node.specs.Outputs.{sent_on, closed_on};
+ghost use Rattle.mx_node.specs.Serving.{IsTable, goes_on, left_from, opened, session_at};
+
+use crate::commits::leave;
+use crate::unit::MAX_CONNECTION;
+use mx_base::ConnId;
+use mx_engine::Engine;
+use mx_model::{OutUnit, OutUnits};
+use mx_msgpack::Bytes;
+use mx_session::Session;
+use std::alloc::{AllocError, Global};
+
+/// How many connections there may be.
+const CONNECTIONS: usize = MAX_CONNECTION as usize + 1;
+
+/// A table without sessions, with a place for each connection.
+pub(crate) fn no_sessions(alloc: Global) -> Result<Vec<Option<Session>>, AllocError>
+    ensures table { IfOk result (λ sessions. IsTable sessions.items) }
+    ensures none { IfOk result (λ sessions. (connection : ℕ) → session_at sessions.items connection ≡ None) }
+{
+    let mut sessions = Vec::with_capacity(alloc, CONNECTIONS)?;
+    for _ in 0..CONNECTIONS {
+        sessions.push(None)?;
+    }
+    Ok(sessions)
+}
+
+/// Takes the session of a connection out of its place, or opens one with this greeting where there
+/// is none.
+pub(crate) fn take_session(
+    alloc: Global,
+    sessions: &mut [Option<Session>],
+    connection: ConnId,
+    greeting: &[u8; 128],
+) -> Result<Session, AllocError>
+    requires { connection.0 < length sessions.old }
+    ensures session { IfOk result (λ session. session ≡ unwrap_or (session_at sessions.old connection.0) (opened connection.0 greeting.now)) }
+    ensures place { sessions.new ≡ slice_set sessions.old connection.0 None }
+{
+    match sessions[connection.0 as usize].take() {
+        Some(session) => Ok(session),
+        None => Session::new(alloc, connection, greeting),
+    }
+}
+
+/// Puts the session of a connection into its place.
+pub(crate) fn keep_session(sessions: &mut [Option<Session>], connection: ConnId, session: Session)
+    requires { connection.0 < length sessions.old }
+    ensures { sessions.new ≡ slice_set sessions.old connection.0 (Some session) }
+{
+    sessions[connection.0 as usize] = Some(session);
+}
+
+/// Drops the session of a connection, and says whether the connection was open.
+pub(crate) fn drop_session(sessions: &mut [Option<Session>], connection: ConnId) -> bool
+    requires { connection.0 < length sessions.old }
+    ensures open { result ≡ goes_on (session_at sessions.old connection.0) }
+    ensures place { sessions.new ≡ slice_set sessions.old connection.0 None }
+{
+    match sessions[connection.0 as usize].take() {
+        Some(session) => !session.has_ended(),
+        None => false,
+    }
+}
+
+/// Adds what may leave on a connection to `out`. Where the connection has ended, says so after it,
+/// and takes its departure.
+pub(crate) fn send_and_end(
+    alloc: Global,
+    engine: &mut Engine,
+    session: &mut Session,
+    connection: ConnId,
+    ended: bool,
+    out: &mut OutUnits,
+) -> Result<(), AllocError>
+    ensures out { OnOk result (out.new ≡ out.old ++ (sent_on connection.0 session.old.out ++ (if ended then closed_on connection.0 ∷ [] else []))) }
+    ensures session { OnOk result (session.new ≡ record session.old { out = [] }) }
+    ensures left { (base : Base) (history : History) → EngineStandsFor engine.old base history
+        → OnOk result (EngineStandsFor engine.new base (if ended then Left connection.0 ∷ history else history)) }
+{
+    send(alloc, session, connection, out)?;
+    if !ended {
+        return Ok(());
+    }
+    out.push(OutUnit {
+        conn: connection,
+        bytes: Bytes::new(alloc),
+    })?;
+    leave(engine, connection)?;
+    Ok(())
+}
+
+/// Adds what may leave on a connection to `out`.
+fn send(
+    alloc: Global,
+    session: &mut Session,
+    connection: ConnId,
+    out: &mut OutUnits,
+) -> Result<(), AllocError>
+    ensures out { OnOk result (out.new ≡ out.old ++ sent_on connection.0 session.old.out) }
+    ensures session { OnOk result (session.new ≡ record session.old { out = [] }) }
+{
+    let count = session.out().len();
+    if count == 0 {
+        return Ok(());
+    }
+    let bytes = Bytes::from_slice(alloc, session.out())?;
+    out.push(OutUnit {
+        conn: connection,
+        bytes,
+    })?;
+    session.sent(count);
+    Ok(())
+}
+
+/// Takes the departures of the connections that are open, in the order of their numbers.
+pub(crate) fn leave_all(engine: &mut Engine, sessions: &[Option<Session>]) -> Result<(), AllocError>
+    requires { IsTable sessions.now }
+    ensures { (base : Base) (history : History) → EngineStandsFor engine.old base history
+        → OnOk result (EngineStandsFor engine.new base (left_from 0 sessions.now history)) }
+{
+    for (number, slot) in sessions.iter().enumerate() {
+        leave_one(engine, ConnId(number as u32), slot)?;
+    }
+    Ok(())
+}
+
+/// Takes the departure of a connection that is open.
+fn leave_one(
+    engine: &mut Engine,
+    connection: ConnId,
+    slot: &Option<Session>,
+) -> Result<(), AllocError>
+    ensures { (base : Base) (history : History) → EngineStandsFor engine.old base history
+        → OnOk result (EngineStandsFor engine.new base (left_from connection.0 (slot.now ∷ []) history)) }
+{
+    let Some(session) = slot else {
+        return Ok(());
+    };
+    if session.has_ended() {
+        return Ok(());
+    }
+    leave(engine, connection)?;
+    Ok(())
+}

@@ -1,0 +1,200 @@
+//! One node in one thread: engine, sessions and journal.
+
+ghost use Rattle.std.specs.Prelude.{◌≡◌, ◌<◌, ◌≤◌, ◌++◌, [], Err, IfOk, OnOk, OnErr};
+
+use crate::commits::leave;
+use crate::jobs::answer_bytes;
+use crate::sessions::{
+    drop_session, keep_session, leave_all, no_sessions, send_and_end, take_session,
+};
+use crate::start::{Opened, open};
+use crate::unit::Unit;
+use mx_base::ConnId;
+use mx_engine::Engine;
+use mx_journal::{Journal, JournalFault};
+use mx_model::{Ids, OutUnits};
+use mx_outside::Dir;
+use mx_recover::RecoverFault;
+use mx_reply::write_greeting;
+use mx_session::Session;
+use std::alloc::{AllocError, Global};
+
+/// A node in one thread, with its connections. It doesn't own its directory; each call is given it.
+#[derive(Drop)]
+pub struct Single {
+    alloc: Global,
+    greeting: [u8; 128],
+    engine: Engine,
+    journal: Journal,
+    /// The sessions by the numbers of their connections.
+    sessions: Vec<Option<Session>>,
+}
+
+impl Single {
+    ghost use Rattle.std.specs.Prelude.{ℕ, List, Option};
+    ghost use mathlib.Core.List.{IsPrefix};
+    ghost use Rattle.mx_outside.specs.Causes.{HasCauseOf, Rose};
+    ghost use Rattle.mx_outside.specs.Disks.{Disk, IfKnown, KnownAlike};
+    ghost use Rattle.mx_outside.specs.Moments.{Moments};
+    ghost use Rattle.mx_journal.specs.declared.fault.JournalFault.TheVariants.{Failed as JournalFailed};
+    ghost use Rattle.mx_row.specs.declared.tx.Tx.{Tx};
+    ghost use Rattle.mx_model.specs.declared.damage.Damage.{Damage};
+    ghost use Rattle.mx_model.specs.Directories.{IsDirectoryState};
+    ghost use Rattle.mx_model.specs.Histories.{Base, History};
+    ghost use Rattle.mx_model.specs.Survival.{Lasts, Recovers, FollowFromNew, Survive, NoFewerSurvive};
+    ghost use Rattle.mx_recover.specs.declared.fault.RecoverFault.TheVariants.{Damaged, Failed};
+    ghost use Rattle.mx_node.specs.Inputs.{InputUnit, Bytes, Close, connection_of, max_connection};
+    ghost use Rattle.mx_node.specs.Views.{unit_view};
+    ghost use Rattle.mx_node.specs.Connections.{all_asks_of, asks_by, asks_of};
+    ghost use Rattle.mx_node.specs.Starts.{Start, IsStart};
+    ghost use Rattle.mx_node.specs.Ready.{Ready};
+    ghost use Rattle.mx_node.specs.Interrupted.{IsInterrupted};
+    ghost use Rattle.mx_node.specs.Serving.{CanServe, EndedNode, IsTable, Serves, AnswersUnit};
+
+    /// Opens a directory: recovers it, makes what was read durable, and begins a journal that goes on
+    /// from there. A directory without files takes the identifiers. The salt is the greeting's.
+    ///
+    /// # Errors
+    /// The directory is damaged, and nothing in it was changed; a call on it failed; or out of memory.
+    pub fn start<D: Dir>(
+        alloc: Global,
+        dir: &mut D,
+        ids: &Ids,
+        salt: &[u8; 32],
+    ) -> Result<Single, RecoverFault>
+        requires { ids.now.me < 32 }
+        ensures serves { IfOk result (λ single. (start : Start) × IsStart start ids.now salt.now (D.states dir.old) × Serves start single [] [] (D.states dir.new)) }
+        ensures told { KnownAlike (D.states dir.old) (D.states dir.new) }
+        ensures moments { (earlier transactions : List Tx) → Recovers earlier (D.states dir.old) → IsPrefix earlier transactions → FollowFromNew transactions
+            → IfKnown (D.states dir.old) (λ disk past. Moments (Survive transactions 0) (NoFewerSurvive transactions) (D.states dir.new) disk past) }
+        ensures damaged { (damage : Damage) → result ≡ Err (Damaged damage)
+            → IfKnown (D.states dir.old) (λ disk past. IsDirectoryState disk.now (Err damage)) × (D.states dir.new ≡ D.states dir.old) }
+        ensures later { D.faults dir.old ≤ D.faults dir.new }
+        ensures fault { result ≡ Err Failed → Rose (D.faults dir.old) (D.faults dir.new) }
+    {
+        let opened = open(alloc, dir, ids)?;
+        Ok(Single::over(alloc, salt, opened)?)
+    }
+
+    /// A node over an opened directory, which has no connection yet.
+    fn over(alloc: Global, salt: &[u8; 32], opened: Opened) -> Result<Single, AllocError>
+        ensures { (start : Start) (states : Option (List Disk)) → start.salt ≡ salt.now → Ready start.base [] opened.engine opened.journal states
+            → IfOk result (λ single. Serves start single [] [] states) }
+    {
+        let Opened { engine, journal } = opened;
+        Ok(Single {
+            alloc,
+            greeting: write_greeting(alloc, &engine.ids().instance, salt)?,
+            engine,
+            journal,
+            sessions: no_sessions(alloc)?,
+        })
+    }
+
+    /// Takes a unit, and gives what its connection is sent for it: replies, and word that the
+    /// server has closed it. What the unit commits is durable then.
+    ///
+    /// # Errors
+    /// A call on the directory failed, or out of memory. The node is of no use then.
+    pub fn unit<D: Dir>(&mut self, dir: &mut D, unit: Unit<'_>) -> Result<OutUnits, JournalFault>
+        requires serves { CanServe self.old (D.states dir.old) }
+        requires connection { connection_of (unit_view unit) ≤ max_connection }
+        ensures took { (start : Start) (units : List InputUnit) (history : History) → Serves start self.old units history (D.states dir.old)
+            → IfOk result (λ sent. AnswersUnit start self.new units history (unit_view unit.entry) sent (D.states dir.old) (D.states dir.new)) }
+        ensures breaks { (start : Start) (units : List InputUnit) (history : History) → Serves start self.old units history (D.states dir.old)
+            → OnErr result (IsInterrupted start.base history (asks_of units ++ asks_by units (unit_view unit.entry)) (D.states dir.old) (D.states dir.new)) }
+        ensures serves { OnOk result (CanServe self.new (D.states dir.new)) }
+        ensures cause { HasCauseOf JournalFailed (D.faults dir.old) (D.faults dir.new) result }
+    {
+        match unit {
+            Unit::Bytes { conn, bytes } => self.bytes(dir, conn, bytes),
+            Unit::Close { conn } => Ok(self.close(conn)?),
+        }
+    }
+
+    /// Takes bytes of a connection, which the first ones open, and gives what it is sent for them.
+    fn bytes<D: Dir>(
+        &mut self,
+        dir: &mut D,
+        connection: ConnId,
+        bytes: &[u8],
+    ) -> Result<OutUnits, JournalFault>
+        requires serves { CanServe self.old (D.states dir.old) }
+        requires connection { connection.0 ≤ max_connection }
+        ensures took { (start : Start) (units : List InputUnit) (history : History) → Serves start self.old units history (D.states dir.old)
+            → IfOk result (λ sent. AnswersUnit start self.new units history (Bytes connection.0 bytes.now) sent (D.states dir.old) (D.states dir.new)) }
+        ensures breaks { (start : Start) (units : List InputUnit) (history : History) → Serves start self.old units history (D.states dir.old)
+            → OnErr result (IsInterrupted start.base history (asks_of units ++ asks_by units (Bytes connection.0 bytes.now)) (D.states dir.old) (D.states dir.new)) }
+        ensures serves { OnOk result (CanServe self.new (D.states dir.new)) }
+        ensures cause { HasCauseOf JournalFailed (D.faults dir.old) (D.faults dir.new) result }
+    {
+        let mut out = OutUnits::new(self.alloc);
+        if bytes.is_empty() {
+            return Ok(out);
+        }
+        let mut session = take_session(
+            self.alloc,
+            self.sessions.as_mut_slice(),
+            connection,
+            &self.greeting,
+        )?;
+        let ended = answer_bytes(
+            self.alloc,
+            &mut self.engine,
+            &mut self.journal,
+            dir,
+            &mut session,
+            bytes,
+        )?;
+        send_and_end(
+            self.alloc,
+            &mut self.engine,
+            &mut session,
+            connection,
+            ended,
+            &mut out,
+        )?;
+        keep_session(self.sessions.as_mut_slice(), connection, session);
+        Ok(out)
+    }
+
+    /// Closes a connection, where it is open.
+    fn close(&mut self, connection: ConnId) -> Result<OutUnits, AllocError>
+        requires table { IsTable self.old.sessions.items }
+        requires connection { connection.0 ≤ max_connection }
+        ensures took { (start : Start) (units : List InputUnit) (history : History) (states : Option (List Disk)) → Serves start self.old units history states
+            → IfOk result (λ sent. AnswersUnit start self.new units history (Close connection.0) sent states states) }
+        ensures serves { (states : Option (List Disk)) → CanServe self.old states → OnOk result (CanServe self.new states) }
+    {
+        let out = OutUnits::new(self.alloc);
+        if !drop_session(self.sessions.as_mut_slice(), connection) {
+            return Ok(out);
+        }
+        leave(&mut self.engine, connection)?;
+        Ok(out)
+    }
+
+    /// Takes the departures of the open connections, and ends the journal in order.
+    ///
+    /// # Errors
+    /// A call on the directory failed, or out of memory.
+    pub fn end<D: Dir>(self, dir: &mut D) -> Result<(), JournalFault>
+        requires { CanServe self (D.states dir.old) }
+        ensures closed { (start : Start) (units : List InputUnit) (history : History) → Serves start self units history (D.states dir.old)
+            → OnOk result (EndedNode start units history (D.states dir.old) (D.states dir.new)) }
+        ensures breaks { (start : Start) (units : List InputUnit) (history : History) → Serves start self units history (D.states dir.old)
+            → OnErr result (IsInterrupted start.base history (all_asks_of units) (D.states dir.old) (D.states dir.new)) }
+        ensures cause { HasCauseOf JournalFailed (D.faults dir.old) (D.faults dir.new) result }
+    {
+        let Single {
+            alloc,
+            mut engine,
+            journal,
+            sessions,
+            ..
+        } = self;
+        leave_all(&mut engine, &sessions)?;
+        journal.end(alloc, dir)?;
+        Ok(())
+    }
+}

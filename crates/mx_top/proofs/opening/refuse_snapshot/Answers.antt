@@ -1,5 +1,0 @@
-use Rattle.mx_top.proofs.FileLaws.{none_last}
-use Rattle.mx_top.proofs.opening.refuse_snapshot.Goals as goal
-
-pub returns-in_default-clause-none : goal.returns-in_default-clause-none
-returns-in_default-clause-none c = none_last _ c.in_default.ensures
