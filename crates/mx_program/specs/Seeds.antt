@@ -1,4 +1,4 @@
--- The texts that a seed may be written as.
+-- The texts of a seed.
 use Rattle.std.specs.Prelude.{ℕ, List, ◌≡◌, length}
 use Rattle.std.specs.List.{AllPass}
 use Rattle.hex.specs.Hex.{is_hex_digit}

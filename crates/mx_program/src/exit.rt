@@ -1,13 +1,13 @@
 //! The exit status of each status of a run.
 
 ghost use Rattle.std.specs.Prelude.{◌≡◌};
-ghost use Rattle.mx_program.specs.Exits.{number_of};
+ghost use Rattle.mx_program.specs.Exits.{exit_number};
 
 use mx_top::Status;
 
 /// The number that the process ends with.
 pub fn number(status: &Status) -> u8
-    ensures { result ≡ number_of status.now }
+    ensures { result ≡ exit_number status.now }
 {
     match status {
         Status::Ok => 0,

@@ -1,4 +1,4 @@
-//! A run that failed, as it is told on standard error.
+//! A run that failed, as it is printed on standard error.
 
 ghost use Rattle.std.specs.Prelude.{◌≡◌, ◌≢◌, IfOk};
 ghost use Rattle.mx_top.specs.declared.status.Status.TheVariants.{NoMemory};
@@ -10,7 +10,7 @@ use std::alloc::{AllocError, AllocFailed, Global};
 use std::fmt;
 use std::fmt::{Display, Formatter};
 
-/// How a run failed, and for a directory that wasn't opened why.
+/// The status of a run that failed, and why its directory wasn't opened.
 #[derive(Debug, Drop)]
 pub struct Failure {
     pub status: Status,
@@ -28,15 +28,15 @@ impl Failure {
         }
     }
 
-    /// The directory that the word names wasn't opened.
-    pub fn of_directory(alloc: Global, word: &str, fault: OpenFault) -> Result<Failure, AllocError>
+    /// A run whose directory wasn't opened.
+    pub fn of_directory(alloc: Global, path: &str, fault: OpenFault) -> Result<Failure, AllocError>
         ensures status { IfOk result (λ failure. failure.status ≡ unopened fault) }
         ensures failed { IfOk result (λ failure. failure.status ≢ Status.Ok) }
     {
         let status = unopened(&fault);
         let cause = match fault {
             OpenFault::NoMemory => None,
-            _ => Some(format!(in alloc; "{word}: {fault}")?),
+            _ => Some(format!(in alloc; "{path}: {fault}")?),
         };
         Ok(Failure { status, cause })
     }

@@ -1,4 +1,4 @@
-//! What the program tells of itself.
+//! The texts of `--help` and `--version`.
 
 ghost use Rattle.std.specs.Prelude.{◌≡◌, ◌↔◌, ◌∷◌, [], Some, codes};
 ghost use Rattle.mx_program.specs.declared.help.Notice.TheVariants.{Help, Version};
@@ -12,15 +12,15 @@ pub enum Notice {
     Version,
 }
 
-/// The notice that the words ask for, where they are nothing but its option.
-pub fn asked_for(words: &Names) -> Option<Notice>
-    ensures help { (result ≡ Some Help) ↔ (words.now ≡ codes "--help" ∷ []) }
-    ensures version { (result ≡ Some Version) ↔ (words.now ≡ codes "--version" ∷ []) }
+/// The notice that the arguments ask for, where they are its option alone.
+pub fn notice_in(arguments: &Names) -> Option<Notice>
+    ensures help { (result ≡ Some Help) ↔ (arguments.now ≡ codes "--help" ∷ []) }
+    ensures version { (result ≡ Some Version) ↔ (arguments.now ≡ codes "--version" ∷ []) }
 {
-    let [word] = words.as_slice() else {
+    let [option] = arguments.as_slice() else {
         return None;
     };
-    match word.as_str() {
+    match option.as_str() {
         "--help" => Some(Notice::Help),
         "--version" => Some(Notice::Version),
         _ => None,
@@ -50,8 +50,8 @@ Usage:
   vurandy --help       prints this text
   vurandy --version    prints the version
 
-DIR is the directory of the database. It is made where it isn't there. Each commit is on
-the disk before its answer goes out, and the next run finds it. One process uses a
+DIR is the directory of the database. It is created if it is missing. Each commit is
+durable before its reply is sent, and the next run recovers it. One process uses a
 directory at a time.
 
 Input is a list of units. Each number in them is big-endian:
@@ -60,21 +60,21 @@ Input is a list of units. Each number in them is big-endian:
   length       4 bytes, at most 16777216; 0 for a close
   bytes        that many: IPROTO packets, cut anywhere
 
-Output is a list of units too. What a connection is sent begins with the greeting, and
-then has the answers to its packets in their order:
+Output is a list of units too. A connection is sent the greeting, and then the replies to
+its packets in their order:
   connection   4 bytes
-  length       4 bytes; 0 where the server ended the connection
+  length       4 bytes; 0 where the server closed the connection
   bytes        that many
 
 Exit status:
   0  Ok          the input was read to its end and answered
   1  BadInput N  the unit that begins at byte N of the input is malformed
-  2  BadWords    the words are no command, or VURANDY_SEED is malformed
+  2  BadWords    unrecognised arguments, or VURANDY_SEED is malformed
   3  ReadFault   the input or the system's random source failed
   4  WriteFault  the output failed
   5  DiskFault   the directory failed, or can't be opened
-  6  NoMemory    no memory was found
-  7  Damaged     the directory's files stand for nothing: the file, the place in it and
+  6  NoMemory    out of memory
+  7  Damaged     the directory is corrupt or inconsistent: the file, the place in it and
                  what is wrong there follow
 Each but Ok is named on standard error too.
 

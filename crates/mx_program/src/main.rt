@@ -1,4 +1,4 @@
-//! The program: its words, its seed and its standard streams, given to the top call.
+//! The program: its arguments, its seed and its standard streams, given to the top call.
 #![tactic(auto)]
 
 mod exit;
@@ -13,7 +13,7 @@ ghost use Rattle.std.specs.Prelude.{◌≡◌, ◌≢◌, IfOk, IfErr, length};
 use failure::Failure;
 use mx_outside::Names;
 use mx_real::{FolderDir, ReaderSource, WriterSink};
-use mx_top::{Status, directory_word};
+use mx_top::{Status, directory_argument};
 use std::env;
 use std::env::Env;
 use std::fs::{File, Files};
@@ -25,14 +25,14 @@ fn main(rt: HostRuntime) -> ExitCode {
     match respond(&rt, rt.stdin(), rt.stdout()) {
         Ok(()) => ExitCode::SUCCESS,
         Err(failure) => {
-            // The exit status tells it too, where standard error takes nothing.
+            // The exit status says it too, where standard error takes nothing.
             let _ = eprintln!(rt; "{failure}");
             ExitCode::from(exit::number(&failure.status))
         }
     }
 }
 
-/// Does what the words ask for. An `Err` has the status of a run that failed.
+/// Does what the arguments ask for. An `Err` has the status of a run that failed.
 fn respond<
     R: Env + AllocGlobal + RandomSource + Files<File = File> + Clone + Drop,
     I: Read + Drop,
@@ -40,18 +40,18 @@ fn respond<
 >(rt: &R, input: I, mut output: O) -> Result<(), Failure>
     ensures failed { IfErr result (λ failure. failure.status ≢ Status.Ok) }
 {
-    let words = words(rt)?;
-    match help::asked_for(&words) {
+    let arguments = arguments(rt)?;
+    match help::notice_in(&arguments) {
         Some(notice) => match output.write_all(notice.text().as_bytes()) {
             Ok(()) => Ok(()),
             Err(_) => Err(Failure::of(Status::WriteFault)),
         },
-        None => run(rt, &words, input, output),
+        None => run(rt, &arguments, input, output),
     }
 }
 
 /// The arguments after the program's name.
-fn words<R: Env + AllocGlobal>(rt: &R) -> Result<Names, Status>
+fn arguments<R: Env + AllocGlobal>(rt: &R) -> Result<Names, Status>
     ensures failed { IfErr result (λ status. status ≢ Status.Ok) }
 {
     let arguments = match env::args(rt) {
@@ -60,27 +60,27 @@ fn words<R: Env + AllocGlobal>(rt: &R) -> Result<Names, Status>
         Err(_) => return Err(Status::BadWords),
     };
     match arguments.skip(1).collect(rt.alloc()) {
-        Ok(words) => Ok(Names::from_vec(words)),
+        Ok(texts) => Ok(Names::from_vec(texts)),
         Err(_) => Err(Status::NoMemory),
     }
 }
 
-/// Runs the command that the words name, on its directory, which is made where it isn't there.
+/// Runs the command of the arguments on its directory, which is created if it is missing.
 fn run<
     R: Env + AllocGlobal + RandomSource + Files<File = File> + Clone + Drop,
     I: Read + Drop,
     O: Write + Drop,
->(rt: &R, words: &Names, input: I, output: O) -> Result<(), Failure>
+>(rt: &R, arguments: &Names, input: I, output: O) -> Result<(), Failure>
     ensures failed { IfErr result (λ failure. failure.status ≢ Status.Ok) }
 {
-    let Some(word) = directory_word(words) else {
+    let Some(path) = directory_argument(arguments) else {
         return Err(Failure::of(Status::BadWords));
     };
     let seed = seed::of_installation(rt)?;
-    let mut dirs = opened(rt, word)?;
+    let mut dirs = open_directory(rt, path)?;
     let status = mx_top::run(
         rt.alloc(),
-        words,
+        arguments,
         &seed,
         &mut dirs,
         &mut ReaderSource::new(input),
@@ -92,19 +92,19 @@ fn run<
     }
 }
 
-/// The one directory that a word names.
-fn opened<R: AllocGlobal + Files<File = File> + Clone + Drop>(
+/// Opens the one directory of this path.
+fn open_directory<R: AllocGlobal + Files<File = File> + Clone + Drop>(
     rt: &R,
-    word: &str,
+    path: &str,
 ) -> Result<Vec<FolderDir<R>>, Failure>
     ensures one { IfOk result (λ dirs. length dirs.items ≡ 1) }
     ensures failed { IfErr result (λ failure. failure.status ≢ Status.Ok) }
 {
     let alloc = rt.alloc();
     let mut dirs = Vec::new(alloc);
-    match FolderDir::open(alloc, rt.clone()?, word) {
+    match FolderDir::open(alloc, rt.clone()?, path) {
         Ok(dir) => dirs.push(dir)?,
-        Err(fault) => return Err(Failure::of_directory(alloc, word, fault)?),
+        Err(fault) => return Err(Failure::of_directory(alloc, path, fault)?),
     }
     Ok(dirs)
 }

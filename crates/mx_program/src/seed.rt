@@ -1,4 +1,4 @@
-//! The seed of an installation: 32 bytes, from which the server's identity and its salts are made.
+//! The seed of an installation: 32 bytes, from which the server's UUIDs and its salts are made.
 
 ghost use Rattle.std.specs.Prelude.{◌≡◌, ◌↔◌, Ok, IsSome, IfSome, ◌≢◌, IfErr};
 ghost use Rattle.hex.specs.Hex.{decode_of};
@@ -13,8 +13,8 @@ use std::random::RandomSource;
 /// The environment variable that sets the seed, for tests and for repeating a run.
 const VARIABLE: &str = "VURANDY_SEED";
 
-/// The seed that the variable sets, or else random bytes, so that no two installations share an
-/// identity.
+/// The seed of the environment variable, or else random bytes, so that no two installations share
+/// their UUIDs.
 pub fn of_installation<R: Env + AllocGlobal + RandomSource>(rt: &R) -> Result<[u8; 32], Status>
     ensures failed { IfErr result (λ status. status ≢ Status.Ok) }
 {
