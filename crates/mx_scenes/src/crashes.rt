@@ -16,7 +16,7 @@ const SECOND_BLOCK: &[u8; 36] = b"\xd5\xba\x0b\xab\xce\0\0\0\x11\0\xce\xe6\xd2\x
 
 const THIRD: &str = "00000000000000000002.xlog";
 
-/// The header of the journal that begins behind two commits.
+/// The header of the journal that begins after two commits.
 const THIRD_HEADER: &[u8; 122] = b"XLOG\n0.13\nInstance: 00010203-0405-4607-8809-0a0b0c0d0e0f\n\
     ReplicaSet: 10111213-1415-4617-9819-1a1b1c1d1e1f\nVClock: {1: 2}\n\n";
 
@@ -58,16 +58,16 @@ fn answer(alloc: Global, key: u8, is_there: bool) -> Result<Vec<u8>, AllocError>
     }
 }
 
-/// The output of a run that is asked for these keys in a unit each, where those up to `front` are
+/// The output of a run that is asked for these keys in a unit each, where those up to `prefix` are
 /// there.
-fn answers(alloc: Global, keys: &[u8], front: u8) -> Result<Vec<u8>, AllocError> {
+fn answers(alloc: Global, keys: &[u8], prefix: u8) -> Result<Vec<u8>, AllocError> {
     let mut output = Vec::new(alloc);
     for key in keys {
         let mut packets = Vec::new(alloc);
         if output.is_empty() {
             packets.extend_from_slice(GREETING)?;
         }
-        packets.extend_from_slice(&answer(alloc, *key, *key <= front)?)?;
+        packets.extend_from_slice(&answer(alloc, *key, *key <= prefix)?)?;
         output.extend_from_slice(&unit(alloc, TO_ONE, &[&packets])?)?;
     }
     Ok(output)
@@ -81,31 +81,31 @@ fn directory_with(alloc: Global, bytes: &[u8]) -> Result<MemoryDir, DirFault> {
     Ok(dir)
 }
 
-/// Checks that a run on a journal of the first block and this end finds the keys up to `front`, which
-/// is 1 or 2, that it begins its own journal behind them, and that it leaves the other one as it was.
-fn check_end(rt: &impl Abort, alloc: Global, end: &[u8], front: u8) -> Result<(), Fail> {
+/// Checks that a run on a journal of the first block and this end finds the keys up to `prefix`, which
+/// is 1 or 2, that it begins its own journal after them, and that it leaves the other one as it was.
+fn check_end(rt: &impl Abort, alloc: Global, end: &[u8], prefix: u8) -> Result<(), Fail> {
     let old = joined(alloc, &[HEADER, BLOCK, end])?;
     let dir = directory_with(alloc, &old)?;
     let ran = run_in(alloc, dir, &TRACE, &selects(alloc, &[1, 2])?, NONE)?;
-    assert_eq!(rt; ran.status.as_str(), "Ok", "behind the block {end:?}");
+    assert_eq!(rt; ran.status.as_str(), "Ok", "after the block {end:?}");
     assert_eq!(rt;
         ran.output,
-        answers(alloc, &[1, 2], front)?,
-        "behind the block {end:?}"
+        answers(alloc, &[1, 2], prefix)?,
+        "after the block {end:?}"
     );
-    let (name, header) = if front == 2 {
+    let (name, header) = if prefix == 2 {
         (THIRD, THIRD_HEADER)
     } else {
         (SECOND, NEXT_HEADER)
     };
     let mut dir = directory_of(ran)?;
     let names = dir.list(alloc)?;
-    assert_eq!(rt; names.as_slice().len(), 2, "behind the block {end:?}");
+    assert_eq!(rt; names.as_slice().len(), 2, "after the block {end:?}");
     assert_eq!(rt; file(alloc, &mut dir, FIRST)?, old);
     assert_eq!(rt;
         file(alloc, &mut dir, name)?,
         joined(alloc, &[header, END])?,
-        "behind the block {end:?}"
+        "after the block {end:?}"
     );
     Ok(())
 }
@@ -119,10 +119,10 @@ fn a_block_that_is_cut_anywhere_counts_for_nothing(rt: HostRuntime) -> Result<()
     check_end(&rt, alloc, SECOND_BLOCK, 2)
 }
 
-/// The front of a block without data, whose checksum is 0.
+/// The prefix of a block without data, whose checksum is 0.
 const NO_DATA: &[u8] = b"\xd5\xba\x0b\xab\xce\0\0\0\0\0\xce\0\0\0\0\xa3\0\0\0";
 
-/// Ends of the first journal: bytes, so many of the second block, and bytes behind these; and the
+/// Ends of the first journal: bytes, so many of the second block, and bytes after these; and the
 /// last key that is found.
 const ENDS: [(&[u8], usize, &[u8], u8); 18] = [
     (b"", 0, &[0], 1),
@@ -148,10 +148,10 @@ const ENDS: [(&[u8], usize, &[u8], u8); 18] = [
 #[test]
 fn other_ends_count_for_nothing(rt: HostRuntime) -> Result<(), Fail> {
     let alloc = rt.alloc();
-    for (before, count, behind, front) in ENDS {
+    for (before, count, after, prefix) in ENDS {
         let block = SECOND_BLOCK.get(..count).unwrap_or(b"");
-        let end = joined(alloc, &[before, block, behind])?;
-        check_end(&rt, alloc, &end, front)?;
+        let end = joined(alloc, &[before, block, after])?;
+        check_end(&rt, alloc, &end, prefix)?;
     }
     Ok(())
 }
@@ -167,7 +167,7 @@ const RUNS: [Runs; 3] = [&[&[1, 2, 3]], &[&[1], &[2, 3, 4]], &[&[], &[1, 2, 3]]]
 /// One key more than any of these runs REPLACEs.
 const KEYS: [u8; 5] = [1, 2, 3, 4, 5];
 
-/// How a directory goes on behind the stop: as it is, or restarted by this choice. A block has 36
+/// How a directory goes on after the stop: as it is, or restarted by this choice. A block has 36
 /// bytes, and a header 118.
 const CHOICES: [Option<u32>; 8] = [
     None,
@@ -189,7 +189,7 @@ struct Seen {
     acknowledged: Option<u8>,
     /// The last key that the next run finds, if it finds all from 1 up to it.
     found: Option<u8>,
-    /// The same of one more run, behind a crash that keeps nothing that wasn't synced.
+    /// The same of one more run, after a crash that keeps nothing that wasn't synced.
     found_again: Option<u8>,
 }
 
@@ -232,9 +232,9 @@ fn last_answered(
 
 /// The last key that a run found, if it ended well and found all from 1 up to it.
 fn last_told(alloc: Global, ran: &Ran) -> Result<Option<u8>, AllocError> {
-    for front in 0..=5 {
-        if ran.status.as_str() == "Ok" && ran.output == answers(alloc, &KEYS, front)? {
-            return Ok(Some(front));
+    for prefix in 0..=5 {
+        if ran.status.as_str() == "Ok" && ran.output == answers(alloc, &KEYS, prefix)? {
+            return Ok(Some(prefix));
         }
     }
     Ok(None)

@@ -68,15 +68,15 @@ fn tuples_hold_values_of_every_kind(rt: HostRuntime) -> Result<(), Fail> {
 fn each_call_on_the_directory_may_fail(rt: HostRuntime) -> Result<(), Fail> {
     let alloc = rt.alloc();
     let input = unit(alloc, ON_ONE, &[REPLACE])?;
-    // Opening makes 7 calls, the commit 2 and the end 2; the output waits for the commit's.
-    for call in 1..=12 {
+    // Opening makes 8 calls, the commit 2 and the end 2; the output waits for the commit's.
+    for call in 1..=13 {
         let mut failing = Vec::new(alloc);
         failing.push(call)?;
         let dir = MemoryDir::new(alloc, failing);
         let ran = run_in(alloc, dir, &["trace", "d"], &input, NONE)?;
-        let status = if call == 12 { "Ok" } else { "DiskFault" };
+        let status = if call == 13 { "Ok" } else { "DiskFault" };
         assert_eq!(rt; ran.status.as_str(), status, "call {call}");
-        assert_eq!(rt; ran.output.is_empty(), call < 10, "call {call}");
+        assert_eq!(rt; ran.output.is_empty(), call < 11, "call {call}");
     }
     Ok(())
 }
@@ -212,10 +212,10 @@ const LONGEST: &[u8] = b"\xd5\xba\x0b\xab\xce\x00\x10\x00\x0d\0\xce\x95\x25\xf3\
 const TOO_LONG: &[u8] = b"\xd5\xba\x0b\xab\xce\x00\x10\x00\x0e\0\xce\x94\x6b\xa0\xdc\xa3\0\0\0\
     \x83\x00\x03\x02\x01\x03\x01\x82\x10\xcd\x02\x00\x21\x92\x01\xc6\x00\x0f\xff\xfa";
 
-/// A journal of the front of a block, and so many letters a behind it.
-fn journal_with(alloc: Global, front: &[u8], count: usize) -> Result<Vec<u8>, AllocError> {
+/// A journal of the prefix of a block, and so many letters a after it.
+fn journal_with(alloc: Global, prefix: &[u8], count: usize) -> Result<Vec<u8>, AllocError> {
     let mut bytes = HEADER.to_vec(alloc)?;
-    bytes.extend_from_slice(front)?;
+    bytes.extend_from_slice(prefix)?;
     bytes.extend_from_slice(Vec::from_elem(alloc, b'a', count)?.as_slice())?;
     Ok(bytes)
 }

@@ -14,7 +14,9 @@ fn replace_then_select_is_exact(rt: HostRuntime) -> Result<(), Fail> {
     let output = unit(alloc, TO_ONE, &[GREETING, &first, &second])?;
     assert_eq!(rt; output.len(), 0xce + 8);
     let trace = ["trace", "d"];
-    let cut = input.split_last().map_or([].as_slice(), |(_, front)| front);
+    let cut = input
+        .split_last()
+        .map_or([].as_slice(), |(_, prefix)| prefix);
     let second_read = Failing {
         reads: &[2],
         writes: &[],

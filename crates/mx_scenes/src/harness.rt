@@ -171,7 +171,7 @@ pub(crate) const HEADER: &[u8; 118] =
     b"XLOG\n0.13\nInstance: 00010203-0405-4607-8809-0a0b0c0d0e0f\n\
     ReplicaSet: 10111213-1415-4617-9819-1a1b1c1d1e1f\nVClock: {}\n\n";
 
-/// The header of the journal that begins behind one commit.
+/// The header of the journal that begins after one commit.
 pub(crate) const NEXT_HEADER: &[u8; 122] =
     b"XLOG\n0.13\nInstance: 00010203-0405-4607-8809-0a0b0c0d0e0f\n\
     ReplicaSet: 10111213-1415-4617-9819-1a1b1c1d1e1f\nVClock: {1: 1}\n\n";

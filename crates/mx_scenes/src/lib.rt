@@ -8,8 +8,16 @@ mod crashes;
 #[cfg(test)]
 mod directories;
 #[cfg(test)]
+mod engine;
+#[cfg(test)]
 mod first_connection;
 #[cfg(test)]
 mod harness;
 #[cfg(test)]
-mod selects;
+mod journals;
+#[cfg(test)]
+mod model;
+#[cfg(test)]
+mod model_limits;
+#[cfg(test)]
+mod select;

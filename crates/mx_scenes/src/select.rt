@@ -41,8 +41,8 @@ const PICKS: [Pick; 13] = [
 fn replaces(alloc: Global, tuples: &[&[u8]]) -> Result<Vec<u8>, AllocError> {
     let mut asked = Vec::new(alloc);
     for tuple in tuples {
-        let front = b"\x82\x00\x03\x01\x00\x82\x10\xcd\x02\x00\x21";
-        asked.extend_from_slice(&packet(alloc, &[front, tuple])?)?;
+        let prefix = b"\x82\x00\x03\x01\x00\x82\x10\xcd\x02\x00\x21";
+        asked.extend_from_slice(&packet(alloc, &[prefix, tuple])?)?;
     }
     Ok(asked)
 }
