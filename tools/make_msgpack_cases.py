@@ -1,9 +1,9 @@
 #!/usr/bin/env python3
-"""Writes crates/mx_msgpack/src/outside_cases.rt, a table of MessagePack spellings.
+"""Writes a part of crates/mx_probe/stdin and stdout: MessagePack spellings, and what they mean.
 
-What each spelling stands for is told by an implementation of MessagePack that is not ours: the
-package msgpack, or the copy of it that pip carries. Run this by a python3 that has one of them,
-and then `rt fmt` in crates/mx_msgpack. The build doesn't need it.
+What each spelling means comes from an implementation of MessagePack that is not ours: the
+package msgpack, or the copy of it that pip carries. Run this by a python3 that has one of them.
+The build doesn't need it.
 
     /usr/bin/python3 tools/make_msgpack_cases.py
 """
@@ -17,39 +17,69 @@ try:
 except ImportError:
     from pip._vendor import msgpack
 
-PATH = Path(__file__).resolve().parent.parent / "crates/mx_msgpack/src/outside_cases.rt"
+PROBE = Path(__file__).resolve().parent.parent / "crates/mx_probe"
 
-# Longer spellings than this are cut at a few places only.
+# The lines of stdin before and after those that are written here.
+FIRST = "# What tools/make_msgpack_cases.py writes begins here."
+LAST = "# What tools/make_msgpack_cases.py writes ends here."
+
+# Longer spellings than this are cut at so many places and before their last byte.
 CUT_EVERYWHERE = 80
+
+# How many bytes the head of a container takes, where it is more than one.
+HEAD_SIZES = {0xDC: 3, 0xDD: 5, 0xDE: 3, 0xDF: 5}
+
+
+class Pairs(list):
+    """The pairs of a map."""
 
 
 def unpack(spelling):
     return msgpack.unpackb(
-        spelling, raw=False, strict_map_key=False, max_ext_len=1 << 24,
-        object_pairs_hook=lambda pairs: ("map", len(list(pairs))), timestamp=0,
+        spelling, raw=False, strict_map_key=False, max_ext_len=1 << 24, object_pairs_hook=Pairs,
+        timestamp=0,
     )
 
 
-def kind_of(spelling):
-    """The kind of the value as Rust, and its number, truth or length."""
+def shown(spelling):
+    """The value as `msgpack.size` shows it: a container by its count and the size of all that it holds."""
     value = unpack(spelling)
+    held = len(spelling) - HEAD_SIZES.get(spelling[0], 1)
     if value is None:
-        return "Outside::Nil"
+        return "nil"
     if isinstance(value, bool):
-        return f"Outside::Bool({str(value).lower()})"
+        return f"bool {str(value).lower()}"
     if isinstance(value, int):
-        return f"Outside::Int({value})"
+        return f"int {value}"
     if isinstance(value, str):
-        return f"Outside::Str({len(value.encode())})"
+        return f"str of {len(value.encode())}"
     if isinstance(value, bytes):
-        return f"Outside::Bin({len(value)})"
+        return f"bin of {len(value)}"
+    if isinstance(value, Pairs):
+        return f"map {len(value)} of {held}"
     if isinstance(value, list):
-        return f"Outside::Array({len(value)})"
-    if isinstance(value, tuple) and value[0] == "map":
-        return f"Outside::Map({value[1]})"
+        return f"array {len(value)} of {held}"
     if isinstance(value, (float, msgpack.ExtType, msgpack.Timestamp)):
-        return f"Outside::Opaque({len(spelling)})"
+        return f"opaque of {len(spelling)}"
     raise ValueError(f"{value!r} is of no kind")
+
+
+def shortest(spelling):
+    """What the implementation writes of the value. Floats and extensions stay as they are spelled."""
+    value = unpack(spelling)
+    if isinstance(value, (float, msgpack.ExtType, msgpack.Timestamp)):
+        return spelling
+    return repacked(value)
+
+
+def repacked(value):
+    packer = msgpack.Packer(use_bin_type=True)
+    if isinstance(value, Pairs):
+        parts = (repacked(part) for pair in value for part in pair)
+        return packer.pack_map_header(len(value)) + b"".join(parts)
+    if isinstance(value, list):
+        return packer.pack_array_header(len(value)) + b"".join(map(repacked, value))
+    return packer.pack(value)
 
 
 def is_cut_short(spelling):
@@ -77,12 +107,11 @@ cases = []
 def add(head, pattern=b"", times=0):
     """A spelling: the head, and then the pattern so many times."""
     spelling = head + pattern * times
-    kind = kind_of(spelling)
     for cut in cuts(len(spelling)):
         if not is_cut_short(spelling[:cut]):
             raise ValueError(f"{head!r} cut at {cut} is whole")
-    if (head, pattern, times) not in [case[:3] for case in cases]:
-        cases.append((head, pattern, times, kind))
+    if (head, pattern, times) not in cases:
+        cases.append((head, pattern, times))
 
 
 def packed(value):
@@ -158,39 +187,49 @@ def same_class(one, other):
     return False
 
 
-def rust_bytes(spelling):
-    return "&[" + ", ".join(f"0x{byte:02x}" for byte in spelling) + "]"
+def word(head, pattern, times, behind=b""):
+    """The argument of a call: the head, the pattern so many times, and what is behind them."""
+    if times == 0:
+        return (head + behind).hex()
+    pieces = [head.hex(), f"{pattern.hex()}*{times}", behind.hex()]
+    return "+".join(piece for piece in pieces if piece)
+
+
+def calls(head, pattern, times):
+    """Calls with a spelling, and the answer to each."""
+    spelling = head + pattern * times
+    size = len(spelling)
+    whole, followed = word(head, pattern, times), word(head, pattern, times, b"\xc1")
+    yield f"msgpack.size {followed}", f"ok {size} {shown(spelling)}"
+    yield f"msgpack.skip {followed}", f"ok {size}"
+    cut = size if size <= CUT_EVERYWHERE else CUT_EVERYWHERE
+    yield f"msgpack.short {cut} {whole}", f"ok {cut}"
+    if size > CUT_EVERYWHERE:
+        almost = word(head, pattern, times - 1, pattern[:-1])
+        yield f"msgpack.skip {almost}", "err Short"
+        yield f"msgpack.read {almost}", "err Short"
+    else:
+        yield f"msgpack.rewrite {whole}", f"ok {size} {shortest(spelling).hex()}"
+    yield f"msgpack.rewrite_twice {whole}", f"ok {size} {len(shortest(spelling))} same"
+
+
+def is_call(line):
+    return line != "" and not line.startswith("#")
 
 
 def write():
-    lines = [
-        "//! MessagePack spellings, and what an implementation that isn't ours reads in them.",
-        "//! `tools/make_msgpack_cases.py` writes this file.",
-        "",
-        "/// A value's kind, and its truth, its number or its length: of a text or bytes how many there",
-        "/// are, of a container how many values or pairs, and of a float or an extension how many bytes",
-        "/// all of its spelling has.",
-        "#[derive(Clone, Copy, Debug, PartialEq, Eq)]",
-        "pub(crate) enum Outside {",
-        "    Nil,",
-        "    Bool(bool),",
-        "    Int(i128),",
-        "    Str(usize),",
-        "    Bin(usize),",
-        "    Array(u32),",
-        "    Map(u32),",
-        "    Opaque(usize),",
-        "}",
-        "",
-        "/// Each spelling as its first bytes, and what comes then so many times.",
-        f"pub(crate) static CASES: [(&[u8], &[u8], usize, Outside); {len(cases)}] = [",
-    ]
-    for head, pattern, times, kind in cases:
-        lines.append(f"    ({rust_bytes(head)}, {rust_bytes(pattern)}, {times}, {kind}),")
-    lines.append("];")
-    with open(PATH, "w", encoding="utf-8") as out:
-        out.write("\n".join(lines) + "\n")
-    print(f"{len(cases)} cases", file=sys.stderr)
+    """Puts the calls and their answers in place of those that were written before."""
+    lines = (PROBE / "stdin").read_text().splitlines()
+    answers = (PROBE / "stdout").read_text().splitlines()
+    first, last = lines.index(FIRST) + 1, lines.index(LAST)
+    begin = sum(map(is_call, lines[:first]))
+    end = begin + sum(map(is_call, lines[first:last]))
+    written = [pair for case in cases for pair in calls(*case)]
+    lines[first:last] = [call for call, _ in written]
+    answers[begin:end] = [answer for _, answer in written]
+    (PROBE / "stdin").write_text("\n".join(lines) + "\n")
+    (PROBE / "stdout").write_text("\n".join(answers) + "\n")
+    print(f"{len(cases)} spellings, {len(written)} calls", file=sys.stderr)
 
 
 if __name__ == "__main__":
