@@ -39,11 +39,11 @@ def count_calls():
     given = b"".join(map(input_unit, commits(UNITS)))
     with new_folder() as folder:
         ended = traced(["strace", "-f", "-c"], given, folder)
-    told = ended.stderr.decode(errors="replace")
-    calls = {name: int(n) for n, name in re.findall(r"(\d+)(?: +\d+)? (\w+)$", told, re.M)}
+    report = ended.stderr.decode(errors="replace")
+    calls = {name: int(n) for n, name in re.findall(r"(\d+)(?: +\d+)? (\w+)$", report, re.M)}
     total = calls.pop("total", 0)
     if ended.returncode != 0 or not total:
-        sys.exit(f"the run ended with status {ended.returncode}:\n{told}")
+        sys.exit(f"the run ended with status {ended.returncode}:\n{report}")
     print(f"{UNITS:,} units of one commit: {total / UNITS:.2f} system calls a unit")
     for name, count in sorted(calls.items(), key=lambda call: -call[1]):
         if count >= UNITS / 2:

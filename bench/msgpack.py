@@ -1,7 +1,7 @@
 #!/usr/bin/env python3
 """Counts the instructions of stepping over MessagePack values, beside the same work in plain Rust.
 
-`mx_measure` steps over the values in its input by `skip` as often as its word says, and so does
+`mx_measure` steps over the values in its input by `skip` as often as its argument says, and so does
 `plain_skip.rs`. What a run takes that steps over them once, less one that doesn't, is divided by
 the number of values, or of mebibytes. Both are counted by valgrind's callgrind.
 """
@@ -13,6 +13,10 @@ import tempfile
 from pathlib import Path
 
 ROOT = Path(__file__).resolve().parent.parent
+sys.path.append(str(ROOT / "tests"))
+
+from iproto import Wide, pack  # noqa: E402
+
 CRATE = ROOT / "crates" / "mx_measure"
 MAPS = 100_000
 MEBIBYTES = 2
@@ -20,12 +24,12 @@ MEBIBYTES = 2
 
 def small_map(at):
     """A map of three pairs: a number, a text and an array."""
-    return b"\x83\x00\xcd" + (at % 65536).to_bytes(2, "big") + b"\x01\xa3abc\x02\x93\x01\xff\xc3"
+    return pack({0: Wide(at % 65536, 2), 1: "abc", 2: [1, -1, True]})
 
 
 INPUTS = {
     "small maps": (b"".join(map(small_map, range(MAPS))), MAPS, "value"),
-    "one large Bin": (b"\xc6" + (MEBIBYTES << 20).to_bytes(4, "big") + bytes(MEBIBYTES << 20), MEBIBYTES, "MiB"),
+    "one large Bin": (pack(bytes(MEBIBYTES << 20)), MEBIBYTES, "MiB"),
 }
 
 
@@ -36,10 +40,10 @@ def instructions(program, times, given):
         file.seek(0)
         tool = ["valgrind", "--tool=callgrind", "--callgrind-out-file=/dev/null"]
         ended = subprocess.run([*tool, program, str(times)], stdin=file, capture_output=True)
-    told = ended.stderr.decode(errors="replace")
-    collected = re.search(r"Collected : (\d+)", told)
+    report = ended.stderr.decode(errors="replace")
+    collected = re.search(r"Collected : (\d+)", report)
     if ended.returncode != 0 or collected is None:
-        sys.exit(f"the run ended with status {ended.returncode}:\n{told}")
+        sys.exit(f"the run ended with status {ended.returncode}:\n{report}")
     return int(collected.group(1))
 
 
@@ -58,10 +62,10 @@ def main():
         programs = built(folder)
         for name, (given, parts, part) in INPUTS.items():
             costs = {}
-            for told, program in programs.items():
+            for by, program in programs.items():
                 taken = instructions(program, 1, given) - instructions(program, 0, given)
-                costs[told] = taken / parts
-                print(f"{name}, {told}: {costs[told]:,.1f} instructions a {part}", flush=True)
+                costs[by] = taken / parts
+                print(f"{name}, {by}: {costs[by]:,.1f} instructions a {part}", flush=True)
             print(f"  ratio: {costs['skip'] / costs['plain Rust']:.2f}")
 
 

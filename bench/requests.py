@@ -19,15 +19,26 @@ from pathlib import Path
 ROOT = Path(__file__).resolve().parent.parent
 sys.path.append(str(ROOT / "tests"))
 
-from units import SEED, environment, input_unit, is_built, number  # noqa: E402
+from iproto import (  # noqa: E402
+    GREETING_BYTES,
+    MAX_UNIT_BYTES,
+    SEED,
+    TYPE,
+    Wide,
+    input_unit,
+    output_units,
+    packet,
+    packets_in,
+    read_reply,
+    request,
+)
+from program import environment, is_built  # noqa: E402
 
 PROGRAM = ROOT / "crates" / "mx_program" / "out" / "mx_program"
-SPACE = 512
 KEYS = 1000
 # Without a common factor with KEYS, so that steps of it come to every key.
 STEP = 389
 SIZES = (1_000, 10_000, 100_000)
-MAX_BYTES = 16_777_216
 # As many connections as take turns.
 CONNECTIONS = 1000
 SHAPES = {
@@ -37,35 +48,25 @@ SHAPES = {
     "connections": "a unit per pair, 1,000 connections in turn",
     "bytes": "a unit per byte",
 }
-# A size, a header of one key, the type, and no body.
-PING = b"\x03\x81\x00\x40"
-
-
-def packet(kind, sync, body):
-    """A packet with its size before it."""
-    header = b"\x82\x00" + bytes([kind]) + b"\x01\xce" + sync.to_bytes(4, "big")
-    content = header + body
-    return b"\xce" + len(content).to_bytes(4, "big") + content
+# A PING without a sync and without a body, its size in one byte.
+PING = packet({TYPE: 64}, width=0)
 
 
 def replace(sync, key, value):
-    """A REPLACE of [key, value]."""
-    tuple_ = b"\x92" + number(key) + number(value)
-    return packet(3, sync, b"\x82\x10" + number(SPACE) + b"\x21" + tuple_)
+    """A REPLACE of [key, value]. Syncs have one width, so that requests of one key have one length."""
+    return request("REPLACE", Wide(sync, 4), space=512, tuple=[key, value])
 
 
-def select(sync, key):
-    """A SELECT of the tuple with this key."""
-    limit_and_iterator = b"\x12\x0a\x14\x00"
-    body = b"\x84\x10" + number(SPACE) + limit_and_iterator + b"\x20\x91" + number(key)
-    return packet(1, sync, body)
+def select(sync, key, iterator="EQ", limit=10):
+    """A SELECT of so many tuples at most by an iterator, from this key on."""
+    return request("SELECT", Wide(sync, 4), space=512, limit=limit, iterator=iterator, key=[key])
 
 
 def units(pieces):
     """As few units as hold the pieces, each of which is whole packets."""
     made, held = [], bytearray()
     for piece in pieces:
-        if len(held) + len(piece) > MAX_BYTES:
+        if len(held) + len(piece) > MAX_UNIT_BYTES:
             made.append(input_unit(held))
             held = bytearray()
         held += piece
@@ -102,23 +103,12 @@ def requests(shape, count):
 
 
 def answers(output):
-    """How many replies with tuples the output has, each behind its connection's greeting."""
-    sent, at = {}, 0
-    while at < len(output):
-        connection = output[at : at + 4]
-        size = int.from_bytes(output[at + 4 : at + 8], "big")
-        sent.setdefault(connection, bytearray()).extend(output[at + 8 : at + 8 + size])
-        at += 8 + size
-    return sum(map(tuples_in, sent.values()))
-
-
-def tuples_in(sent):
-    """How many replies with tuples a connection was sent."""
-    at, found = 128, 0
-    while at < len(sent):
-        found += sent[at + 5 : at + 12] == b"\x83\x00\xce\x00\x00\x00\x00"
-        at += 5 + int.from_bytes(sent[at + 1 : at + 5], "big")
-    return found
+    """How many replies that aren't refusals the output has, each behind its connection's greeting."""
+    sent = {}
+    for connection, content in output_units(output):
+        sent.setdefault(connection, bytearray()).extend(content)
+    replies = (read_reply(one) for content in sent.values() for one in packets_in(content[GREETING_BYTES:]))
+    return sum(reply.error is None for reply in replies)
 
 
 def new_folder():
@@ -144,10 +134,10 @@ def traced(tool, given, folder):
 def instructions_in(given, folder):
     """How many instructions a run on this input takes in a folder, and how many replies it has."""
     ended = traced(["valgrind", "--tool=callgrind", "--callgrind-out-file=/dev/null"], given, folder)
-    told = ended.stderr.decode(errors="replace")
-    collected = re.search(r"Collected : (\d+)", told)
+    report = ended.stderr.decode(errors="replace")
+    collected = re.search(r"Collected : (\d+)", report)
     if ended.returncode != 0 or collected is None:
-        sys.exit(f"the run ended with status {ended.returncode}:\n{told}")
+        sys.exit(f"the run ended with status {ended.returncode}:\n{report}")
     return int(collected.group(1)), answers(ended.stdout) if ended.stdout else 0
 
 

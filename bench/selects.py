@@ -11,17 +11,10 @@ import argparse
 import math
 import sys
 
-from requests import KEYS, SPACE, STEP, instructions, is_built, number, packet, setting, units
+from requests import KEYS, STEP, instructions, is_built, select, setting, units
 
-EQ, GE = 0, 5
 LIMITS = (1, 10, 100)
 MORE_KEYS = 16 * KEYS
-
-
-def select(sync, iterator, limit, key):
-    """A SELECT of so many tuples at most by an iterator, from this key on."""
-    limit_and_iterator = b"\x12" + number(limit) + b"\x14" + number(iterator)
-    return packet(1, sync, b"\x84\x10" + number(SPACE) + limit_and_iterator + b"\x20\x91" + number(key))
 
 
 def cost(keys, base, selects):
@@ -37,7 +30,7 @@ def measure_limits(count, base):
     print(f"GE of key {KEYS // 2:,} among {KEYS:,} keys:")
     costs = {}
     for limit in LIMITS:
-        costs[limit] = cost(KEYS, base, [select(sync, GE, limit, KEYS // 2) for sync in range(count)])
+        costs[limit] = cost(KEYS, base, [select(sync, KEYS // 2, "GE", limit) for sync in range(count)])
         print(f"  limit {limit:>3}: {costs[limit]:>10,.1f} instructions a SELECT", flush=True)
     few, many = min(LIMITS), max(LIMITS)
     print(f"  a tuple more: {(costs[many] - costs[few]) / (many - few):,.1f} instructions")
@@ -46,7 +39,7 @@ def measure_limits(count, base):
 def measure_look_ups(count, base):
     """Prints what a look-up costs among few keys and among many, and how it grows."""
     print("EQ of one key, by a limit of 1:")
-    look_ups = [select(at, EQ, 1, at * STEP % KEYS) for at in range(count)]
+    look_ups = [select(at, at * STEP % KEYS, limit=1) for at in range(count)]
     more_base, _ = instructions(setting(MORE_KEYS))
     few, many = cost(KEYS, base, look_ups), cost(MORE_KEYS, more_base, look_ups)
     for keys, one in ((KEYS, few), (MORE_KEYS, many)):

@@ -19,21 +19,8 @@ import threading
 import time
 from pathlib import Path
 
-from units import (
-    GREETING,
-    PROGRAM,
-    SEED,
-    TRACE,
-    contents,
-    environment,
-    input_unit,
-    is_built,
-    output_unit,
-    replace,
-    reply,
-    select,
-    tuple_of,
-)
+from iproto import GREETING_BYTES, SEED, contents, input_unit, output_unit, request, tuples_reply
+from program import GREETING, PROGRAM, TRACE, environment, is_built
 
 SECONDS = 60
 SCRATCH = Path(tempfile.mkdtemp(prefix="vurandy-"))
@@ -47,6 +34,21 @@ class OutOfTime(Exception):
 def expect(what, expected, seen):
     """Checks that this is what was seen."""
     assert seen == expected, f"{what}: expected {expected}, saw {seen}"
+
+
+def tuple_of(key):
+    """The tuple that is put for a key."""
+    return [key, str(key)]
+
+
+def replace(key):
+    """A REPLACE of a key's tuple, with the key as its sync."""
+    return request("REPLACE", key, space=512, tuple=tuple_of(key))
+
+
+def select(key):
+    """A SELECT of a key, with the key as its sync."""
+    return request("SELECT", key, space=512, limit=1, iterator="EQ", key=[key])
 
 
 def greeted(replies):
@@ -89,7 +91,7 @@ class Run:
         self.sent += 1
         self.process.stdin.write(unit)
 
-    def send_front(self, size):
+    def send_part(self, size):
         """Sends so many bytes of the next unit, and not all, so that it doesn't count as sent."""
         unit = self.next_unit()
         assert size < len(unit), f"bytes of a unit: expected fewer than {len(unit)}, saw {size}"
@@ -125,15 +127,15 @@ class Run:
 
     def kill(self):
         """Kills the run, which has to be going on, and reads what it had written."""
-        rest, told = self.end()
+        rest, stderr = self.end()
         self.output += rest
         expect("status of the killed run", -signal.SIGKILL, self.process.returncode)
-        expect("standard error of the killed run", b"", told)
+        expect("standard error of the killed run", b"", stderr)
 
     def acknowledged(self):
         """How many units are answered. The output has to be their replies, the last one maybe cut."""
         keys = range(self.first, self.first + self.sent)
-        due = [output_unit(held) for held in greeted([reply(key, [tuple_of(key)]) for key in keys])]
+        due = [output_unit(held) for held in greeted([tuples_reply(key, tuple_of(key)) for key in keys])]
         count = len(contents(self.output))
         rest = self.output
         for at, unit in enumerate(due[: count + 1]):
@@ -168,7 +170,7 @@ def inside_unit(run, place):
     """Kills it once so many bytes of this unit were sent."""
     count, size = place
     run.exchange(count - 1)
-    run.send_front(size)
+    run.send_part(size)
     run.kill()
 
 
@@ -239,11 +241,11 @@ def keys_found(folder, last):
     held = contents(ended.stdout)
     expect("bytes behind its output units", len(b"".join(map(output_unit, held))), len(ended.stdout))
     expect("number of its output units", last, len(held))
-    expect("greeting of the further run", GREETING, held[0][:128])
+    expect("greeting of the further run", GREETING, held[0][:GREETING_BYTES])
     found = []
-    for key, answer in zip(keys, [held[0][128:], *held[1:]]):
-        if answer != reply(key, []):
-            expect(f"reply to SELECT of {key}", reply(key, [tuple_of(key)]).hex(), answer.hex())
+    for key, answer in zip(keys, [held[0][GREETING_BYTES:], *held[1:]]):
+        if answer != tuples_reply(key):
+            expect(f"reply to SELECT of {key}", tuples_reply(key, tuple_of(key)).hex(), answer.hex())
             found.append(key)
     return found
 

@@ -2,7 +2,7 @@
 """Runs the built program on real folders, files and pipes, and prints a line for each check.
 
 It ends with status 0 only where all checks pass. What no proof sees is tried here: the system's
-folders, files and pipes, the words of a command line, the exit statuses and the printed lines.
+folders, files and pipes, the arguments of a command line, the exit statuses and the printed lines.
 """
 
 import os
@@ -13,21 +13,22 @@ import tempfile
 import threading
 from pathlib import Path
 
-from units import (
-    EXAMPLE,
-    GREETING,
-    PROGRAM,
-    ROOT,
+from iproto import (
     SEED,
-    TRACE,
+    SYNC,
+    TYPE,
+    Spelled,
     close_unit,
     contents,
-    environment,
+    error_reply,
     input_unit,
-    is_built,
+    ok_reply,
     output_unit,
     packet,
+    request,
+    tuples_reply,
 )
+from program import EXAMPLE, GREETING, PROGRAM, ROOT, TRACE, environment, is_built
 
 INPUT = (EXAMPLE / "input.bin").read_bytes()
 OUTPUT = (EXAMPLE / "output.bin").read_bytes()
@@ -47,8 +48,8 @@ END = bytes.fromhex("d510aded")
 # The block of the example's commit: replica 1, lsn 1, REPLACE into space 512 of [1, "a"].
 BLOCK = bytes.fromhex("d5ba0babce0000001100cea3d27898a3000000" "83000302010301" "8210cd0200219201a161")
 # A SELECT of key 1 in space 512, with sync 1, and the reply with the tuple that the example put.
-SELECT = bytes.fromhex("00" "00000001" "00000016" "ce00000011" "820001010184" "10cd0200120a14002091" "01")
-FOUND = bytes.fromhex("ce00000022" "8300ce00000000" "01cf0000000000000001" "05ce00000000" "8130dd000000019201a161")
+SELECT = input_unit(request("SELECT", 1, space=512, limit=10, iterator="EQ", key=[1]))
+FOUND = tuples_reply(1, [1, "a"])
 
 
 def new_folder():
@@ -61,14 +62,14 @@ def files_in(directory):
     return {path.name: path.read_bytes() for path in directory.iterdir()}
 
 
-def run(words, given=b"", seed=SEED, **options):
-    """Runs the program to its end on these words and this input, in a new folder or in `cwd`."""
+def run(arguments, given=b"", seed=SEED, **options):
+    """Runs the program to its end on these arguments and this input, in a new folder or in `cwd`."""
     if "stdin" not in options:
         options["input"] = given
     options.setdefault("stdout", subprocess.PIPE)
     options.setdefault("cwd", new_folder())
     return subprocess.run(
-        [PROGRAM, *words],
+        [PROGRAM, *arguments],
         stderr=subprocess.PIPE,
         env=environment(seed),
         timeout=SECONDS,
@@ -78,13 +79,14 @@ def run(words, given=b"", seed=SEED, **options):
 
 def check_end(ended, status, line, output=b""):
     """Checks the status, the one line on standard error and, where it was kept, the output."""
-    told = b"" if line is None else line.encode() + b"\n"
+    expected = b"" if line is None else line.encode() + b"\n"
     assert ended.returncode == status, f"status {ended.returncode}, {ended.stderr!r}"
-    assert ended.stderr == told, f"standard error {ended.stderr!r}"
+    assert ended.stderr == expected, f"standard error {ended.stderr!r}"
     assert ended.stdout in (None, output), f"{len(ended.stdout)} bytes of output"
 
 
 def example_is_answered():
+    assert OUTPUT == output_unit(GREETING + FOUND + tuples_reply(2, [1, "a"])), "the example's output is spelled otherwise"
     with open(EXAMPLE / "input.bin", "rb") as file:
         check_end(run(TRACE, stdin=file), 0, None, OUTPUT)
 
@@ -111,7 +113,7 @@ def commits_are_found_again():
     first = HEADER % b"{}" + BLOCK + END
     assert files_in(folder / "DIR") == {FIRST: first}, f"{files_in(folder / 'DIR')}"
     ended = run(TRACE, SELECT, cwd=folder)
-    check_end(ended, 0, None, OUTPUT[:4] + (128 + len(FOUND)).to_bytes(4, "big") + OUTPUT[8:136] + FOUND)
+    check_end(ended, 0, None, output_unit(GREETING + FOUND))
     second = HEADER % b"{1: 1}" + END
     assert files_in(folder / "DIR") == {FIRST: first, SECOND: second}, f"{files_in(folder / 'DIR')}"
 
@@ -149,20 +151,20 @@ def leftovers_are_removed():
     assert set(files_in(folder / "DIR")) == {FIRST, "notes.inprogress", "notes"}, f"{files_in(folder / 'DIR')}"
 
 
-def check_not_opened(ended, word):
-    """Checks that the directory which this word names wasn't opened, and that the word is told."""
+def check_not_opened(ended, argument):
+    """Checks that the directory of this argument wasn't opened, and that a line has the argument."""
     lines = ended.stderr.decode().splitlines()
     assert ended.returncode == 5, f"status {ended.returncode}, {ended.stderr!r}"
     assert len(lines) == 2 and lines[0] == "DiskFault", f"standard error {ended.stderr!r}"
-    assert lines[1].startswith(f"{word}: "), f"standard error {ended.stderr!r}"
+    assert lines[1].startswith(f"{argument}: "), f"standard error {ended.stderr!r}"
     assert ended.stdout == b"", f"{len(ended.stdout)} bytes of output"
 
 
 def folders_that_cannot_be_opened_are_told():
     folder = new_folder()
     (folder / "file").write_bytes(b"")
-    for word in ("file", "no/folder"):
-        check_not_opened(run(["trace", word], INPUT, cwd=folder), word)
+    for argument in ("file", "no/folder"):
+        check_not_opened(run(["trace", argument], INPUT, cwd=folder), argument)
     assert [path.name for path in folder.iterdir()] == ["file"]
 
 
@@ -195,7 +197,7 @@ def directory_has_one_process():
 
 
 def words_are_refused():
-    for words in (
+    for arguments in (
         [],
         ["trace"],
         ["frobnicate"],
@@ -204,13 +206,13 @@ def words_are_refused():
         ["--help", "trace"],
         ["trace", b"\xff"],
     ):
-        check_end(run(words, INPUT), 2, "BadWords")
+        check_end(run(arguments, INPUT), 2, "BadWords")
 
 
 def notices_are_printed():
-    for word, part in (("--help", b"trace DIR"), ("--version", b"vurandy 0.1.0\n")):
-        ended = run([word], seed="no seed")
-        assert part in ended.stdout, f"{word} printed {ended.stdout!r}"
+    for argument, part in (("--help", b"trace DIR"), ("--version", b"vurandy 0.1.0\n")):
+        ended = run([argument], seed="no seed")
+        assert part in ended.stdout, f"{argument} printed {ended.stdout!r}"
         check_end(ended, 0, None, ended.stdout)
 
 
@@ -222,46 +224,40 @@ def bytes_may_come_one_by_one():
 
 
 def connections_come_and_go():
-    # A PING without a sync, the reply to it, a packet with c1 and its refusal.
-    ping, header = bytes.fromhex("03810040"), "8300ce%08x01cf%016x05ce00000000"
-    pong = packet(bytes.fromhex(header % (0, 0)), b"\x80")
-    bad = bytes.fromhex("0682004001" "07c1")
-    refused = packet(bytes.fromhex(header % (0x8014, 7)), b"\x81\x31\xb9Packet is not MessagePack")
+    ping, pong = packet({TYPE: 64}, width=0), ok_reply()
+    # A PING with sync 7 whose body is the byte that begins no value.
+    bad = packet({TYPE: 64, SYNC: 7}, Spelled(b"\xc1"), width=0)
+    refused = error_reply(7, 20, "Packet is not MessagePack")
     given = [input_unit(ping, 1023), input_unit(ping + bad + ping), input_unit(ping), close_unit()]
-    told = [output_unit(GREETING + pong, 1023), output_unit(GREETING + pong + refused), output_unit(b"")]
+    expected = [output_unit(GREETING + pong, 1023), output_unit(GREETING + pong + refused), output_unit(b"")]
     given += [input_unit(ping, 1023), input_unit(ping)]
-    told += [output_unit(pong, 1023), output_unit(GREETING + pong)]
-    check_end(run(TRACE, b"".join(given)), 0, None, b"".join(told))
+    expected += [output_unit(pong, 1023), output_unit(GREETING + pong)]
+    check_end(run(TRACE, b"".join(given)), 0, None, b"".join(expected))
 
 
 def client_shows_a_conversation():
     client = [sys.executable, ROOT / "examples" / "conversation.py"]
     ended = subprocess.run(client, capture_output=True, text=True, timeout=SECONDS)
     assert ended.returncode == 0, f"status {ended.returncode}, {ended.stderr!r}"
-    shown = [" ".join(line.split()) for line in ended.stdout.splitlines()]
+    shown = ended.stdout.splitlines()
+    assert len(shown) <= 40, f"{len(shown)} lines don't fit a page"
+    assert max(map(len, shown)) <= 100, "a line has more than 100 columns"
     for line in (
-        "greeting: Tarantool 2.11.0 (Binary) 00010203-0405-4607-8809-0a0b0c0d0e0f",
-        "OK, version 1, features [0, 1] (sync 1)",
-        "OK (sync 3)",
-        "OK, 1 tuple: [1, 'apple'] (sync 2)",
-        "OK, 0 tuples (sync 6)",
-        "error 36: Space 513 does not exist (sync 7)",
-        "error 69: Missing key 0x20 (sync 8)",
-        "SELECT space=512 iterator=EQ key=[3] (sync 10) OK, 1 tuple: [3, 'cherry'] (sync 10)",
-        "SELECT space=512 iterator=REQ key=[3] (sync 11) OK, 1 tuple: [3, 'cherry'] (sync 11)",
-        "SELECT space=512 iterator=ALL key=[3] (sync 12) OK, 2 tuples: [3, 'cherry'], [4, 'date'] (sync 12)",
-        "OK, 2 tuples: [2, {'color': 'red', 'weights': [120, -3]}], [1, 'apple'] (sync 13)",
-        "OK, 3 tuples: [3, 'cherry'], [2, {'color': 'red', 'weights': [120, -3]}], [1, 'apple'] (sync 14)",
-        "SELECT space=512 iterator=GE key=[3] (sync 15) OK, 2 tuples: [3, 'cherry'], [4, 'date'] (sync 15)",
-        "SELECT space=512 iterator=GT key=[3] (sync 16) OK, 1 tuple: [4, 'date'] (sync 16)",
-        "SELECT space=512 iterator=GE key=[] offset=1 limit=2 (sync 17)",
-        "OK, 2 tuples: [2, {'color': 'red', 'weights': [120, -3]}], [3, 'cherry'] (sync 17)",
-        "error 19: Key of 2 parts, index of 1 (sync 18)",
-        "error 20: Packet is not MessagePack (sync 7)",
-        "the server closes the connection",
+        "1   greeting 00010203-0405-4607-8809-0a0b0c0d0e0f",
+        "1.1 OK, version 1, features [0, 1]",
+        "1.3 OK",
+        "2.3 OK, 1 tuple: [1, 'apple']",
+        "1.5 OK, 0 tuples",
+        "1.6 OK, 2 tuples: [2, 'banana'], [3, 'cherry']",
+        "1.7 OK, 1 tuple: [2, 'banana']",
+        "1.8 error 36: Space 513 does not exist",
+        "1.9 error 69: Missing key 0x20",
+        "1.10 error 19: Key of 2 parts, index of 1",
+        "2.4 error 20: Packet is not MessagePack",
+        "2   the server closes the connection",
     ):
         assert any(text.endswith(line) for text in shown), f"no line {line!r}"
-    assert shown[-1] == "OK (sync 1)", "the second connection 2 isn't answered"
+    assert shown[-1].endswith("2.1 OK"), "the second connection 2 isn't answered"
 
 
 def bad_input_is_refused():
