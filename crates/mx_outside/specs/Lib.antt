@@ -1,3 +1,4 @@
 pub mod Causes
 pub mod Disks
 pub mod Moments
+pub mod Passed

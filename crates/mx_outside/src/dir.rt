@@ -1,7 +1,10 @@
 //! A directory of files on a disk.
 
 ghost use Rattle.std.specs.Prelude.{◌≡◌, ℕ, List, Option, IfOk, MatchResult, length};
+ghost use Rattle.std.specs.Cmp.Lexicographic.{slice_cmp};
 ghost use Rattle.std.specs.FinMap as map;
+ghost use Rattle.std.specs.List.Sorted.{IsStrictlySortedBy};
+ghost use Rattle.std.specs.Ordering.{nat_cmp};
 ghost use Rattle.mx_outside.specs.Causes.{HasCauseOf};
 ghost use Rattle.mx_outside.specs.declared.dir.DirFault.TheVariants.{NoMemory};
 ghost use Rattle.mx_outside.specs.Disks.{Disk, AnyEnd, IsImage, IfKnown, KnownAlike, IsThere, OfFile, Became, Stayed, Makes, MayMake, Appends, ReadsAt, created, file_synced, names_synced, renamed, removed};
@@ -34,8 +37,9 @@ impl From<AllocError> for DirFault {
 /// After any crash a file has its synced bytes, and then any bytes in any number. A name that was
 /// created, renamed or removed since the names were synced may be as before or as after.
 ///
-/// A call returns `DirFault::Failed` only where the count of faults rose. A file that a call names
-/// has to be there, where the files are known; in a real directory a missing file is a fault.
+/// A call returns `DirFault::Failed` only where the count of faults rose, and at any other return the
+/// count is as it was. A file that a call names has to be there, where the files are known; in a real
+/// directory a missing file is a fault.
 pub trait Dir {
     /// The states that it has had, the newest first, where they are known.
     ghost states: { Self → Option (List Disk) };
@@ -43,9 +47,10 @@ pub trait Dir {
     /// How often a call failed.
     ghost faults: { Self → ℕ };
 
-    /// The names of the files, in name order.
+    /// The names of the files, each once, in ascending order of their bytes.
     fn list(&mut self, alloc: Global) -> Result<Names, DirFault>
         ensures states { states self.new ≡ states self.old }
+        ensures order { IfOk result (λ names. IsStrictlySortedBy (slice_cmp nat_cmp) names) }
         ensures names { IfKnown (states self.old) (λ disk past. IfOk result (λ names. names ≡ map.keys disk.now)) }
         ensures cause { HasCauseOf DirFault.Failed (faults self.old) (faults self.new) result };
 
