@@ -1,11 +1,11 @@
 -- What a change more, or a call that fails, makes of the states of a directory in memory.
-use Rattle.std.proofs.Common.{◌≡◌, ℕ, List, [], ◌∷◌, ◌++◌, Option, None, Some, Result, Ok, Err, refl, sym, ap, ◌∙◌, length, take, ◌<◌, ◌+◌, get_or, IfSome, IsSome, Bor, drop, min, ◌-◌, ◌≤◌, inr, arith, MatchResult, ◌⊎◌, inl}
+use Rattle.std.proofs.Common.{◌≡◌, ℕ, List, [], ◌∷◌, ◌++◌, Option, None, Some, Result, Ok, Err, refl, sym, ap, ◌∙◌, length, take, ◌<◌, ◌+◌, get_or, IfSome, IsSome, Bor, drop, min, ◌-◌, ◌≤◌, inr, arith, MatchResult, OnOk, OnErr, ◌⊎◌, inl, subst}
 use Rattle.std.proofs.lemmas.List.{take_more, length-drop}
 use Rattle.std.proofs.lemmas.Bool.{cases_lt}
 use Rattle.std.specs.Option.{option_copied}
 use mathlib.Core.Bool.{true≢false}
-use Rattle.mx_outside.specs.Disks.{File, ReadsAt, Disk, AnyEnd, IsImage, Became, Stayed, IfKnown, IsKnown, KnownAlike, Makes, MayMake, Appends, appended}
-use Rattle.mx_fake.specs.Changes.{step, replay, states_from, states_after, no_files}
+use Rattle.mx_outside.specs.Disks.{File, ReadsAt, Disk, AnyEnd, IsImage, Became, Stayed, IfKnown, IsKnown, KnownAlike, Makes, Appends, appended}
+use Rattle.mx_fake.specs.Changes.{step, replay, states_from, states_after, no_files, MayLeave, MakesOrLeaves}
 use Rattle.mx_fake.specs.declared.change.Change.{Change}
 
 known_from : (disk : Disk) (past : List Disk) (changes : List Change) → IsKnown (Some (states_from disk past changes))
@@ -54,25 +54,38 @@ pub made_none : (changes now : List Change) → now ≡ changes
     → IfKnown (Some (states_after changes)) (λ disk past. Stayed (Some (states_after now)) disk past)
 made_none changes now same = where_known _ _ (λ disk past told. ap (λ cs. Some (states_after cs)) same ∙ told)
 
+-- what a call that failed may have left
+pub left_none : (changes now : List Change) (f : Disk → Disk) → now ≡ changes → MayLeave f (Some (states_after changes)) (Some (states_after now))
+left_none changes now f same = known_weaker (Some (states_after changes)) (λ disk past stayed. inl stayed) (made_none changes now same)
+
+pub left_some : {T E : Type 0} (result : Result T E) (changes now : List Change) (change : Change) (f : Disk → Disk) → step change ≡ f
+    → OnOk result (now ≡ changes ++ change ∷ []) → OnErr result (now ≡ changes) → MayLeave f (Some (states_after changes)) (Some (states_after now))
+left_some (Ok x) changes now change f is pushed none =
+    known_weaker (Some (states_after changes)) (λ disk past became. inr became) (made_ok changes now change f is pushed)
+left_some (Err e) changes now change f is pushed none = left_none changes now f none
+
 module _ {T E : Type 0} (before now : Option (List Disk)) (result : Result T E) where
-  pub may_make : (f : Disk → Disk) → Makes f before now result → MayMake f before now result
-  may_make f = known_weaker before (λ disk past. by_result disk past result)
+  pub makes_whole : (f g : Disk → Disk) → Makes f before now result → MakesOrLeaves f g before now result
+  makes_whole f g = known_weaker before (λ disk past. by_result disk past result)
     where
       by_result : (disk : Disk) (past : List Disk) (result : Result T E)
           → MatchResult result (λ _. Became now (f disk) disk past) (λ _. Stayed now disk past)
-          → MatchResult result (λ _. Became now (f disk) disk past) (λ _. Stayed now disk past ⊎ Became now (f disk) disk past)
+          → MatchResult result (λ _. Became now (f disk) disk past) (λ _. Stayed now disk past ⊎ Became now (g disk) disk past)
       by_result disk past (Ok x) made = made
       by_result disk past (Err e) stayed = inl stayed
 
-  pub appends : (name more : List ℕ) → Makes (appended name more) before now result → Appends name more before now result
-  appends name more = known_weaker before (λ disk past. by_result disk past result)
+  pub appends : (name more : List ℕ) (count : ℕ) → MakesOrLeaves (appended name more) (appended name (take count more)) before now result
+      → Appends name more before now result
+  appends name more count = known_weaker before (λ disk past. by_result disk past result)
     where
       by_result : (disk : Disk) (past : List Disk) (result : Result T E)
-          → MatchResult result (λ _. Became now (appended name more disk) disk past) (λ _. Stayed now disk past)
+          → MatchResult result (λ _. Became now (appended name more disk) disk past)
+          (λ _. Stayed now disk past ⊎ Became now (appended name (take count more) disk) disk past)
           → MatchResult result (λ _. Became now (appended name more disk) disk past)
           (λ _. Stayed now disk past ⊎ ((count : ℕ) × Became now (appended name (take count more) disk) disk past))
       by_result disk past (Ok x) made = made
-      by_result disk past (Err e) stayed = inl stayed
+      by_result disk past (Err e) (inl stayed) = inl stayed
+      by_result disk past (Err e) (inr became) = inr (count, became)
 
   pub crashes : (f : Disk → Disk) → ((disk : Disk) → IsImage AnyEnd disk (f disk)) → Makes f before now result
       → IfKnown before (λ disk past. MatchResult result (λ _. (image : Disk) × IsImage AnyEnd disk image × Became now image disk past) (λ _. Stayed now disk past))
@@ -139,3 +152,15 @@ reads_there (Some file) bytes rest before new at count same behind least copied 
 pub seen_there : (seen : Option (Bor File)) (found : Option File) → IsSome seen → option_copied seen ≡ found → IsSome found
 seen_there None found there is = absurd (true≢false (sym there))
 seen_there (Some x) found there is = rw (sym is) refl
+
+pub there_seen : (seen : Option (Bor File)) (found : Option File) → IsSome found → option_copied seen ≡ found → IsSome seen
+there_seen None found there is = absurd (true≢false (sym (rw (sym is) at there)))
+there_seen (Some x) found there is = refl
+
+-- what holds of the newest state
+pub of_newest : (changes : List Change) (P : Disk → List Disk → Type 0) (Q : Type 0)
+    → ((disk : Disk) (past : List Disk) → Some (states_after changes) ≡ Some (disk ∷ past) → P disk past → Q) → IfKnown (Some (states_after changes)) P → Q
+of_newest changes P Q shown holds =
+    let ended = states_end no_files [] changes in
+    let told = ap Some ended.1 in
+    shown (replay no_files changes) ended.0 told (subst (λ states. IfKnown states P) told holds)

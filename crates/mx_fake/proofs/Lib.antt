@@ -3,3 +3,4 @@ mod DirLaws
 mod FileLaws
 mod Prefixes
 mod TableLaws
+mod PassedLaws

@@ -1,70 +1,109 @@
 -- What a step makes of the tables of a directory in memory.
-use Rattle.std.proofs.Common.{◌≡◌, ℕ, Bool, true, false, cond, List, [], ◌∷◌, ◌++◌, map, Option, None, Some, string_bytes, refl, sym, ap, ◌∙◌}
+use Rattle.std.proofs.Common.{◌≡◌, ◌≢◌, ℕ, Bool, true, false, cond, List, [], ◌∷◌, Option, None, Some, is_some, refl, sym, ap, ◌∙◌, subst}
+use Rattle.std.specs.BTreeMap as tree
 use Rattle.std.specs.FinMap as map
-use Rattle.std.specs.Option.{unwrap_or}
-use Rattle.std.specs.FinMap.{get-empty, get-insert, get-remove, get-entries}
+use Rattle.std.specs.Option.{option_map}
+use Rattle.std.specs.FinMap.{entries_sorted, get-empty, get-entries, get-from_entries, get-insert, get-remove}
 use Rattle.std.specs.Cmp.Lexicographic.{slice_cmp, nat_list_cmp_total}
 use Rattle.std.specs.Ordering.{nat_cmp, eq_by_cmp}
+use Rattle.std.specs.String.{string_cmp}
+use Rattle.std.proofs.lemmas.Map.Text.{text_cmp}
 use Rattle.mx_outside.specs.Disks.{File, Files, Disk, or_none, outcomes, unsynced, change_now, moved}
-use Rattle.mx_fake.specs.MemoryCrashes.{oldest_file, set_file, undo, durable_names}
-use Rattle.mx_fake.specs.Tables.{IsTablesOf, saved_file, was_of}
-use Rattle.mx_fake.specs.declared.tables.Before.{Before}
+use Rattle.mx_fake.specs.FileMaps.{by_bytes, map_of}
+use Rattle.mx_fake.specs.MemoryCrashes.{oldest_file, changed_names}
+use Rattle.mx_fake.specs.Tables.{IsTablesOf}
 use Rattle.mx_fake.specs.declared.tables.Tables.{Tables}
-use Rattle.mx_fake.proofs.FileLaws.{same_key, same_files}
+use Rattle.mx_fake.proofs.FileLaws.{same_key, same_files, inserted, rising, find_changed, rising_changed, same_entries}
 
 -- whether a name is this one
 abbrev pub is_name : List ℕ → List ℕ → Bool
 is_name q name = eq_by_cmp (slice_cmp nat_cmp) q name
 
-first_push : (items : List Before) (b : Before) (q : List ℕ) (file : Option File)
-    → saved_file (items ++ b ∷ []) q file ≡ saved_file items q (cond (is_name q (string_bytes b.name)) b.file file)
-first_push [] b q file = by_test (is_name q (string_bytes b.name))
-  where
-    by_test : (t : Bool) → unwrap_or (cond t (Some b.file) None) file ≡ cond t b.file file
-    by_test true = refl
-    by_test false = refl
-first_push (x ∷ items) b q file = by_test (first_push items b q file) (is_name q (string_bytes x.name))
-  where
-    by_test : saved_file (items ++ b ∷ []) q file ≡ saved_file items q (cond (is_name q (string_bytes b.name)) b.file file)
-        → (t : Bool) → unwrap_or (cond t (Some x.file) (map.find (slice_cmp nat_cmp) q (map was_of (items ++ b ∷ [])))) file
-        ≡ unwrap_or (cond t (Some x.file) (map.find (slice_cmp nat_cmp) q (map was_of items))) (cond (is_name q (string_bytes b.name)) b.file file)
-    by_test others true = refl
-    by_test others false = others
+pub nothing_there : {X : Type 0} (o : Option X) → is_some o ≡ false → o ≡ None
+nothing_there None none = refl
+nothing_there (Some x) none = absurd cc
 
--- what a name is before it changes is saved
-pub noted : (disk : Disk) (before after : Tables) (name : List ℕ) (b : Before) → IsTablesOf disk before
-    → after.files ≡ before.files → after.before.items ≡ before.before.items ++ b ∷ []
-    → string_bytes b.name ≡ name → b.file ≡ map.get before.files name → IsTablesOf (unsynced name disk) after
-noted disk before after name b is same pushed named file = record {
-  now = same ∙ is.now;
-  oldest = λ q f.
-      ap (λ items. saved_file items q f) pushed ∙ first_push before.before.items b q f
-      ∙ ap (λ k. saved_file before.before.items q (cond (is_name q k) b.file f)) named
-      ∙ ap (λ w. saved_file before.before.items q (cond (is_name q name) w f)) (file ∙ ap (λ files. map.get files name) is.now)
-      ∙ is.oldest q (cond (is_name q name) (map.get disk.now name) f)
-      ∙ by_test q f (is_name q name) refl
-      ∙ ap (λ o. oldest_file f (or_none o)) (sym (get-insert nat_list_cmp_total disk.older name (outcomes name disk) q));
+-- one state more of a name
+some_after : (disk : Disk) (name : List ℕ) → ((q : List ℕ) → map.get disk.older q ≢ Some []) → (q : List ℕ) → map.get (unsynced name disk).older q ≢ Some []
+some_after disk name some q is = by_test (is_name q name) (sym (get-insert nat_list_cmp_total disk.older name (outcomes name disk) q) ∙ is)
+  where
+    by_test : (t : Bool) → cond t (Some (outcomes name disk)) (map.get disk.older q) ≡ Some [] → ⊥
+    by_test true is = absurd cc
+    by_test false is = some q is
+
+-- what a name is before its first change is saved
+pub saved_first : (disk : Disk) (before after : Tables) (name : List ℕ) (file : Option File) → IsTablesOf disk before → after.files ≡ before.files
+    → map.get (map_of before.before.entries) name ≡ None → file ≡ map.get before.files name
+    → tree.UpdatesBy string_cmp (text_cmp name) before.before after.before (Some file) → tree.IsOrdered string_cmp after.before → IsTablesOf (unsynced name disk) after
+saved_first disk before after name file is files none same updates ordered = record {
+  now = files ∙ is.now;
+  before = λ q.
+      ap (λ m. map.get m q) (inserted before.before after.before name file updates)
+      ∙ get-insert nat_list_cmp_total (map_of before.before.entries) name file q
+      ∙ by_test q (is_name q name)
+      ∙ ap (option_map (oldest_file None)) (sym (get-insert nat_list_cmp_total disk.older name (outcomes name disk) q));
+  ordered = ordered;
+  some = some_after disk name is.some;
 }
   where
-    by_test : (q : List ℕ) (f : Option File) (t : Bool) → is_name q name ≡ t
-        → oldest_file (cond t (map.get disk.now name) f) (or_none (map.get disk.older q)) ≡ oldest_file f (or_none (cond t (Some (outcomes name disk)) (map.get disk.older q)))
-    by_test q f true tied = ap (λ k. oldest_file (map.get disk.now name) (or_none (map.get disk.older k))) (sym (same_key name q tied))
-    by_test q f false differs = refl
+    by_older : (older : Option (List (Option File))) → option_map (oldest_file None) older ≡ None → map.get disk.now name ≡ oldest_file (map.get disk.now name) (or_none older)
+    by_older None absent = refl
+    by_older (Some older) absent = absurd cc
 
--- the files change, and what was noted stays
+    by_test : (q : List ℕ) (t : Bool) → cond t (Some file) (map.get (map_of before.before.entries) q)
+        ≡ option_map (oldest_file None) (cond t (Some (outcomes name disk)) (map.get disk.older q))
+    by_test q true = ap Some (same ∙ ap (λ files. map.get files name) is.now ∙ by_older (map.get disk.older name) (sym (is.before name) ∙ none))
+    by_test q false = is.before q
+
+-- a name that was saved already
+pub saved_already : (disk : Disk) (before : Tables) (name : List ℕ) → IsTablesOf disk before → map.get (map_of before.before.entries) name ≢ None
+    → IsTablesOf (unsynced name disk) before
+saved_already disk before name is there = record {
+  now = is.now;
+  before = λ q.
+      is.before q ∙ by_test q (is_name q name) refl
+      ∙ ap (option_map (oldest_file None)) (sym (get-insert nat_list_cmp_total disk.older name (outcomes name disk) q));
+  ordered = is.ordered;
+  some = some_after disk name is.some;
+}
+  where
+    by_older : (older : Option (List (Option File))) → older ≢ Some [] → option_map (oldest_file None) older ≢ None
+        → option_map (oldest_file None) older ≡ Some (oldest_file (map.get disk.now name) (or_none older))
+    by_older None some there = absurd (there refl)
+    by_older (Some []) some there = absurd (some refl)
+    by_older (Some (was ∷ older)) some there = refl
+
+    by_test : (q : List ℕ) (t : Bool) → is_name q name ≡ t
+        → option_map (oldest_file None) (map.get disk.older q) ≡ option_map (oldest_file None) (cond t (Some (outcomes name disk)) (map.get disk.older q))
+    by_test q true tied =
+        ap (λ k. option_map (oldest_file None) (map.get disk.older k)) (sym (same_key name q tied))
+        ∙ by_older (map.get disk.older name) (is.some name) (λ none. there (is.before name ∙ none))
+    by_test q false differs = refl
+
+-- the files change, and what was saved stays
 pub changed : (change : Files → Files) (disk : Disk) (before after : Tables) → IsTablesOf disk before
-    → after.files ≡ change before.files → after.before.items ≡ before.before.items → IsTablesOf (change_now change disk) after
+    → after.files ≡ change before.files → after.before ≡ before.before → IsTablesOf (change_now change disk) after
 changed change disk before after is files same = record {
   now = files ∙ ap change is.now;
-  oldest = λ q f. ap (λ items. saved_file items q f) same ∙ is.oldest q f;
+  before = λ q. ap (λ tree. map.get (map_of tree.entries) q) same ∙ is.before q;
+  ordered = subst (tree.IsOrdered string_cmp) (sym same) is.ordered;
+  some = is.some;
 }
 
--- nothing is noted, where nothing else is possible
-pub nothing_noted : (files : Files) (after : Tables) → after.files ≡ files → after.before.items ≡ [] → IsTablesOf (record { now = files; older = map.empty }) after
-nothing_noted files after same none = record {
+-- nothing is saved, where all names are synced
+pub nothing_saved : (files : Files) (after : Tables) → after.files ≡ files → after.before.entries ≡ [] → tree.IsOrdered string_cmp after.before
+    → IsTablesOf (record { now = files; older = map.empty }) after
+nothing_saved files after same none ordered = record {
   now = same;
-  oldest = λ q f. ap (λ items. saved_file items q f) none ∙ sym (ap (λ o. oldest_file f (or_none o)) (get-empty (slice_cmp nat_cmp) q));
+  before = λ q.
+      ap (λ entries. map.get (map_of entries) q) none ∙ get-empty (slice_cmp nat_cmp) q
+      ∙ sym (ap (option_map (oldest_file None)) (get-empty (slice_cmp nat_cmp) q));
+  ordered = ordered;
+  some = λ q is. absurd (no_some (sym (get-empty (slice_cmp nat_cmp) q) ∙ is));
 }
+  where
+    no_some : {X : Type 0} {x : X} → None ≡ Some x → ⊥
+    no_some is = absurd cc
 
 -- a file under another name
 pub moved_there : (from to : List ℕ) (files : Files) (file : File) → map.get files from ≡ Some file → moved from to files ≡ map.insert (map.remove files from) to file
@@ -80,36 +119,18 @@ moved_none from to files is =
     by_test q true tied = sym is ∙ ap (map.get files) (same_key from q tied)
     by_test q false differs = refl
 
--- a name after `set_file`
-pub get_set : (name : List ℕ) (file : Option File) (files : Files) (q : List ℕ) → map.get (set_file name file files) q ≡ cond (is_name q name) file (map.get files q)
-get_set name None files q = get-remove nat_list_cmp_total files name q
-get_set name (Some file) files q = get-insert nat_list_cmp_total files name file q
-
-get_undo : (es : List (List ℕ × List (Option File))) (files : Files) (q : List ℕ)
-    → map.get (undo es files) q ≡ oldest_file (map.get files q) (or_none (map.find (slice_cmp nat_cmp) q es))
-get_undo [] files q = refl
-get_undo (e ∷ es) files q =
-    get_set e.0 (oldest_file (map.get files e.0) e.1) (undo es files) q ∙ by_test (get_undo es files q) (is_name q e.0) refl
+-- what was saved, in order
+pub saved_names : (disk : Disk) (tables : Tables) → IsTablesOf disk tables → by_bytes tables.before.entries ≡ changed_names disk
+saved_names disk tables is =
+    same_entries (by_bytes tables.before.entries) (changed_names disk) (rising tables.before.entries is.ordered)
+    (rising_changed was (map.entries disk.older) (entries_sorted disk.older)) (λ q.
+    sym (get-from_entries nat_list_cmp_total (by_bytes tables.before.entries) q) ∙ is.before q ∙ by_older q (map.get disk.older q) (is.some q)
+    ∙ ap (option_map (was q)) (get-entries disk.older q) ∙ sym (find_changed was (map.entries disk.older) q))
   where
-    by_test : map.get (undo es files) q ≡ oldest_file (map.get files q) (or_none (map.find (slice_cmp nat_cmp) q es))
-        → (t : Bool) → is_name q e.0 ≡ t
-        → cond t (oldest_file (map.get files e.0) e.1) (map.get (undo es files) q) ≡ oldest_file (map.get files q) (or_none (cond t (Some e.1) (map.find (slice_cmp nat_cmp) q es)))
-    by_test others true tied = ap (λ k. oldest_file (map.get files k) e.1) (same_key e.0 q tied)
-    by_test others false differs = others
+    was : List ℕ → List (Option File) → Option File
+    was name = oldest_file (map.get disk.now name)
 
--- what a durable name is
-pub get_first : (disk : Disk) (q : List ℕ) → map.get (durable_names disk) q ≡ oldest_file (map.get disk.now q) (or_none (map.get disk.older q))
-get_first disk q = get_undo (map.entries disk.older) disk.now q ∙ ap (λ o. oldest_file (map.get disk.now q) (or_none o)) (sym (get-entries disk.older q))
-
--- one note fewer
-pub one_undone : (items rest : List Before) (b : Before) (files after : Files) (q : List ℕ) → items ≡ rest ++ b ∷ [] → after ≡ set_file (string_bytes b.name) b.file files
-    → saved_file rest q (map.get after q) ≡ saved_file items q (map.get files q)
-one_undone items rest b files after q popped is =
-    ap (λ files. saved_file rest q (map.get files q)) is ∙ ap (saved_file rest q) (get_set (string_bytes b.name) b.file files q)
-    ∙ sym (first_push rest b q (map.get files q)) ∙ ap (λ items. saved_file items q (map.get files q)) (sym popped)
-
--- all notes undone give the durable names
-pub all_undone : (disk : Disk) (tables : Tables) (after : Files) → IsTablesOf disk tables
-    → ((q : List ℕ) → map.get after q ≡ saved_file tables.before.items q (map.get tables.files q)) → after ≡ durable_names disk
-all_undone disk tables after is undone = same_files _ _ (λ q.
-    undone q ∙ ap (λ files. saved_file tables.before.items q (map.get files q)) is.now ∙ is.oldest q (map.get disk.now q) ∙ sym (get_first disk q))
+    by_older : (q : List ℕ) (older : Option (List (Option File))) → older ≢ Some [] → option_map (oldest_file None) older ≡ option_map (was q) older
+    by_older q None some = refl
+    by_older q (Some []) some = absurd (some refl)
+    by_older q (Some (first ∷ older)) some = refl

@@ -1,7 +1,7 @@
 -- What the changes of a directory in memory make of it.
-use Rattle.std.specs.Prelude.{List, [], ◌∷◌, string_bytes}
+use Rattle.std.specs.Prelude.{◌⊎◌, List, [], ◌∷◌, Option, Result, MatchResult, string_bytes}
 use Rattle.std.specs.FinMap as map
-use Rattle.mx_outside.specs.Disks.{Disk, created, appended, file_synced, names_synced, renamed, removed}
+use Rattle.mx_outside.specs.Disks.{Disk, IfKnown, Became, Stayed, created, appended, file_synced, names_synced, renamed, removed}
 use Rattle.mx_fake.specs.MemoryCrashes.{crash_disk}
 use Rattle.mx_fake.specs.declared.change.Change.{Change}
 use Rattle.mx_fake.specs.declared.change.Change.TheVariants.{Create, Append, Sync, SyncNames, Rename, Remove, Crash}
@@ -33,3 +33,13 @@ states_from disk past (change ∷ changes) = states_from (step change disk) (dis
 -- all states of a directory that was empty at first, newest first
 abbrev pub states_after : List Change → List Disk
 states_after = states_from no_files []
+
+-- nothing or this change
+abbrev pub MayLeave : (Disk → Disk) → (before after : Option (List Disk)) → Type 0
+MayLeave change before after = IfKnown before (λ disk past. Stayed after disk past ⊎ Became after (change disk) disk past)
+
+-- the change at `Ok`, and at an error nothing or this part of it
+abbrev pub MakesOrLeaves : {T E : Type 0} → (change part : Disk → Disk) → (before after : Option (List Disk)) → Result T E → Type 0
+MakesOrLeaves change part before after result = IfKnown before (λ disk past. MatchResult result
+    (λ value. Became after (change disk) disk past)
+    (λ error. Stayed after disk past ⊎ Became after (part disk) disk past))

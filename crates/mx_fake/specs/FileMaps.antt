@@ -1,7 +1,10 @@
 -- A file and a directory's files as values.
 use Rattle.std.specs.Prelude.{ℕ, List, map, String, string_bytes, refl}
+use Rattle.std.specs.Cmp.Lexicographic.{slice_cmp}
 use Rattle.std.specs.Coded.{Coded, code_by, coded×, coded_ℕ, coded_list}
 use Rattle.std.specs.FinMap as map
+use Rattle.std.specs.FinMap.{FinMap}
+use Rattle.std.specs.Ordering.{nat_cmp}
 use Rattle.mx_outside.specs.Disks.{File, Files}
 
 -- a file coded as its two fields
@@ -13,11 +16,11 @@ file_code =
 abbrev pub files_code : Coded Files
 files_code = map.code (coded_list coded_ℕ) file_code
 
-module _ {Y : Type 0} where
+module _ {Y X : Type 0} where
   -- the entries by the bytes of their names
-  abbrev pub by_bytes : List (String Y × File) → List (List ℕ × File)
+  abbrev pub by_bytes : List (String Y × X) → List (List ℕ × X)
   by_bytes entries = map (λ e. (string_bytes e.0, e.1)) entries
 
-  -- the files of a tree's entries
-  abbrev pub files_of : List (String Y × File) → Files
-  files_of entries = map.from_entries (by_bytes entries)
+  -- a tree's entries as a map
+  abbrev pub map_of : List (String Y × X) → FinMap (slice_cmp nat_cmp) X
+  map_of entries = map.from_entries (by_bytes entries)

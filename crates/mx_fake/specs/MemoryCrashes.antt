@@ -1,9 +1,9 @@
 -- The crash of a directory in memory.
-use Rattle.std.specs.Prelude.{ℕ, ◌+◌, ◌/◌, ◌%◌, List, [], ◌∷◌, take, min, length, map, Option, None, Some, cond, nat_eq}
+use Rattle.std.specs.Prelude.{ℕ, ◌+◌, ◌/◌, ◌%◌, ◌^◌, suc, Bool, List, [], ◌∷◌, take, min, length, map, Option, None, Some, cond, nat_eq}
 use Rattle.std.specs.FinMap as map
 use Rattle.mx_outside.specs.Disks.{File, Files, Disk, synced_file}
 
--- the synced bytes, and up to this many of those behind them
+-- the synced bytes, and up to this many of those after them
 abbrev pub crash_file : ℕ → File → File
 crash_file more file = synced_file (take (min file.synced (length file.bytes) + more) file.bytes)
 
@@ -21,20 +21,22 @@ abbrev pub set_file : List ℕ → Option File → Files → Files
 set_file name None files = map.remove files name
 set_file name (Some file) files = map.insert files name file
 
--- the files with each of these names as it was at the oldest
-abbrev pub undo : List (List ℕ × List (Option File)) → Files → Files
-undo [] files = files
-undo (e ∷ es) files = set_file e.0 (oldest_file (map.get files e.0) e.1) (undo es files)
+-- the names that changed since the names were synced, in ascending order, each with what it was then
+abbrev pub changed_names : Disk → List (List ℕ × Option File)
+changed_names disk = map (λ e. (e.0, oldest_file (map.get disk.now e.0) e.1)) (map.entries disk.older)
 
--- the files by their durable names
-abbrev pub durable_names : Disk → Files
-durable_names disk = undo (map.entries disk.older) disk.now
+-- whether a choice has the bit of this number, modulo 8
+abbrev pub has_bit : ℕ → ℕ → Bool
+has_bit choice number = nat_eq (choice / 2 ^ (number % 8) % 2) 1
 
--- the files by the names that a choice leaves
-abbrev pub names_after_crash : ℕ → Disk → Files
-names_after_crash choice disk = cond (nat_eq (choice % 2) 1) (durable_names disk) disk.now
+-- the files with each of these names put back to what it was, if the choice has the bit of its number; the numbers count
+-- from this one on
+abbrev pub put_back : (choice number : ℕ) → List (List ℕ × Option File) → Files → Files
+put_back choice number [] files = files
+put_back choice number (e ∷ es) files = put_back choice (suc number) es (cond (has_bit choice number) (set_file e.0 e.1 files) files)
 
--- An odd choice leaves each name as it was when the names were synced. Half of the choice is how many bytes of each file
--- stay beyond its synced ones.
+-- The first name that changed since the names were synced has the number 0: a name is as it was then where the choice has
+-- the bit of its number, and else as it is now. The 256th part of the choice is how many bytes of each file stay beyond its
+-- synced ones.
 abbrev pub crash_disk : ℕ → Disk → Disk
-crash_disk choice disk = record { now = crash_files (choice / 2) (names_after_crash choice disk); older = map.empty }
+crash_disk choice disk = record { now = crash_files (choice / 256) (put_back choice 0 (changed_names disk) disk.now); older = map.empty }

@@ -1,6 +1,6 @@
 //! The calls of an object in memory.
 
-ghost use Rattle.std.specs.Prelude.{◌≡◌, ◌≤◌, OnOk};
+ghost use Rattle.std.specs.Prelude.{◌≡◌, ◌≤◌, ◌+◌, ◌-◌, ◌^◌, ◌↔◌, min, Contains, IsErr};
 ghost use Rattle.mx_outside.specs.Causes.{HasCause, Rose};
 
 use mx_outside::Failed;
@@ -25,10 +25,12 @@ impl Calls {
         }
     }
 
-    /// Counts a call, which fails if it is listed.
+    /// Counts a call, which fails if its number is listed.
     pub(crate) fn make(&mut self) -> Result<(), Failed>
+        ensures made { self.new.made ≡ min (self.old.made + 1) (2 ^ 64 - 1) }
+        ensures exact { IsErr result ↔ Contains self.old.failing.items self.new.made }
+        ensures failing { self.new.failing ≡ self.old.failing }
         ensures cause { HasCause self.old.faults self.new.faults result }
-        ensures done { OnOk result (self.new.faults ≡ self.old.faults) }
     {
         self.made = self.made.saturating_add(1);
         if self.failing.contains(&self.made) {
@@ -37,9 +39,10 @@ impl Calls {
         Ok(())
     }
 
-    /// Counts a fault.
     pub(crate) fn fail(&mut self) -> Failed
-        ensures { Rose self.old.faults self.new.faults × (self.old.faults ≤ self.new.faults) }
+        ensures rose { Rose self.old.faults self.new.faults × (self.old.faults ≤ self.new.faults) }
+        ensures made { self.new.made ≡ self.old.made }
+        ensures failing { self.new.failing ≡ self.old.failing }
     {
         self.faults = self.faults.saturating_add(1);
         Failed

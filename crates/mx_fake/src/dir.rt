@@ -1,10 +1,10 @@
 //! A directory in memory.
 
-ghost use Rattle.std.specs.Prelude.{◌≡◌, ◌∷◌, ◌++◌, [], Some, IfOk, OnOk, OnErr, IsTrue, List, drop};
+ghost use Rattle.std.specs.Prelude.{◌≡◌, ◌≢◌, ◌↔◌, ◌∷◌, ◌++◌, [], Some, Err, IfOk, OnOk, OnErr, IsTrue, List, drop};
 ghost use Rattle.mx_outside.specs.Causes.{HasCauseOf};
 ghost use Rattle.mx_outside.specs.Disks.{Disk, IsThere, Makes, KnownAlike};
 ghost use Rattle.mx_outside.specs.declared.dir.DirFault.TheVariants.{Failed};
-ghost use Rattle.mx_fake.specs.Changes.{step, no_files};
+ghost use Rattle.mx_fake.specs.Changes.{step, no_files, MayLeave, MakesOrLeaves};
 ghost use Rattle.mx_fake.specs.Dirs.{dir_states, dir_faults};
 ghost use Rattle.mx_fake.specs.Tables.{IsTablesOf};
 
@@ -17,31 +17,45 @@ use std::alloc::{AllocError, Global};
 /// A directory in memory, for tests. It keeps the list of its changes and replays them for each
 /// question, which takes time in proportion to the changes.
 ///
-/// A restart is a crash. An odd choice leaves each name as it was when the names were synced, and an
-/// even one as it is now. Half of the choice is how many bytes of each file stay beyond its synced
-/// ones.
+/// A restart is a crash. The names that changed since the names were synced count from 0 in ascending
+/// order, and number `i` is as it was then where the bit `i % 8` of the choice is set, and else as it
+/// is now. `choice / 256` is how many bytes of each file stay beyond its synced ones.
 #[derive(Debug, Drop)]
 pub struct MemoryDir {
     calls: Calls,
+    done: u32,
     changes: Vec<Change>,
 }
 
 impl MemoryDir {
-    /// An empty directory, of whose calls those that `failing` lists fail, counted from 1.
+    /// An empty directory, of whose calls those that `failing` lists fail, counted from 1. A call that
+    /// fails changes nothing.
     pub fn new(alloc: Global, failing: Vec<u64>) -> MemoryDir
+        ensures states { dir_states result ≡ Some (no_files ∷ []) }
+        ensures faults { dir_faults result ≡ 0 }
+        ensures failing { result.calls.failing ≡ failing }
+    {
+        MemoryDir::failing_midway(alloc, failing, 0)
+    }
+
+    /// An empty directory whose calls fail midway. Where `done` isn't 0, an append that fails has
+    /// appended a prefix of its bytes, up to `done` of them, and a create, rename or remove that fails
+    /// has happened. Out of memory nothing has.
+    pub fn failing_midway(alloc: Global, failing: Vec<u64>, done: u32) -> MemoryDir
         ensures states { dir_states result ≡ Some (no_files ∷ []) }
         ensures faults { dir_faults result ≡ 0 }
         ensures failing { result.calls.failing ≡ failing }
     {
         MemoryDir {
             calls: Calls::new(failing),
+            done,
             changes: Vec::new(alloc),
         }
     }
 
     /// Whether there is a file of this name. This call isn't counted, and fails only out of memory.
     pub fn has(&self, alloc: Global, name: &str) -> Result<bool, AllocError>
-        ensures { IfOk result (λ there. IsTrue there → IsThere (dir_states self.now) name.now) }
+        ensures { IfOk result (λ there. IsTrue there ↔ IsThere (dir_states self.now) name.now) }
     {
         let tables = self.tables(alloc)?;
         let there = tables.files().get(name).is_some();
@@ -67,19 +81,62 @@ impl MemoryDir {
         Ok(())
     }
 
-    /// Counts a call, and makes its change.
-    fn make(&mut self, change: Result<Change, AllocError>) -> Result<(), DirFault>
-        ensures told { KnownAlike (dir_states self.old) (dir_states self.new) }
+    /// Makes the change of a call that was counted.
+    fn finish(&mut self, change: Result<Change, AllocError>) -> Result<(), DirFault>
+        ensures calls { self.new.calls ≡ self.old.calls }
         ensures made { (f : Disk → Disk) → IfOk change (λ change. step change ≡ f) → Makes f (dir_states self.old) (dir_states self.new) result }
-        ensures cause { HasCauseOf Failed (dir_faults self.old) (dir_faults self.new) result }
+        ensures fault { result ≢ Err Failed }
     {
-        self.begin()?;
         let Ok(change) = change else {
             return Err(DirFault::NoMemory);
         };
         match self.note(change) {
             Ok(()) => Ok(()),
             Err(_) => Err(DirFault::NoMemory),
+        }
+    }
+
+    /// Makes what a call that failed has done.
+    fn leave(&mut self, part: Result<Change, AllocError>)
+        ensures calls { self.new.calls ≡ self.old.calls }
+        ensures left { (f : Disk → Disk) → IfOk part (λ part. step part ≡ f) → MayLeave f (dir_states self.old) (dir_states self.new) }
+        ensures none { self.old.done ≡ 0 → dir_states self.new ≡ dir_states self.old }
+    {
+        if self.done == 0 {
+            return;
+        }
+        if let Ok(part) = part {
+            let _ = self.note(part);
+        }
+    }
+
+    /// Counts a call, and makes its change. If it fails, it changes nothing.
+    fn make(&mut self, change: Result<Change, AllocError>) -> Result<(), DirFault>
+        ensures told { KnownAlike (dir_states self.old) (dir_states self.new) }
+        ensures made { (f : Disk → Disk) → IfOk change (λ change. step change ≡ f) → Makes f (dir_states self.old) (dir_states self.new) result }
+        ensures cause { HasCauseOf Failed (dir_faults self.old) (dir_faults self.new) result }
+    {
+        self.begin()?;
+        self.finish(change)
+    }
+
+    /// Counts a call, and makes its change, or if it fails perhaps a part of it.
+    fn make_or_leave(
+        &mut self,
+        change: Result<Change, AllocError>,
+        part: Result<Change, AllocError>,
+    ) -> Result<(), DirFault>
+        ensures told { KnownAlike (dir_states self.old) (dir_states self.new) }
+        ensures made { (f g : Disk → Disk) → IfOk change (λ change. step change ≡ f) → IfOk part (λ part. step part ≡ g)
+            → MakesOrLeaves f g (dir_states self.old) (dir_states self.new) result }
+        ensures cause { HasCauseOf Failed (dir_faults self.old) (dir_faults self.new) result }
+    {
+        match self.begin() {
+            Ok(()) => self.finish(change),
+            Err(fault) => {
+                self.leave(part);
+                Err(fault)
+            }
         }
     }
 
@@ -96,7 +153,6 @@ impl MemoryDir {
         }
     }
 
-    /// The state after all changes.
     fn tables(&self, alloc: Global) -> Result<Tables, AllocError>
         ensures { IfOk result (λ tables. (disk : Disk) (past : List Disk) → dir_states self.now ≡ Some (disk ∷ past) → IsTablesOf disk tables) }
     {
@@ -108,7 +164,6 @@ impl MemoryDir {
     }
 }
 
-/// The bytes from an offset on, or none behind their end.
 fn behind(bytes: &[u8], at: u64) -> &[u8]
     ensures { result.now ≡ drop at bytes.now }
 {
@@ -148,11 +203,15 @@ impl Dir for MemoryDir {
     }
 
     fn create(&mut self, alloc: Global, name: &str) -> Result<(), DirFault> {
-        self.make(Change::create(alloc, name))
+        self.make_or_leave(Change::create(alloc, name), Change::create(alloc, name))
     }
 
     fn append(&mut self, alloc: Global, name: &str, bytes: &[u8]) -> Result<(), DirFault> {
-        self.make(Change::append(alloc, name, bytes))
+        let (part, _) = bytes.split_at(bytes.len().min(self.done as usize));
+        self.make_or_leave(
+            Change::append(alloc, name, bytes),
+            Change::append(alloc, name, part),
+        )
     }
 
     fn sync(&mut self, alloc: Global, name: &str) -> Result<(), DirFault> {
@@ -164,11 +223,14 @@ impl Dir for MemoryDir {
     }
 
     fn rename(&mut self, alloc: Global, from: &str, to: &str) -> Result<(), DirFault> {
-        self.make(Change::rename(alloc, from, to))
+        self.make_or_leave(
+            Change::rename(alloc, from, to),
+            Change::rename(alloc, from, to),
+        )
     }
 
     fn remove(&mut self, alloc: Global, name: &str) -> Result<(), DirFault> {
-        self.make(Change::remove(alloc, name))
+        self.make_or_leave(Change::remove(alloc, name), Change::remove(alloc, name))
     }
 
     fn restart(&mut self, _alloc: Global, choice: u32) -> Result<(), DirFault> {

@@ -1,10 +1,11 @@
 //! The files of a directory in memory.
 
-ghost use Rattle.std.specs.Prelude.{◌≡◌, OnOk, IfOk, string_bytes};
+ghost use Rattle.std.specs.Prelude.{◌≡◌, OnOk, IfOk, cond, string_bytes};
 ghost use Rattle.std.specs.Option.{option_copied};
 ghost use Rattle.std.specs.FinMap as map;
 ghost use Rattle.mx_outside.specs.Disks.{change_file, longer_by, synced_file};
-ghost use Rattle.mx_fake.specs.MemoryCrashes.{crash_files, set_file};
+ghost use Rattle.mx_fake.specs.FileMaps.{by_bytes};
+ghost use Rattle.mx_fake.specs.MemoryCrashes.{crash_files, put_back, set_file};
 
 use crate::stored::Stored;
 use mx_outside::Names;
@@ -20,13 +21,13 @@ pub(crate) struct Files {
 
 impl Model for Files {
     ghost use Rattle.mx_outside.specs.Disks.{Files};
-    ghost use Rattle.mx_fake.specs.FileMaps.{files_code, files_of};
+    ghost use Rattle.mx_fake.specs.FileMaps.{files_code, map_of};
 
     ghost Value = { Files };
 
     ghost coded = { files_code };
 
-    ghost view = { λ f. files_of f.stored.entries };
+    ghost view = { λ f. map_of f.stored.entries };
 }
 
 impl Files {
@@ -44,7 +45,6 @@ impl Files {
         self.stored.get(name)
     }
 
-    /// A copy of the file of this name.
     pub(crate) fn copied(&self, alloc: Global, name: &str) -> Result<Option<Stored>, AllocError>
         ensures { IfOk result (λ file. file ≡ map.get self.now name.now) }
     {
@@ -54,7 +54,6 @@ impl Files {
         }
     }
 
-    /// The names, in name order.
     pub(crate) fn names(&self, alloc: Global) -> Result<Names, AllocError>
         ensures { IfOk result (λ names. names ≡ map.keys self.now) }
     {
@@ -79,8 +78,7 @@ impl Files {
         self.stored.remove(name)
     }
 
-    /// Gives a name this file, or none.
-    pub(crate) fn set(&mut self, name: String, file: Option<Stored>) -> Result<(), AllocError>
+    fn set(&mut self, name: String, file: Option<Stored>) -> Result<(), AllocError>
         ensures { OnOk result (self.new ≡ set_file (string_bytes name) file self.old) }
     {
         match file {
@@ -90,6 +88,33 @@ impl Files {
                 Ok(())
             }
         }
+    }
+
+    /// Gives a name this file, or none, if it is chosen.
+    fn set_if(&mut self, chosen: bool, name: String, file: Option<Stored>) -> Result<(), AllocError>
+        ensures { OnOk result (self.new ≡ cond chosen (set_file (string_bytes name) file self.old) self.old) }
+    {
+        if !chosen {
+            return Ok(());
+        }
+        self.set(name, file)
+    }
+
+    /// Puts those of the names back to what they were whose bits the choice has.
+    pub(crate) fn put_back(
+        &mut self,
+        choice: u32,
+        before: BTreeMap<String, Option<Stored>>,
+    ) -> Result<(), AllocError>
+        ensures { OnOk result (self.new ≡ put_back choice 0 (by_bytes before.entries) self.old) }
+    {
+        let mut left = before;
+        let mut bit = 0u32;
+        while let Some((name, file)) = left.pop_first() {
+            self.set_if((choice >> bit) % 2 == 1, name, file)?;
+            bit = (bit + 1) % 8;
+        }
+        Ok(())
     }
 
     pub(crate) fn append(&mut self, name: &str, more: &[u8]) -> Result<(), AllocError>

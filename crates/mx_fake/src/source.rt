@@ -28,7 +28,6 @@ impl MemorySource {
         }
     }
 
-    /// The bytes that are left.
     fn rest(&self) -> &[u8]
         ensures { Some result.now ≡ source_left self.now }
     {

@@ -63,7 +63,7 @@ impl Stored {
         self.synced = self.bytes.len();
     }
 
-    /// Keeps the synced bytes, and up to `more` of those behind them.
+    /// Keeps the synced bytes, and up to `more` of those after them.
     pub(crate) fn crash(&mut self, more: usize)
         ensures { self.new ≡ crash_file more self.old }
     {

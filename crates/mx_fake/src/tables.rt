@@ -3,7 +3,7 @@
 ghost use Rattle.std.specs.Prelude.{◌≡◌, OnOk, IfSome};
 ghost use Rattle.std.specs.FinMap as map;
 ghost use Rattle.mx_outside.specs.Disks.{Disk, created, appended, file_synced, names_synced, renamed, removed, unsynced};
-ghost use Rattle.mx_fake.specs.MemoryCrashes.{crash_disk, durable_names, names_after_crash};
+ghost use Rattle.mx_fake.specs.MemoryCrashes.{crash_disk};
 ghost use Rattle.mx_fake.specs.Changes.{step, no_files};
 ghost use Rattle.mx_fake.specs.Tables.{IsTablesOf};
 
@@ -11,21 +11,14 @@ use crate::change::Change;
 use crate::files::Files;
 use crate::stored::Stored;
 use std::alloc::{AllocError, Global};
+use std::collections::BTreeMap;
 use std::mem;
 
-/// What a name was before it changed.
-#[derive(Debug, Drop)]
-struct Before {
-    name: String,
-    file: Option<Stored>,
-}
-
-/// The files, and what each name was before each of its changes since the names were synced, oldest
-/// first.
+/// The files, and of each name that changed since the names were synced what it was then.
 #[derive(Debug, Drop)]
 pub(crate) struct Tables {
     files: Files,
-    before: Vec<Before>,
+    before: BTreeMap<String, Option<Stored>>,
 }
 
 impl Tables {
@@ -34,7 +27,7 @@ impl Tables {
     {
         Tables {
             files: Files::new(alloc),
-            before: Vec::new(alloc),
+            before: BTreeMap::new(alloc),
         }
     }
 
@@ -44,7 +37,6 @@ impl Tables {
         &self.files
     }
 
-    /// The bytes of a file, or none where it isn't there.
     pub(crate) fn bytes(&self, name: &str) -> &[u8]
         ensures { (disk : Disk) → IsTablesOf disk self.now → IfSome (map.get disk.now name.now) (λ file. result.now ≡ file.bytes) }
     {
@@ -74,13 +66,14 @@ impl Tables {
         }
     }
 
-    /// Saves what a name is before it changes.
     fn save(&mut self, alloc: Global, name: &str) -> Result<(), AllocError>
         ensures { OnOk result ((disk : Disk) → IsTablesOf disk self.old → IsTablesOf (unsynced name.now disk) self.new) }
     {
+        if self.before.contains_key(name) {
+            return Ok(());
+        }
         let file = self.files.copied(alloc, name)?;
-        let name = String::from_str(alloc, name)?;
-        self.before.push(Before { name, file })?;
+        self.before.insert(String::from_str(alloc, name)?, file)?;
         Ok(())
     }
 
@@ -122,30 +115,10 @@ impl Tables {
     fn crash(&mut self, alloc: Global, choice: u32) -> Result<(), AllocError>
         ensures { OnOk result ((disk : Disk) → IsTablesOf disk self.old → IsTablesOf (crash_disk choice disk) self.new) }
     {
-        self.leave_names(choice)?;
-        self.before.clear();
+        let before = mem::replace(&mut self.before, BTreeMap::new(alloc));
+        self.files.put_back(choice, before)?;
         let files = mem::replace(&mut self.files, Files::new(alloc));
-        self.files = files.crash(alloc, (choice / 2) as usize)?;
-        Ok(())
-    }
-
-    /// Makes each name what it is after the crash.
-    fn leave_names(&mut self, choice: u32) -> Result<(), AllocError>
-        ensures { OnOk result ((disk : Disk) → IsTablesOf disk self.old → self.new.files ≡ names_after_crash choice disk) }
-    {
-        if choice % 2 == 1 {
-            return self.undo();
-        }
-        Ok(())
-    }
-
-    /// Makes each name what it was when the names were synced.
-    fn undo(&mut self) -> Result<(), AllocError>
-        ensures { OnOk result ((disk : Disk) → IsTablesOf disk self.old → self.new.files ≡ durable_names disk) }
-    {
-        while let Some(Before { name, file }) = self.before.pop() {
-            self.files.set(name, file)?;
-        }
+        self.files = files.crash(alloc, (choice / 256) as usize)?;
         Ok(())
     }
 }

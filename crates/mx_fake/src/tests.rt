@@ -41,8 +41,11 @@ fn writes_to_memory(rt: HostRuntime) -> Result<(), Fail> {
         assert_eq!(rt; sink.bytes(), taken);
     }
     assert_eq!(rt; sink.flush(), Err(Failed));
+    assert!(rt; sink.passed().is_empty());
     assert_eq!(rt; sink.flush(), Ok(()));
-    assert_eq!(rt; sink.bytes(), [1, 2, 4].as_slice());
+    assert_eq!(rt; sink.write(&[5]), Ok(1));
+    assert_eq!(rt; sink.passed(), [1, 2, 4].as_slice());
+    assert_eq!(rt; sink.bytes(), [1, 2, 4, 5].as_slice());
     Ok(())
 }
 
@@ -156,7 +159,7 @@ fn keeps_files(rt: HostRuntime) -> Result<(), Fail> {
         (Call::Sync("b"), &[("b", &[1, 2, 3])]),
         (Call::Append("b", &[4, 5]), &[("b", &[1, 2, 3, 4, 5])]),
         (Call::SyncNames, &[("b", &[1, 2, 3, 4, 5])]),
-        (Call::Restart(2), &[("b", &[1, 2, 3, 4])]),
+        (Call::Restart(256), &[("b", &[1, 2, 3, 4])]),
         (Call::Append("b", &[6]), &[("b", &[1, 2, 3, 4, 6])]),
         (Call::Restart(0), &[("b", &[1, 2, 3, 4])]),
         (Call::Create("a"), &[("a", &[]), ("b", &[1, 2, 3, 4])]),
@@ -164,19 +167,22 @@ fn keeps_files(rt: HostRuntime) -> Result<(), Fail> {
             Call::Append("a", &[7]),
             &[("a", &[7]), ("b", &[1, 2, 3, 4])],
         ),
-        (Call::Restart(200), &[("a", &[7]), ("b", &[1, 2, 3, 4])]),
+        (
+            Call::Restart(100 * 256),
+            &[("a", &[7]), ("b", &[1, 2, 3, 4])],
+        ),
         (
             Call::Create("c"),
             &[("a", &[7]), ("b", &[1, 2, 3, 4]), ("c", &[])],
         ),
         (Call::Restart(1), &[("a", &[7]), ("b", &[1, 2, 3, 4])]),
         (Call::Rename("a", "b"), &[("b", &[7])]),
-        (Call::Restart(1), &[("a", &[7]), ("b", &[1, 2, 3, 4])]),
+        (Call::Restart(3), &[("a", &[7]), ("b", &[1, 2, 3, 4])]),
         (Call::Rename("a", "c"), &[("b", &[1, 2, 3, 4]), ("c", &[7])]),
         (Call::SyncNames, &[("b", &[1, 2, 3, 4]), ("c", &[7])]),
         (Call::Remove("b"), &[("c", &[7])]),
         (Call::Append("c", &[8, 9]), &[("c", &[7, 8, 9])]),
-        (Call::Restart(3), &[("b", &[1, 2, 3, 4]), ("c", &[7, 8])]),
+        (Call::Restart(257), &[("b", &[1, 2, 3, 4]), ("c", &[7, 8])]),
         (Call::Create("b"), &[("b", &[]), ("c", &[7, 8])]),
         (Call::Create("b"), &[("b", &[]), ("c", &[7, 8])]),
         (Call::Restart(1), &[("b", &[1, 2, 3, 4]), ("c", &[7, 8])]),
@@ -186,6 +192,58 @@ fn keeps_files(rt: HostRuntime) -> Result<(), Fail> {
         assert_eq!(rt; make(&mut dir, alloc, call), Ok(()), "at {call:?}");
         assert_eq!(rt; holds(&mut dir, alloc, files), Ok(true), "after {call:?}");
     }
+    Ok(())
+}
+
+/// A directory whose names are synced, but for a file that was renamed from `a` to `c` since.
+fn renamed(alloc: Global) -> Result<MemoryDir, DirFault> {
+    let mut dir = MemoryDir::new(alloc, Vec::new(alloc));
+    for (name, byte) in [("a", 1), ("b", 2)] {
+        dir.create(alloc, name)?;
+        append(&mut dir, alloc, name, &[byte])?;
+        sync(&mut dir, alloc, name)?;
+    }
+    dir.sync_names(alloc)?;
+    rename(&mut dir, alloc, "a", "c")?;
+    Ok(dir)
+}
+
+#[test]
+fn crashes_name_by_name(rt: HostRuntime) -> Result<(), Fail> {
+    let alloc = rt.alloc();
+    let rows: [(u32, &[File]); 5] = [
+        (0, &[("b", &[2]), ("c", &[1])]),
+        (1, &[("a", &[1]), ("b", &[2]), ("c", &[1])]),
+        (2, &[("b", &[2])]),
+        (3, &[("a", &[1]), ("b", &[2])]),
+        (4, &[("b", &[2]), ("c", &[1])]),
+    ];
+    for (choice, files) in rows {
+        let mut dir = renamed(alloc)?;
+        assert_eq!(rt; dir.restart(alloc, choice), Ok(()));
+        assert_eq!(rt; holds(&mut dir, alloc, files), Ok(true), "by {choice}");
+    }
+    Ok(())
+}
+
+#[test]
+fn counts_names_modulo_8(rt: HostRuntime) -> Result<(), Fail> {
+    let alloc = rt.alloc();
+    let mut dir = MemoryDir::new(alloc, Vec::new(alloc));
+    // They are made in another order than they count.
+    for name in ["8", "3", "0", "1", "5", "4", "7", "6", "2"] {
+        dir.create(alloc, name)?;
+    }
+    dir.restart(alloc, 1 + 4)?;
+    let left: [File; 6] = [
+        ("1", &[]),
+        ("3", &[]),
+        ("4", &[]),
+        ("5", &[]),
+        ("6", &[]),
+        ("7", &[]),
+    ];
+    assert_eq!(rt; holds(&mut dir, alloc, &left), Ok(true));
     Ok(())
 }
 
@@ -229,5 +287,28 @@ fn fails_where_it_is_to_fail(rt: HostRuntime) -> Result<(), Fail> {
     let mut byte = [0u8];
     assert_eq!(rt; read(&mut dir, alloc, "a", 0, &mut byte), Ok(1));
     assert_eq!(rt; byte, [2u8]);
+    Ok(())
+}
+
+#[test]
+fn fails_midway(rt: HostRuntime) -> Result<(), Fail> {
+    let alloc = rt.alloc();
+    let mut dir = MemoryDir::failing_midway(alloc, vec![in alloc; 1u64, 2, 3, 5, 6, 7, 8]?, 2);
+    let calls: [(Call, Result<(), DirFault>); 8] = [
+        (Call::Create("a"), Err(DirFault::Failed)),
+        (Call::Append("a", &[1, 2, 3]), Err(DirFault::Failed)),
+        (Call::Rename("a", "b"), Err(DirFault::Failed)),
+        (Call::Create("c"), Ok(())),
+        (Call::Remove("c"), Err(DirFault::Failed)),
+        (Call::Sync("b"), Err(DirFault::Failed)),
+        (Call::SyncNames, Err(DirFault::Failed)),
+        (Call::Restart(0), Err(DirFault::Failed)),
+    ];
+    for (call, answer) in calls {
+        assert_eq!(rt; make(&mut dir, alloc, call), answer, "at {call:?}");
+    }
+    assert_eq!(rt; holds(&mut dir, alloc, &[("b", &[1, 2])]), Ok(true));
+    assert_eq!(rt; make(&mut dir, alloc, Call::Restart(0)), Ok(()));
+    assert_eq!(rt; holds(&mut dir, alloc, &[("b", &[])]), Ok(true));
     Ok(())
 }

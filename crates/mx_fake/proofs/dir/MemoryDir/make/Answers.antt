@@ -1,20 +1,17 @@
-use Rattle.std.proofs.Common.{ap, ◌∙◌, ◌++◌, ◌∷◌, []}
-use Rattle.mx_fake.proofs.DirLaws.{known_alike, made_ok}
+use Rattle.std.proofs.Common.{Some}
+use mathlib.Core.Path.{subst}
+use Rattle.mx_outside.specs.Disks.{Makes}
+use Rattle.mx_fake.specs.Changes.{states_after}
+use Rattle.mx_fake.specs.Dirs.{dir_states}
+use Rattle.mx_fake.proofs.DirLaws.{known_alike}
 use Rattle.mx_fake.proofs.dir.MemoryDir.make.Goals as goal
 
 pub returns-in_err-begin-clause-told : goal.returns-in_err-begin-clause-told
 returns-in_err-begin-clause-told c = known_alike c.args.self.now.changes.items c.begin.new.self.changes.items
 
-pub returns-in_default-clause-told : goal.returns-in_default-clause-told
-returns-in_default-clause-told c = known_alike c.args.self.now.changes.items c.begin.new.self.changes.items
+pub returns-clause-told : goal.returns-clause-told
+returns-clause-told c = known_alike c.args.self.now.changes.items c.finish.new.self.changes.items
 
-pub returns-in-Ok-note-clause-told : goal.returns-in-Ok-note-clause-told
-returns-in-Ok-note-clause-told c = known_alike c.args.self.now.changes.items c.note.new.self.changes.items
-
-pub returns-in-Err-clause-told : goal.returns-in-Err-clause-told
-returns-in-Err-clause-told c = known_alike c.args.self.now.changes.items c.note.new.self.changes.items
-
-pub returns-in-Ok-note-clause-made : goal.returns-in-Ok-note-clause-made
-returns-in-Ok-note-clause-made c f is =
-    made_ok c.args.self.now.changes.items c.note.new.self.changes.items c.in-Ok.change f (rw c.in-Ok.is at is)
-    (rw c.in-Ok-note.is at c.note.ensures.ok ∙ ap (λ cs. cs ++ c.in-Ok.change ∷ []) c.begin.ensures.changes)
+pub returns-clause-made : goal.returns-clause-made
+returns-clause-made c f is =
+    subst (λ changes. Makes f (Some (states_after changes)) (dir_states c.finish.new.self) c.finish.result) c.begin.ensures.changes (c.finish.ensures.made f is)

@@ -1,6 +1,6 @@
 use Rattle.std.proofs.Common.{ap, ◌∙◌, refl, string_bytes}
 use Rattle.mx_outside.specs.Disks.{File, change_file, synced_file}
-use Rattle.mx_fake.proofs.TableLaws.{changed, nothing_noted}
+use Rattle.mx_fake.proofs.TableLaws.{changed, nothing_saved}
 use Rattle.mx_fake.proofs.tables.Tables.apply.Goals as goal
 
 pub returns-in-Sync : goal.returns-in-Sync
@@ -13,4 +13,4 @@ returns-in-Sync c disk is =
 
 pub returns-in-SyncNames : goal.returns-in-SyncNames
 returns-in-SyncNames c disk is =
-    rw c.in-SyncNames.is (nothing_noted disk.now (record { files = c.args.self.now.files; before = c.clear.new.self }) is.now c.clear.ensures.items)
+    rw c.in-SyncNames.is (nothing_saved disk.now (record { files = c.args.self.now.files; before = c.clear.new.self }) is.now c.clear.ensures.empty c.clear.ensures.ordered)
