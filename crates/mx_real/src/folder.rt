@@ -1,6 +1,6 @@
 //! A directory that is a folder of the system.
 
-ghost use Rattle.std.specs.Prelude.{◌≡◌, None, IfOk};
+ghost use Rattle.std.specs.Prelude.{◌≡◌, None, Ok, IfOk};
 ghost use Rattle.mx_outside.specs.Causes.{HasCauseOf};
 
 use crate::open_fault::OpenFault;
@@ -34,6 +34,7 @@ impl<R: Files<File = File> + Clone + Drop> FolderDir<R> {
 
 /// Counts a fault of the system. An allocation failure is none.
 fn count<T>(faults: &mut u64, answer: io::Result<T>) -> Result<T, DirFault>
+    ensures value { IfOk result (λ value. answer ≡ Ok value) }
     ensures cause { HasCauseOf DirFault.Failed faults.old faults.new result }
 {
     match answer {

@@ -1,12 +1,15 @@
 //! The files of a folder, by calls of the system.
 
 ghost use Rattle.std.specs.Prelude.{◌≡◌, ◌++◌, ◌∷◌, IsTrue, IfOk};
+ghost use Rattle.std.specs.Cmp.Lexicographic.{slice_cmp};
+ghost use Rattle.std.specs.List.Sorted.{IsStrictlySortedBy};
+ghost use Rattle.std.specs.Ordering.{nat_cmp};
 ghost use Rattle.std.specs.String.{string_bytes};
 ghost use Rattle.mx_real.specs.FileNames.{IsFileName};
 
 use crate::open_fault::OpenFault;
 use mx_outside::Names;
-use std::alloc::Global;
+use std::alloc::{AllocError, Global};
 use std::fs::{File, Files, OpenOptions, TryLockError};
 use std::io::{ErrorKind, Write};
 use std::os::unix::fs::FileExt;
@@ -57,8 +60,10 @@ impl<R: Files<File = File> + Clone + Drop> OpenFolder<R> {
         })
     }
 
-    /// The names of the plain files, in name order, without those that aren't UTF-8.
-    pub(crate) fn list(&self, alloc: Global) -> io::Result<Names> {
+    /// The names of the plain files, without those that aren't UTF-8.
+    pub(crate) fn list(&self, alloc: Global) -> io::Result<Names>
+        ensures order { IfOk result (λ names. IsStrictlySortedBy (slice_cmp nat_cmp) names) }
+    {
         let mut names = Vec::new(alloc);
         for entry in fs::read_dir(&(self.files.clone()?, alloc), self.path.as_str())? {
             match entry {
@@ -72,8 +77,7 @@ impl<R: Files<File = File> + Clone + Drop> OpenFolder<R> {
                 Err(error) => return Err(error),
             }
         }
-        names.sort()?;
-        Ok(Names::from_vec(names))
+        Ok(names_in_order(names)?)
     }
 
     /// The size of a file in bytes.
@@ -214,6 +218,16 @@ impl<R: Files<File = File> + Clone + Drop> OpenFolder<R> {
         path.push_str(name)?;
         Ok(path)
     }
+}
+
+/// These names in ascending order, each once.
+fn names_in_order(mut names: Vec<String>) -> Result<Names, AllocError>
+    ensures order { IfOk result (λ names. IsStrictlySortedBy (slice_cmp nat_cmp) names) }
+{
+    names.sort()?;
+    // A folder that changes while it is listed may give a name twice.
+    names.dedup();
+    Ok(Names::from_vec(names))
 }
 
 /// Whether a file right in a folder may have this name.

@@ -1,6 +1,6 @@
 //! The source and the sink over a reader and a writer of std.
 
-ghost use Rattle.std.specs.Prelude.{◌≡◌};
+ghost use Rattle.std.specs.Prelude.{◌≡◌, None};
 
 use mx_outside::{Failed, Sink, Source};
 use std::io::{Read, Write};
@@ -58,6 +58,9 @@ impl<W> WriterSink<W> {
 impl<W: Write> Sink for WriterSink<W> {
     ghost contents = { λ s. W.contents s.inner };
 
+    // A writer of std doesn't tell what it keeps back.
+    ghost passed = { λ s. None };
+
     ghost faults = { λ s. s.faults };
 
     fn write(&mut self, bytes: &[u8]) -> Result<usize, Failed> {
@@ -83,4 +86,6 @@ impl<W: Write> Sink for WriterSink<W> {
             }
         }
     }
+
+    ghost prefix = { λ s. tt };
 }
