@@ -12,7 +12,7 @@ use Rattle.mx_msgpack.proofs.Heads.{head_spelled, head_again}
 use Rattle.mx_msgpack.proofs.ValueLaws.{value_begins}
 use Rattle.mx_msgpack.proofs.GrammarLaws.{value_stands}
 
--- what stands behind the leading byte of a map
+-- what stands after the leading byte of a map
 pub map_content : (total room count : ℕ) (pairs rest : List ℕ) → count < 0x10 → after_first total (suc room) ((0x80 + count) ∷ pairs) ≡ Ok rest
     → after_all (after_first total room) (2 * count) pairs ≡ Ok rest
 map_content total room count pairs rest few e =

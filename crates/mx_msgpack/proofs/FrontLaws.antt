@@ -66,7 +66,7 @@ map_read pairs content rest few s =
     reads bytes (Map count) (content ++ rest) rest head value
     ∙ (λ i. Ok (ShownMap count (take_at content rest (length (content ++ rest) - length rest) inside i), size i))
 
--- what is read has a value's bytes in front, and the others behind it
+-- what is read begins with a value's bytes, and the others follow
 pub read_shorter : (bytes : List ℕ) (what : Shown) (size : ℕ) → reading_of bytes ≡ Ok (what, size) → length (drop size bytes) < length bytes
 unfolding reading_of
 read_shorter bytes what size e =

@@ -1,5 +1,5 @@
 -- The grammar and reading from the left agree.
--- `value_spelled`: where reading leaves a rest, the bytes before it spell a value.
+-- `value_spelled`: the bytes before the rest that reading returns spell a value.
 -- `value_again`: bytes that spell a value are read, whatever follows them.
 use Rattle.std.proofs.Common.{◌≡◌, ℕ, zero, suc, ◌-◌, ◌*◌, ◌≤◌, false, ltb, Some, inl, inr, ◌⊎◌, List, [], ◌++◌, length, take, drop, Result, Ok, refl, sym, ap, ◌∙◌, append_assoc, arith}
 use Rattle.std.proofs.lemmas.Bool.{ltb-false, le-ltb}
@@ -21,14 +21,14 @@ use Rattle.mx_msgpack.proofs.OpaqueLaws.{FixedParts, ExtensionParts, fixed_whole
 pub twice : (count : ℕ) → 2 * suc count ≡ suc (suc (2 * count))
 twice count = omega arith
 
--- bytes behind a head that announces them
+-- bytes after a head that announces them
 bytes_again : (at announced size : ℕ) (content rest : List ℕ) → announced ≤ max_length → length content ≡ size → after_bytes at announced size (content ++ rest) ≡ Ok rest
 bytes_again at announced size content rest few len =
     let short : ltb max_length announced ≡ false = le-ltb _ _ few in
     let long : ltb (length (content ++ rest)) size ≡ false = le-ltb _ _ (omega (arith, length-append content rest)) in
     rw (short, long, drop_at content rest size len) refl
 
--- values behind a head that announces them
+-- values after a head that announces them
 inside_again : (one : List ℕ → Result (List ℕ) Bad) (at announced values : ℕ) (bytes rest : List ℕ) → announced ≤ max_length → after_all one values bytes ≡ Ok rest
     → after_inside (Some one) at announced values bytes ≡ Ok rest
 inside_again one at announced values bytes rest few e = rw (le-ltb max_length announced few) e
@@ -95,7 +95,7 @@ mutual
 
 -- ---- what is read is spelled
 
--- a value, several values or several pairs at the front of the bytes
+-- a value, several values or several pairs at the start of the bytes
 pub record Front (room : ℕ) (bytes rest : List ℕ) : Type 0 where
   pub value : Value
   pub front : List ℕ
@@ -170,7 +170,7 @@ ShowsIn zero (ShownMap count items) value = ⊥
 ShowsIn (suc room) (ShownMap count items) value = (pairs : Pairs) × (value ≡ grammar.Map pairs) × (count ≡ pair_count pairs) × SpellsPairs room pairs items
 ShowsIn room (ShownOpaque spelling) value = value ≡ grammar.Opaque spelling
 
--- what stands behind a head that these bytes spell
+-- what stands after a head that these bytes spell
 pub record Content (room : ℕ) (head : Head) (front after rest : List ℕ) : Type 0 where
   pub value : Value
   pub content : List ℕ

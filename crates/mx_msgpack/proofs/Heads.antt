@@ -1,30 +1,17 @@
--- The head of a value: what is read is spelled so, and what is spelled so is read.
-use Rattle.std.proofs.Common.{◌≡◌, ℕ, ◌+◌, ◌-◌, ◌<◌, ◌≤◌, true, false, ltb, eqb, List, [], ◌∷◌, ◌++◌, length, take, drop, Result, Ok, Err, refl, sym, ap, subst, inl, inr, ◌⊎◌, ℤ, pos, ◌-ℤ◌, arith}
+-- The head of a value: what is read is spelled so, what is spelled so is read, and why none is read.
+use Rattle.std.proofs.Common.{◌≡◌, ℕ, suc, ◌+◌, ◌*◌, ◌-◌, ◌<◌, ◌≤◌, true, false, ltb, eqb, List, [], ◌∷◌, ◌++◌, length, replicate, take, drop, Result, Ok, Err, refl, sym, ap, ◌∙◌, subst, append_assoc, inl, inr, ◌⊎◌, ℤ, pos, ◌-ℤ◌, arith}
 use Rattle.std.specs.Prelude.{nat_lt, if◌then◌else◌}
 use Rattle.std.proofs.lemmas.Bool.{cond_both, ltb-true, ltb-false, eqb-true, eqb-false, lt-ltb, le-ltb}
-use Rattle.std.proofs.lemmas.List.{take_at, drop_at, take-append-drop, length-append, length-take}
+use Rattle.std.proofs.lemmas.List.{append-nil, take_at, drop_at, take-append-drop, length-append, length-replicate, length-take}
 use Rattle.byteorder.specs.Endian.{big_number, twos_complement}
 use Rattle.mx_msgpack.specs.declared.bad.Bad.{Bad}
-use Rattle.mx_msgpack.specs.declared.bad.Bad.TheVariants.{Short}
+use Rattle.mx_msgpack.specs.declared.bad.Bad.TheVariants.{Unused, Short}
 use Rattle.mx_msgpack.specs.declared.head.Head.{Head}
 use Rattle.mx_msgpack.specs.declared.head.Head.TheVariants.{Nil, Bool as Boolean, Int, Str, Bin, Array, Map, Fixed, Extension}
 use Rattle.mx_msgpack.specs.Grammar.{SpellsNumber, SpellsUnsigned, SpellsSigned, SpellsInt, SpellsFew, StrHead, BinHead, ArrayHead, MapHead}
+use Rattle.mx_msgpack.specs.Faults.{SpellsFixed, FixedHead, ExtensionHead, IsAnyHead, EndInHead, IsUnused}
 use Rattle.mx_msgpack.specs.Reading.{head_at, low_head, number_head, sized_head}
-use Rattle.mx_msgpack.proofs.Results.{guard_ok, ok_is}
-
--- a leading byte behind which this many bytes stand
-abbrev pub SpellsFixed : (leading wanted : ℕ) → ℕ → List ℕ → Type 0
-SpellsFixed leading wanted size front = (size ≡ wanted) × (front ≡ leading ∷ [])
-
--- the heads of a float or of an extension of a fixed length, behind which so many bytes stand
-abbrev pub FixedHead : ℕ → List ℕ → Type 0
-FixedHead size front =
-    SpellsFixed 0xca 4 size front ⊎ SpellsFixed 0xcb 8 size front
-    ⊎ SpellsFixed 0xd4 2 size front ⊎ SpellsFixed 0xd5 3 size front ⊎ SpellsFixed 0xd6 5 size front ⊎ SpellsFixed 0xd7 9 size front ⊎ SpellsFixed 0xd8 17 size front
-
--- the heads of an extension that tells its length
-abbrev pub ExtensionHead : ℕ → List ℕ → Type 0
-ExtensionHead size front = SpellsNumber 0xc7 1 size front ⊎ SpellsNumber 0xc8 2 size front ⊎ SpellsNumber 0xc9 4 size front
+use Rattle.mx_msgpack.proofs.Results.{ok_is}
 
 -- the bytes, all of them, spell the head
 abbrev pub SpellsHead : Head → List ℕ → Type 0
@@ -48,69 +35,124 @@ unsigned number = Int (pos number)
 abbrev signed : ℕ → ℕ → Head
 signed width number = Int (twos_complement width number)
 
+-- a head by what it is of
+any_head : (head : Head) (front : List ℕ) → SpellsHead head front → IsAnyHead front
+any_head Nil front s = inl s
+any_head (Boolean truth) front s = inr (inl (truth, s))
+any_head (Int number) front s = inr (inr (inl (number, s)))
+any_head (Str size) front s = inr (inr (inr (inl (size, size, inl (inl s, refl)))))
+any_head (Bin size) front s = inr (inr (inr (inl (size, size, inl (inr (inl s), refl)))))
+any_head (Array count) front s = inr (inr (inr (inr (count, count, inl (s, refl)))))
+any_head (Map count) front s = inr (inr (inr (inr (count, 2 * count, inr (s, refl)))))
+any_head (Fixed size) front s = inr (inr (inr (inl (size, size, inl (inr (inr s), refl)))))
+any_head (Extension size) front s = inr (inr (inr (inl (size, suc size, inr (s, refl)))))
+
+some_head : (front : List ℕ) → IsAnyHead front → (head : Head) × SpellsHead head front
+some_head front s =
+    elim s [
+      | inl s ↦ (Nil, s)
+      | inr (inl (truth, s)) ↦ (Boolean truth, s)
+      | inr (inr (inl (number, s))) ↦ (Int number, s)
+      | inr (inr (inr (inl (size, follow, inl (inl s, e))))) ↦ (Str size, s)
+      | inr (inr (inr (inl (size, follow, inl (inr (inl s), e))))) ↦ (Bin size, s)
+      | inr (inr (inr (inl (size, follow, inl (inr (inr s), e))))) ↦ (Fixed size, s)
+      | inr (inr (inr (inl (size, follow, inr (s, e))))) ↦ (Extension size, s)
+      | inr (inr (inr (inr (count, follow, inl (s, e))))) ↦ (Array count, s)
+      | inr (inr (inr (inr (count, follow, inr (s, e))))) ↦ (Map count, s)
+    ]
+
 -- ---- what is read is spelled
 
--- what was read from the bytes, if anything, is a head at their front
-abbrev IsRead : List ℕ → Result (Head × List ℕ) Bad → Type 0
-IsRead bytes read = (head : Head) (rest : List ℕ) → read ≡ Ok (head, rest) → (front : List ℕ) × (bytes ≡ front ++ rest) × SpellsHead head front
+-- no head stands first, for one of these reasons
+abbrev pub HeadFault : ℕ → List ℕ → Bad → Type 0
+HeadFault at bytes bad =
+    ((leading : ℕ) × (rest : List ℕ) × (bytes ≡ leading ∷ rest) × IsUnused leading × (bad ≡ Unused at)) ⊎ (EndInHead bytes × (bad ≡ Short))
 
-byte_read : (leading : ℕ) (rest : List ℕ) (head : Head) → SpellsHead head (leading ∷ []) → IsRead (leading ∷ rest) (Ok (head, rest))
-byte_read leading rest head s other after e =
-    subst (λ (x : Head × List ℕ). (front : List ℕ) × (leading ∷ rest ≡ front ++ x.1) × SpellsHead x.0 front) (ok_is (head, rest) (other, after) e) (leading ∷ [], refl, s)
+-- what was read from the bytes at this place is a head at their start, or else why there is none
+abbrev IsRead : ℕ → List ℕ → Result (Head × List ℕ) Bad → Type 0
+IsRead at bytes (Ok found) = (front : List ℕ) × (bytes ≡ front ++ found.1) × SpellsHead found.0 front
+IsRead at bytes (Err bad) = HeadFault at bytes bad
+
+byte_read : (at leading : ℕ) (rest : List ℕ) (head : Head) → SpellsHead head (leading ∷ []) → IsRead at (leading ∷ rest) (Ok (head, rest))
+byte_read at leading rest head s = (leading ∷ [], refl, s)
 
 -- the same where the leading byte is known
-led_read : (leading at : ℕ) (rest : List ℕ) (head : Head) → eqb leading at ≡ true → SpellsHead head (at ∷ []) → IsRead (leading ∷ rest) (Ok (head, rest))
-led_read leading at rest head t s = rw (eqb-true _ _ t) (byte_read at rest head s)
+led_read : (at leading known : ℕ) (rest : List ℕ) (head : Head) → eqb leading known ≡ true → SpellsHead head (known ∷ []) → IsRead at (leading ∷ rest) (Ok (head, rest))
+led_read at leading known rest head t s = rw (eqb-true _ _ t) (byte_read at known rest head s)
 
-number_read : (leading width : ℕ) (rest : List ℕ) (head : ℕ → Head) → ((number : ℕ) (front : List ℕ) → SpellsNumber leading width number front → SpellsHead (head number) front)
-    → IsRead (leading ∷ rest) (digits_at head width rest)
-number_read leading width rest head row other after e =
-    let g = guard_ok (ltb (length rest) width) Short (head (big_number width (take width rest)), drop width rest) (other, after) e in
-    let long : width ≤ length rest = ltb-false _ _ g.0 in
-    let digits : length (take width rest) ≡ width = omega (arith, length-take width rest) in
-    subst (λ (x : Head × List ℕ). (front : List ℕ) × (leading ∷ rest ≡ front ++ x.1) × SpellsHead x.0 front) g.1 (
+-- the bytes end inside the number
+number_ends : (leading width : ℕ) (rest : List ℕ) (head : ℕ → Head) → ((number : ℕ) (front : List ℕ) → SpellsNumber leading width number front → SpellsHead (head number) front)
+    → length rest < width → EndInHead (leading ∷ rest)
+number_ends leading width rest head row short =
+    let missing = replicate (width - length rest) 0 in
+    let l : length missing ≡ width - length rest = length-replicate (width - length rest) 0 in
+    let digits : length (rest ++ missing) ≡ width = omega (arith, length-append rest missing) in
+    let number = big_number width (rest ++ missing) in
+    (missing, omega arith, any_head (head number) (leading ∷ (rest ++ missing)) (row number (leading ∷ (rest ++ missing)) (rest ++ missing, digits, refl, refl)))
+
+number_read : (at leading width : ℕ) (rest : List ℕ) (head : ℕ → Head) → ((number : ℕ) (front : List ℕ) → SpellsNumber leading width number front → SpellsHead (head number) front)
+    → IsRead at (leading ∷ rest) (digits_at head width rest)
+number_read at leading width rest head row =
+    cond_both (ltb (length rest) width) _ _ (λ (r : Result (Head × List ℕ) Bad). IsRead at (leading ∷ rest) r)
+    (λ t. inr (number_ends leading width rest head row (ltb-true _ _ t), refl))
+    (λ f.
+    let long : width ≤ length rest = ltb-false _ _ f in
+    let digits : length (take width rest) ≡ width = omega (arith, length-take width rest) in (
       leading ∷ take width rest,
       ap (λ (bytes : List ℕ). leading ∷ bytes) (sym (take-append-drop width rest)),
       row (big_number width (take width rest)) (leading ∷ take width rest) (take width rest, digits, refl, refl),
-    )
+    ))
 
-row_read : (leading at width : ℕ) (rest : List ℕ) (head : ℕ → Head) → leading ≡ at
-    → ((number : ℕ) (front : List ℕ) → SpellsNumber at width number front → SpellsHead (head number) front) → IsRead (leading ∷ rest) (digits_at head width rest)
-row_read leading at width rest head e row = rw e (number_read at width rest head row)
+row_read : (at leading known width : ℕ) (rest : List ℕ) (head : ℕ → Head) → leading ≡ known
+    → ((number : ℕ) (front : List ℕ) → SpellsNumber known width number front → SpellsHead (head number) front) → IsRead at (leading ∷ rest) (digits_at head width rest)
+row_read at leading known width rest head e row = rw e (number_read at known width rest head row)
 
 -- the leading bytes from c0 to c9
-low_read : (at leading : ℕ) (rest : List ℕ) → IsRead (leading ∷ rest) (low_head at leading rest)
-low_read at leading rest =
-    let P = λ (r : Result (Head × List ℕ) Bad). IsRead (leading ∷ rest) r in
-    cond_both (eqb leading 0xc0) _ _ P (λ t. led_read leading 0xc0 rest Nil t refl) (λ _.
-    cond_both (eqb leading 0xc2) _ _ P (λ t. led_read leading 0xc2 rest (Boolean false) t refl) (λ _.
-    cond_both (eqb leading 0xc3) _ _ P (λ t. led_read leading 0xc3 rest (Boolean true) t refl) (λ _.
-    cond_both (eqb leading 0xc4) _ _ P (λ t. row_read leading 0xc4 1 rest (λ n. Bin n) (eqb-true _ _ t) (λ number front s. inl s)) (λ _.
-    cond_both (eqb leading 0xc5) _ _ P (λ t. row_read leading 0xc5 2 rest (λ n. Bin n) (eqb-true _ _ t) (λ number front s. inr (inl s))) (λ _.
-    cond_both (eqb leading 0xc6) _ _ P (λ t. row_read leading 0xc6 4 rest (λ n. Bin n) (eqb-true _ _ t) (λ number front s. inr (inr s))) (λ _.
-    cond_both (eqb leading 0xc7) _ _ P (λ t. row_read leading 0xc7 1 rest (λ n. Extension n) (eqb-true _ _ t) (λ number front s. inl s)) (λ _.
-    cond_both (eqb leading 0xc8) _ _ P (λ t. row_read leading 0xc8 2 rest (λ n. Extension n) (eqb-true _ _ t) (λ number front s. inr (inl s))) (λ _.
-    cond_both (eqb leading 0xc9) _ _ P (λ t. row_read leading 0xc9 4 rest (λ n. Extension n) (eqb-true _ _ t) (λ number front s. inr (inr s))) (λ _.
-    λ head after e. absurd cc)))))))))
+low_read : (at leading : ℕ) (rest : List ℕ) → 0xc0 ≤ leading → leading < 0xca → IsRead at (leading ∷ rest) (low_head at leading rest)
+low_read at leading rest low high =
+    let P = λ (r : Result (Head × List ℕ) Bad). IsRead at (leading ∷ rest) r in
+    cond_both (eqb leading 0xc0) _ _ P (λ t. led_read at leading 0xc0 rest Nil t refl) (λ f1.
+    cond_both (eqb leading 0xc2) _ _ P (λ t. led_read at leading 0xc2 rest (Boolean false) t refl) (λ f2.
+    cond_both (eqb leading 0xc3) _ _ P (λ t. led_read at leading 0xc3 rest (Boolean true) t refl) (λ f3.
+    cond_both (eqb leading 0xc4) _ _ P (λ t. row_read at leading 0xc4 1 rest (λ n. Bin n) (eqb-true _ _ t) (λ number front s. inl s)) (λ f4.
+    cond_both (eqb leading 0xc5) _ _ P (λ t. row_read at leading 0xc5 2 rest (λ n. Bin n) (eqb-true _ _ t) (λ number front s. inr (inl s))) (λ f5.
+    cond_both (eqb leading 0xc6) _ _ P (λ t. row_read at leading 0xc6 4 rest (λ n. Bin n) (eqb-true _ _ t) (λ number front s. inr (inr s))) (λ f6.
+    cond_both (eqb leading 0xc7) _ _ P (λ t. row_read at leading 0xc7 1 rest (λ n. Extension n) (eqb-true _ _ t) (λ number front s. inl s)) (λ f7.
+    cond_both (eqb leading 0xc8) _ _ P (λ t. row_read at leading 0xc8 2 rest (λ n. Extension n) (eqb-true _ _ t) (λ number front s. inr (inl s))) (λ f8.
+    cond_both (eqb leading 0xc9) _ _ P (λ t. row_read at leading 0xc9 4 rest (λ n. Extension n) (eqb-true _ _ t) (λ number front s. inr (inr s))) (λ f9.
+    let last : leading ≡ 0xc1 =
+    omega (
+      arith,
+      eqb-false _ _ f1,
+      eqb-false _ _ f2,
+      eqb-false _ _ f3,
+      eqb-false _ _ f4,
+      eqb-false _ _ f5,
+      eqb-false _ _ f6,
+      eqb-false _ _ f7,
+      eqb-false _ _ f8,
+      eqb-false _ _ f9,
+    ) in
+    inl (leading, rest, refl, inl last, refl))))))))))
 
 -- those from ca to d8
-number_row : (leading : ℕ) (rest : List ℕ) → 0xca ≤ leading → leading < 0xd9 → IsRead (leading ∷ rest) (number_head leading rest)
-number_row leading rest low high =
-    let P = λ (r : Result (Head × List ℕ) Bad). IsRead (leading ∷ rest) r in
-    cond_both (eqb leading 0xca) _ _ P (λ t. led_read leading 0xca rest (Fixed 4) t (inl (refl, refl))) (λ f1.
-    cond_both (eqb leading 0xcb) _ _ P (λ t. led_read leading 0xcb rest (Fixed 8) t (inr (inl (refl, refl)))) (λ f2.
-    cond_both (eqb leading 0xcc) _ _ P (λ t. row_read leading 0xcc 1 rest unsigned (eqb-true _ _ t) (λ number front s. inl (number, refl, inr (inl s)))) (λ f3.
-    cond_both (eqb leading 0xcd) _ _ P (λ t. row_read leading 0xcd 2 rest unsigned (eqb-true _ _ t) (λ number front s. inl (number, refl, inr (inr (inl s))))) (λ f4.
-    cond_both (eqb leading 0xce) _ _ P (λ t. row_read leading 0xce 4 rest unsigned (eqb-true _ _ t) (λ number front s. inl (number, refl, inr (inr (inr (inl s)))))) (λ f5.
-    cond_both (eqb leading 0xcf) _ _ P (λ t. row_read leading 0xcf 8 rest unsigned (eqb-true _ _ t) (λ number front s. inl (number, refl, inr (inr (inr (inr s)))))) (λ f6.
-    cond_both (eqb leading 0xd0) _ _ P (λ t. row_read leading 0xd0 1 rest (signed 1) (eqb-true _ _ t) (λ number front s. inr (inr (inl (number, s, refl))))) (λ f7.
-    cond_both (eqb leading 0xd1) _ _ P (λ t. row_read leading 0xd1 2 rest (signed 2) (eqb-true _ _ t) (λ number front s. inr (inr (inr (inl (number, s, refl)))))) (λ f8.
-    cond_both (eqb leading 0xd2) _ _ P (λ t. row_read leading 0xd2 4 rest (signed 4) (eqb-true _ _ t) (λ number front s. inr (inr (inr (inr (inl (number, s, refl))))))) (λ f9.
-    cond_both (eqb leading 0xd3) _ _ P (λ t. row_read leading 0xd3 8 rest (signed 8) (eqb-true _ _ t) (λ number front s. inr (inr (inr (inr (inr (number, s, refl))))))) (λ f10.
-    cond_both (eqb leading 0xd4) _ _ P (λ t. led_read leading 0xd4 rest (Fixed 2) t (inr (inr (inl (refl, refl))))) (λ f11.
-    cond_both (eqb leading 0xd5) _ _ P (λ t. led_read leading 0xd5 rest (Fixed 3) t (inr (inr (inr (inl (refl, refl)))))) (λ f12.
-    cond_both (eqb leading 0xd6) _ _ P (λ t. led_read leading 0xd6 rest (Fixed 5) t (inr (inr (inr (inr (inl (refl, refl))))))) (λ f13.
-    cond_both (eqb leading 0xd7) _ _ P (λ t. led_read leading 0xd7 rest (Fixed 9) t (inr (inr (inr (inr (inr (inl (refl, refl)))))))) (λ f14.
+number_row : (at leading : ℕ) (rest : List ℕ) → 0xca ≤ leading → leading < 0xd9 → IsRead at (leading ∷ rest) (number_head leading rest)
+number_row at leading rest low high =
+    let P = λ (r : Result (Head × List ℕ) Bad). IsRead at (leading ∷ rest) r in
+    cond_both (eqb leading 0xca) _ _ P (λ t. led_read at leading 0xca rest (Fixed 4) t (inl (refl, refl))) (λ f1.
+    cond_both (eqb leading 0xcb) _ _ P (λ t. led_read at leading 0xcb rest (Fixed 8) t (inr (inl (refl, refl)))) (λ f2.
+    cond_both (eqb leading 0xcc) _ _ P (λ t. row_read at leading 0xcc 1 rest unsigned (eqb-true _ _ t) (λ number front s. inl (number, refl, inr (inl s)))) (λ f3.
+    cond_both (eqb leading 0xcd) _ _ P (λ t. row_read at leading 0xcd 2 rest unsigned (eqb-true _ _ t) (λ number front s. inl (number, refl, inr (inr (inl s))))) (λ f4.
+    cond_both (eqb leading 0xce) _ _ P (λ t. row_read at leading 0xce 4 rest unsigned (eqb-true _ _ t) (λ number front s. inl (number, refl, inr (inr (inr (inl s)))))) (λ f5.
+    cond_both (eqb leading 0xcf) _ _ P (λ t. row_read at leading 0xcf 8 rest unsigned (eqb-true _ _ t) (λ number front s. inl (number, refl, inr (inr (inr (inr s)))))) (λ f6.
+    cond_both (eqb leading 0xd0) _ _ P (λ t. row_read at leading 0xd0 1 rest (signed 1) (eqb-true _ _ t) (λ number front s. inr (inr (inl (number, s, refl))))) (λ f7.
+    cond_both (eqb leading 0xd1) _ _ P (λ t. row_read at leading 0xd1 2 rest (signed 2) (eqb-true _ _ t) (λ number front s. inr (inr (inr (inl (number, s, refl)))))) (λ f8.
+    cond_both (eqb leading 0xd2) _ _ P (λ t. row_read at leading 0xd2 4 rest (signed 4) (eqb-true _ _ t) (λ number front s. inr (inr (inr (inr (inl (number, s, refl))))))) (λ f9.
+    cond_both (eqb leading 0xd3) _ _ P (λ t. row_read at leading 0xd3 8 rest (signed 8) (eqb-true _ _ t) (λ number front s. inr (inr (inr (inr (inr (number, s, refl))))))) (λ f10.
+    cond_both (eqb leading 0xd4) _ _ P (λ t. led_read at leading 0xd4 rest (Fixed 2) t (inr (inr (inl (refl, refl))))) (λ f11.
+    cond_both (eqb leading 0xd5) _ _ P (λ t. led_read at leading 0xd5 rest (Fixed 3) t (inr (inr (inr (inl (refl, refl)))))) (λ f12.
+    cond_both (eqb leading 0xd6) _ _ P (λ t. led_read at leading 0xd6 rest (Fixed 5) t (inr (inr (inr (inr (inl (refl, refl))))))) (λ f13.
+    cond_both (eqb leading 0xd7) _ _ P (λ t. led_read at leading 0xd7 rest (Fixed 9) t (inr (inr (inr (inr (inr (inl (refl, refl)))))))) (λ f14.
     let last : leading ≡ 0xd8 =
     omega (
       arith,
@@ -129,43 +171,46 @@ number_row leading rest low high =
       eqb-false _ _ f13,
       eqb-false _ _ f14,
     ) in
-    rw last (byte_read 0xd8 rest (Fixed 17) (inr (inr (inr (inr (inr (inr (refl, refl))))))))))))))))))))))
+    rw last (byte_read at 0xd8 rest (Fixed 17) (inr (inr (inr (inr (inr (inr (refl, refl))))))))))))))))))))))
 
 -- those from d9 to df
-sized_row : (leading : ℕ) (rest : List ℕ) → 0xd9 ≤ leading → leading < 0xe0 → IsRead (leading ∷ rest) (sized_head leading rest)
-sized_row leading rest low high =
-    let P = λ (r : Result (Head × List ℕ) Bad). IsRead (leading ∷ rest) r in
-    cond_both (eqb leading 0xd9) _ _ P (λ t. row_read leading 0xd9 1 rest (λ n. Str n) (eqb-true _ _ t) (λ number front s. inr (inl s))) (λ f1.
-    cond_both (eqb leading 0xda) _ _ P (λ t. row_read leading 0xda 2 rest (λ n. Str n) (eqb-true _ _ t) (λ number front s. inr (inr (inl s)))) (λ f2.
-    cond_both (eqb leading 0xdb) _ _ P (λ t. row_read leading 0xdb 4 rest (λ n. Str n) (eqb-true _ _ t) (λ number front s. inr (inr (inr s)))) (λ f3.
-    cond_both (eqb leading 0xdc) _ _ P (λ t. row_read leading 0xdc 2 rest (λ n. Array n) (eqb-true _ _ t) (λ number front s. inr (inl s))) (λ f4.
-    cond_both (eqb leading 0xdd) _ _ P (λ t. row_read leading 0xdd 4 rest (λ n. Array n) (eqb-true _ _ t) (λ number front s. inr (inr s))) (λ f5.
-    cond_both (eqb leading 0xde) _ _ P (λ t. row_read leading 0xde 2 rest (λ n. Map n) (eqb-true _ _ t) (λ number front s. inr (inl s))) (λ f6.
+sized_row : (at leading : ℕ) (rest : List ℕ) → 0xd9 ≤ leading → leading < 0xe0 → IsRead at (leading ∷ rest) (sized_head leading rest)
+sized_row at leading rest low high =
+    let P = λ (r : Result (Head × List ℕ) Bad). IsRead at (leading ∷ rest) r in
+    cond_both (eqb leading 0xd9) _ _ P (λ t. row_read at leading 0xd9 1 rest (λ n. Str n) (eqb-true _ _ t) (λ number front s. inr (inl s))) (λ f1.
+    cond_both (eqb leading 0xda) _ _ P (λ t. row_read at leading 0xda 2 rest (λ n. Str n) (eqb-true _ _ t) (λ number front s. inr (inr (inl s)))) (λ f2.
+    cond_both (eqb leading 0xdb) _ _ P (λ t. row_read at leading 0xdb 4 rest (λ n. Str n) (eqb-true _ _ t) (λ number front s. inr (inr (inr s)))) (λ f3.
+    cond_both (eqb leading 0xdc) _ _ P (λ t. row_read at leading 0xdc 2 rest (λ n. Array n) (eqb-true _ _ t) (λ number front s. inr (inl s))) (λ f4.
+    cond_both (eqb leading 0xdd) _ _ P (λ t. row_read at leading 0xdd 4 rest (λ n. Array n) (eqb-true _ _ t) (λ number front s. inr (inr s))) (λ f5.
+    cond_both (eqb leading 0xde) _ _ P (λ t. row_read at leading 0xde 2 rest (λ n. Map n) (eqb-true _ _ t) (λ number front s. inr (inl s))) (λ f6.
     let last : leading ≡ 0xdf = omega (arith, eqb-false _ _ f1, eqb-false _ _ f2, eqb-false _ _ f3, eqb-false _ _ f4, eqb-false _ _ f5, eqb-false _ _ f6) in
-    row_read leading 0xdf 4 rest (λ n. Map n) last (λ number front s. inr (inr s))))))))
+    row_read at leading 0xdf 4 rest (λ n. Map n) last (λ number front s. inr (inr s))))))))
 
-head_read : (at : ℕ) (bytes : List ℕ) → IsRead bytes (head_at at bytes)
+head_read : (at : ℕ) (bytes : List ℕ) → IsRead at bytes (head_at at bytes)
 unfolding head_at
-head_read at [] = λ head rest e. absurd cc
+head_read at [] = inr ((0xc0 ∷ [], omega arith, inl refl), refl)
 head_read at (leading ∷ rest) =
-    let P = λ (r : Result (Head × List ℕ) Bad). IsRead (leading ∷ rest) r in
-    cond_both (ltb leading 0x80) _ _ P (λ t. byte_read leading rest (Int (pos leading)) (inl (leading, refl, inl (ltb-true _ _ t, refl)))) (λ f1.
+    let P = λ (r : Result (Head × List ℕ) Bad). IsRead at (leading ∷ rest) r in
+    cond_both (ltb leading 0x80) _ _ P (λ t. byte_read at leading rest (Int (pos leading)) (inl (leading, refl, inl (ltb-true _ _ t, refl)))) (λ f1.
     cond_both (ltb leading 0x90) _ _ P
-    (λ t. byte_read leading rest (Map (leading - 0x80)) (inl (omega (arith, ltb-true _ _ t, ltb-false _ _ f1), ap (λ (k : ℕ). k ∷ []) (omega (arith, ltb-false _ _ f1))))) (λ f2.
+    (λ t. byte_read at leading rest (Map (leading - 0x80)) (inl (omega (arith, ltb-true _ _ t, ltb-false _ _ f1), ap (λ (k : ℕ). k ∷ []) (omega (arith, ltb-false _ _ f1))))) (λ f2.
     cond_both (ltb leading 0xa0) _ _ P
-    (λ t. byte_read leading rest (Array (leading - 0x90)) (inl (omega (arith, ltb-true _ _ t, ltb-false _ _ f2), ap (λ (k : ℕ). k ∷ []) (omega (arith, ltb-false _ _ f2))))) (λ f3.
+    (λ t. byte_read at leading rest (Array (leading - 0x90)) (inl (omega (arith, ltb-true _ _ t, ltb-false _ _ f2), ap (λ (k : ℕ). k ∷ []) (omega (arith, ltb-false _ _ f2))))) (λ f3.
     cond_both (ltb leading 0xc0) _ _ P
-    (λ t. byte_read leading rest (Str (leading - 0xa0)) (inl (omega (arith, ltb-true _ _ t, ltb-false _ _ f3), ap (λ (k : ℕ). k ∷ []) (omega (arith, ltb-false _ _ f3))))) (λ _.
-    cond_both (ltb leading 0xca) _ _ P (λ _. low_read at leading rest) (λ f5.
-    cond_both (ltb leading 0xd9) _ _ P (λ t. number_row leading rest (ltb-false _ _ f5) (ltb-true _ _ t)) (λ f6.
-    cond_both (ltb leading 0xe0) _ _ P (λ t. sized_row leading rest (ltb-false _ _ f6) (ltb-true _ _ t)) (λ f7.
+    (λ t. byte_read at leading rest (Str (leading - 0xa0)) (inl (omega (arith, ltb-true _ _ t, ltb-false _ _ f3), ap (λ (k : ℕ). k ∷ []) (omega (arith, ltb-false _ _ f3))))) (λ f4.
+    cond_both (ltb leading 0xca) _ _ P (λ t. low_read at leading rest (ltb-false _ _ f4) (ltb-true _ _ t)) (λ f5.
+    cond_both (ltb leading 0xd9) _ _ P (λ t. number_row at leading rest (ltb-false _ _ f5) (ltb-true _ _ t)) (λ f6.
+    cond_both (ltb leading 0xe0) _ _ P (λ t. sized_row at leading rest (ltb-false _ _ f6) (ltb-true _ _ t)) (λ f7.
     cond_both (ltb leading 0x100) _ _ P
-    (λ t. byte_read leading rest (Int (pos leading -ℤ pos 0x100)) (inr (inl (leading, ltb-false _ _ f7, ltb-true _ _ t, refl, refl)))) (λ _.
-    λ head after e. absurd cc))))))))
+    (λ t. byte_read at leading rest (Int (pos leading -ℤ pos 0x100)) (inr (inl (leading, ltb-false _ _ f7, ltb-true _ _ t, refl, refl)))) (λ f8.
+    inl (leading, rest, refl, inr (ltb-false _ _ f8), refl)))))))))
 
 pub head_spelled : (at : ℕ) (bytes : List ℕ) (head : Head) (rest : List ℕ) → head_at at bytes ≡ Ok (head, rest)
     → (front : List ℕ) × (bytes ≡ front ++ rest) × SpellsHead head front
-head_spelled at bytes head rest e = head_read at bytes head rest e
+head_spelled at bytes head rest e = subst (λ (r : Result (Head × List ℕ) Bad). IsRead at bytes r) e (head_read at bytes)
+
+pub headless : (at : ℕ) (bytes : List ℕ) (bad : Bad) → head_at at bytes ≡ Err bad → HeadFault at bytes bad
+headless at bytes bad e = subst (λ (r : Result (Head × List ℕ) Bad). IsRead at bytes r) e (head_read at bytes)
 
 -- ---- what is spelled is read
 
@@ -181,12 +226,12 @@ row_again : (at leading width number : ℕ) (front rest : List ℕ) (head : ℕ 
 row_again at leading width number front rest head row (digits, len, n, e) =
     rw (e, row (digits ++ rest)) (number_again width number digits rest head len n)
 
--- where the leading byte tells the length too
+-- where the leading byte gives the length too
 few_again : (at leading limit size : ℕ) (front rest : List ℕ) (head : Head) → ((leading + size) < leading + limit → head_at at ((leading + size) ∷ rest) ≡ Ok (head, rest))
     → SpellsFew leading limit size front → head_at at (front ++ rest) ≡ Ok (head, rest)
 few_again at leading limit size front rest head row (lt, e) = rw e (row (omega arith))
 
--- where it tells all
+-- where it gives all
 byte_again : (at leading : ℕ) (front rest : List ℕ) (head : Head) → head_at at (leading ∷ rest) ≡ Ok (head, rest) → front ≡ leading ∷ [] → head_at at (front ++ rest) ≡ Ok (head, rest)
 byte_again at leading front rest head row e = rw e row
 
@@ -324,3 +369,50 @@ head_again at (Array count) front rest s = array_again at count front rest s
 head_again at (Map count) front rest s = map_again at count front rest s
 head_again at (Fixed size) front rest s = float_again at size front rest s
 head_again at (Extension size) front rest s = extension_again at size front rest s
+
+-- ---- where no head stands first, none is read
+
+pub unused_read : (at leading : ℕ) (rest : List ℕ) → IsUnused leading → head_at at (leading ∷ rest) ≡ Err (Unused at)
+unfolding head_at
+unused_read at leading rest (inl e) = rw e refl
+unused_read at leading rest (inr high) =
+    let f1 : ltb leading 0x80 ≡ false = le-ltb _ _ (omega arith) in
+    let f2 : ltb leading 0x90 ≡ false = le-ltb _ _ (omega arith) in
+    let f3 : ltb leading 0xa0 ≡ false = le-ltb _ _ (omega arith) in
+    let f4 : ltb leading 0xc0 ≡ false = le-ltb _ _ (omega arith) in
+    let f5 : ltb leading 0xca ≡ false = le-ltb _ _ (omega arith) in
+    let f6 : ltb leading 0xd9 ≡ false = le-ltb _ _ (omega arith) in
+    let f7 : ltb leading 0xe0 ≡ false = le-ltb _ _ (omega arith) in
+    let f8 : ltb leading 0x100 ≡ false = le-ltb _ _ high in
+    rw (f1, f2, f3, f4, f5, f6, f7, f8) refl
+
+-- a head doesn't end within another one
+ends_before : (at : ℕ) (bytes missing : List ℕ) (found : Head × List ℕ) → 1 ≤ length missing → IsAnyHead (bytes ++ missing) → head_at at bytes ≡ Ok found → ⊥
+ends_before at bytes missing found some s e =
+    let w = head_spelled at bytes found.0 found.1 e in
+    let h = some_head (bytes ++ missing) s in
+    let whole : bytes ++ missing ≡ w.0 ++ (found.1 ++ missing) = ap (λ (l : List ℕ). l ++ missing) w.1 ∙ append_assoc w.0 found.1 missing in
+    let one = ap (head_at at) whole ∙ head_again at found.0 w.0 (found.1 ++ missing) w.2 in
+    let two = ap (head_at at) (sym (append-nil (bytes ++ missing))) ∙ head_again at h.0 (bytes ++ missing) [] h.1 in
+    let same = ok_is (found.0, found.1 ++ missing) (h.0, []) (sym one ∙ two) in
+    omega (arith, some, length-append found.1 missing, ap (λ (x : Head × List ℕ). length x.1) same)
+
+-- a head doesn't begin with a byte that begins none
+begins_some : (at leading : ℕ) (bytes rest missing : List ℕ) → bytes ≡ leading ∷ rest → IsUnused leading → IsAnyHead (bytes ++ missing) → ⊥
+begins_some at leading bytes rest missing parts unused s =
+    let h = some_head (bytes ++ missing) s in
+    let one = ap (head_at at) (ap (λ (l : List ℕ). l ++ missing) parts) ∙ unused_read at leading (rest ++ missing) unused in
+    let two = ap (head_at at) (sym (append-nil (bytes ++ missing))) ∙ head_again at h.0 (bytes ++ missing) [] h.1 in
+    let none : ◌≡◌ {A = Result (Head × List ℕ) Bad} (Err (Unused at)) (Ok (h.0, [])) = sym one ∙ two in
+    absurd cc
+
+pub ends_read : (at : ℕ) (bytes : List ℕ) → EndInHead bytes → head_at at bytes ≡ Err Short
+ends_read at bytes (missing, some, s) = by_read (head_at at bytes) refl
+  where
+    by_read : (read : Result (Head × List ℕ) Bad) → head_at at bytes ≡ read → head_at at bytes ≡ Err Short
+    by_read (Ok found) is = absurd (ends_before at bytes missing found some s is)
+    by_read (Err bad) is =
+        elim (headless at bytes bad is) [
+          | inl (leading, rest, parts, unused, e) ↦ absurd (begins_some at leading bytes rest missing parts unused s)
+          | inr (cut, e) ↦ is ∙ ap Err e
+        ]

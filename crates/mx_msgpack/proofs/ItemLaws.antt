@@ -1,4 +1,4 @@
--- The items of an array: they fill its bytes behind the head, and each is the spelling of the value in its place.
+-- The items of an array: they fill its bytes after the head, and each is the spelling of the value in its place.
 use Rattle.std.proofs.Common.{◌≡◌, ℕ, zero, suc, ◌+◌, ◌-◌, ◌≤◌, List, [], ◌∷◌, ◌++◌, length, take, drop, Option, Some, None, Result, Ok, Err, refl, sym, subst, ap, ◌∙◌, arith, eqb, eqb-true, eq-eqb}
 use Rattle.std.specs.List.{concat}
 use Rattle.std.specs.Option.{option_map}
@@ -107,7 +107,7 @@ whole_array bytes array e =
     let size = eqb-true first.0.1 (length bytes) whole.0 in
     first_read bytes first.0 first.1 ∙ (λ i. Ok (what i, size i))
 
--- nothing is left behind a value that takes all bytes
+-- no bytes follow a value that takes all of them
 all_read : (bytes : List ℕ) (what : Shown) → reading_of bytes ≡ Ok (what, length bytes) → after_first (length bytes) 64 bytes ≡ Ok []
 unfolding reading_of
 all_read bytes what e =
@@ -144,7 +144,7 @@ array_row bytes count content e = by_spelling (array_of_spelled bytes count cont
         let content_is : inside ≡ content = ap (λ (x : ℕ × List ℕ). x.1) same in
         record { head = head; values = values; parts = rw (← content_is) parts; many = many; few = rw (← many) few; spelled = rw (← content_is) s }
 
--- its items fill the bytes behind its head
+-- its items fill the bytes after its head
 pub row_fills : (bytes : List ℕ) (count : ℕ) (content : List ℕ) → Row bytes count content → concat (values_from count content) ≡ content
 row_fills bytes count content row = rw (← row.many) (values_fill row.values content row.spelled)
 

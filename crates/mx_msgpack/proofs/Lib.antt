@@ -25,6 +25,7 @@ pub mod OwnedLaws
 pub mod WriterLaws
 pub mod ClaimLaws
 pub mod TakingLaws
+pub mod FaultLaws
 pub mod ItemLaws
 pub mod ProjectionLaws
 pub mod MapLaws

@@ -115,7 +115,7 @@ pair_with_none keys before after whole left bytes rest value some first is all =
     let pairs : pairs_from left bytes ≡ record { key = None; value = value } ∷ pairs_from (left - 1) rest = ap (λ (n : ℕ). pairs_from n bytes) more ∙ first (left - 1) in
     rw is (sym (followed_other value keys before (pairs_from (left - 1) rest)) ∙ ap (followed keys before) (sym pairs) ∙ all)
 
--- no pair is left
+-- no pair remains
 pub pairs_over : (keys : List ℕ) (found whole : List (Option (List ℕ))) (left : ℕ) (bytes : List ℕ) → left ≤ 0 → length found ≡ length keys
     → followed keys found (pairs_from left bytes) ≡ whole → found ≡ whole
 pairs_over keys found whole left bytes none long all =
@@ -140,7 +140,7 @@ one_pair key before after whole left bytes rest pair some first is all =
     (sym (taken (is_key key pair.key) pair.value before (value_under key (pairs_from (left - 1) rest)))
     ∙ ap (λ (ps : List Pair). later before (value_under key ps)) (sym pairs) ∙ all)
 
--- no pair is left
+-- no pair remains
 pub key_over : (key : ℕ) (found whole : Option (List ℕ)) (left : ℕ) (bytes : List ℕ) → left ≤ 0
     → later found (value_under key (pairs_from left bytes)) ≡ whole → found ≡ whole
 key_over key found whole left bytes none all =

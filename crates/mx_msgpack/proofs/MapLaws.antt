@@ -37,7 +37,7 @@ alone head front content value h s =
     reads bytes head content [] (head_again 0 head front content h) after
     ∙ (λ i. Ok (shown head (nothing_after content i) (nothing_after bytes i), size i))
 
--- what a value's head, content and bytes tell of these bytes alone
+-- what a value's head, content and bytes say of these bytes alone
 parts_alone : (bytes : List ℕ) (head : Head) (after rest heading content front : List ℕ) (value : Value) (what : Shown) (size : ℕ)
     → after ≡ content ++ rest → bytes ≡ heading ++ after → SpellsHead head heading → bytes ≡ front ++ rest → Spells 64 value front
     → shown head (take (length after - length rest) after) (take (length bytes - length rest) bytes) ≡ what → length bytes - length rest ≡ size

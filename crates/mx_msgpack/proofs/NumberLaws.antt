@@ -14,7 +14,7 @@ take-bytes (suc n) [] each i = omega arith
 take-bytes (suc n) (x ∷ xs) each zero = each 0
 take-bytes (suc n) (x ∷ xs) each (suc i) = take-bytes n xs (λ k. each (suc k)) i
 
--- the bytes behind a leading byte
+-- the bytes after a leading byte
 pub digits-bytes : (leading : ℕ) (digits bytes : List ℕ) → bytes ≡ leading ∷ digits → AreBytes bytes → AreBytes digits
 digits-bytes leading digits bytes spelled each i = let tail = subst AreBytes spelled each in tail (suc i)
 
@@ -89,7 +89,7 @@ int_fits number bytes each (inr (inr (inr (inl spelled)))) = signed_fits 0xd1 2 
 int_fits number bytes each (inr (inr (inr (inr (inl spelled))))) = signed_fits 0xd2 4 (2 ^ 31) number bytes each four_fit refl refl (omega arith) spelled
 int_fits number bytes each (inr (inr (inr (inr (inr spelled))))) = signed_fits 0xd3 8 (2 ^ 63) number bytes each eight_fit refl refl (omega arith) spelled
 
--- a number that stands in the front of bytes fits
+-- a number at the start of bytes fits
 pub number_fits : (bytes : List ℕ) (size : ℕ) (number : ℤ) (value : Value) → AreBytes bytes → Spells 64 value (take size bytes) → value ≡ grammar.Int number → FitsBytes number
 number_fits bytes size number value each spelled same =
     int_fits number (take size bytes) (take-bytes size bytes each) (subst (λ (v : Value). Spells 64 v (take size bytes)) same spelled)

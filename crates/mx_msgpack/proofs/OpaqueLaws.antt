@@ -1,7 +1,7 @@
--- Floats and extensions: a head, and so many bytes behind it.
+-- Floats and extensions: a head, and so many bytes after it.
 use Rattle.std.proofs.Common.{◌≡◌, ℕ, suc, ◌≤◌, List, [], ◌∷◌, ◌++◌, length, refl, ap, ◌∙◌, inl, inr, ◌⊎◌, arith}
 use Rattle.mx_msgpack.specs.Grammar.{SpellsNumber, IsFixed, IsExtension, IsOpaque, max_length}
-use Rattle.mx_msgpack.proofs.Heads.{SpellsFixed, FixedHead, ExtensionHead}
+use Rattle.mx_msgpack.specs.Faults.{SpellsFixed, FixedHead, ExtensionHead}
 
 -- what is spelled by a head and its bytes is one
 

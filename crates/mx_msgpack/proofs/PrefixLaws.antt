@@ -61,7 +61,7 @@ same_shown room one other bytes a b =
 abbrev Claim : ℕ → Type 0
 Claim room = (one other : Value) (bytes : List ℕ) → Spells room one bytes → Spells room other bytes → one ≡ other
 
--- the values in front of some bytes are the same, and so are the bytes after them
+-- the values that some bytes begin with are the same, and so are the bytes after them
 module _ (room : ℕ) (claim : Claim room) (bytes : List ℕ) (one other : Value) (front rest front' rest' : List ℕ)
     (parts : bytes ≡ front ++ rest) (parts' : bytes ≡ front' ++ rest') (s : Spells room one front) (t : Spells room other front') where
   same_rest : rest ≡ rest'

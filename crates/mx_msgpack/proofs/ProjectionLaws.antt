@@ -1,4 +1,4 @@
--- What is projected tells what is shown.
+-- A projection decides what is shown.
 use Rattle.std.proofs.Common.{◌≡◌, ℕ, List, Option, Some, None, Result, Ok, Err, refl, ap}
 use Rattle.std.specs.Prelude.{ℤ, pos, negsuc}
 use Rattle.std.specs.Option.{option_and_then}

@@ -41,3 +41,14 @@ bind_bind (Err d) f g = refl
 pub bind_err : {A B : Type 0} (r : Result A Bad) (f : A → B) (bad : Bad) → (r >>= λ x. Ok (f x)) ≡ Err bad → r ≡ Err bad
 bind_err (Ok x) f bad e = absurd cc
 bind_err (Err d) f bad e = cc
+
+-- the step that failed
+pub bind_failed : {A B : Type 0} (r : Result A Bad) (f : A → Result B Bad) (bad : Bad) → (r >>= f) ≡ Err bad → (r ≡ Err bad) ⊎ ((x : A) × (r ≡ Ok x) × (f x ≡ Err bad))
+bind_failed (Ok x) f bad e = inr (x, refl, e)
+bind_failed (Err d) f bad e = inl cc
+
+abbrev failed : {A : Type 0} → Bad → Result A Bad
+failed bad = Err bad
+
+pub err_is : {A : Type 0} (one other : Bad) → failed {A = A} one ≡ failed other → one ≡ other
+err_is one other e = cc

@@ -37,7 +37,7 @@ pub reads : (bytes : List ℕ) (head : Head) (after rest : List ℕ) → head_at
 unfolding reading_of
 reads bytes head after rest e v = rw (e, v) refl
 
--- a head, and behind it the rest of a value of this length
+-- a head, and after it the rest of a value of this length
 pub record Bounds (bytes : List ℕ) (after : List ℕ) (size : ℕ) : Type 0 where
   pub behind : length bytes - length after ≤ size
   pub within : size - (length bytes - length after) ≤ length after

@@ -1,4 +1,4 @@
--- Reading an owned value: what was taken behind a head spells the value, and the first fault is that of reading.
+-- Reading an owned value: what was taken after a head spells the value, and the first fault is that of reading.
 use Rattle.std.proofs.Common.{◌≡◌, ℕ, zero, suc, ◌+◌, ◌-◌, ◌*◌, ◌<◌, ◌≤◌, ltb, true, false, Bool, List, [], ◌∷◌, ◌++◌, length, take, drop, Some, Result, Ok, Err, refl, sym, ap, ◌∙◌, append_assoc, inl, inr, ◌⊎◌, subst, arith}
 use Rattle.std.specs.Prelude.{ℤ}
 use Rattle.std.proofs.lemmas.List.{append-nil, take_at, take-append-drop, length-take, length-append}
@@ -21,7 +21,7 @@ use Rattle.mx_msgpack.proofs.Heads.{head_spelled}
 use Rattle.mx_msgpack.proofs.OpaqueLaws.{fixed_whole, extension_whole}
 use Rattle.mx_msgpack.proofs.GrammarLaws.{joined, twice, value_again}
 
--- ---- what was taken behind a head
+-- ---- what was taken after a head
 
 pub nil_found : (room at : ℕ) (bytes after : List ℕ) → head_at at bytes ≡ Ok (Nil, after) → SpelledUpTo room grammar.Nil bytes after
 nil_found room at bytes after e = head_spelled at bytes Nil after e
@@ -32,7 +32,7 @@ bool_found room at truth bytes after e = head_spelled at bytes (Boolean truth) a
 pub int_found : (room at : ℕ) (number : ℤ) (bytes after : List ℕ) → head_at at bytes ≡ Ok (Int number, after) → SpelledUpTo room (grammar.Int number) bytes after
 int_found room at number bytes after e = head_spelled at bytes (Int number) after e
 
--- so many bytes behind a head
+-- so many bytes after a head
 record Taken (size : ℕ) (after content rest : List ℕ) : Type 0 where
   many : length content ≡ size
   parts : after ≡ content ++ rest
@@ -57,7 +57,7 @@ bin_found room at size bytes after content rest e few long c r =
     let t = taken size after content rest long c r in
     (h.0 ++ content, joined bytes h.0 after content rest h.1 t.parts, (h.0, rw t.many h.2, rw t.many few, refl))
 
--- the head and what was taken behind it, as the front of all the bytes
+-- the head and what was taken after it, as a prefix of all the bytes
 whole_front : (size : ℕ) (bytes front after : List ℕ) → bytes ≡ front ++ after → size ≤ length after
     → take (length bytes - length after + size) bytes ≡ front ++ take size after
 whole_front size bytes front after e long =
@@ -109,7 +109,7 @@ found_spellable value bytes rest each (front, parts, s) = (front, front_of bytes
 
 -- ---- faults
 
--- the fault that a `?` hands on, where the step before told a `Bad`, and where it told a `ReadBad`
+-- the fault that a `?` hands on, where the step before returned a `Bad`, and where it returned a `ReadBad`
 pub told_bad : {A : Type 0} (result : Result A ReadBad) (told : ReadBad) (field bad : Bad) → result ≡ Err told → told ≡ Faulty field → result ≡ Err (Faulty bad) → field ≡ bad
 told_bad result told field bad e f g = cc
 
@@ -208,7 +208,7 @@ pub record CamePairs (total room count : ℕ) (bytes : List ℕ) (left : ℕ) (p
 pub pairs_came_nowhere : (total room count : ℕ) (bytes : List ℕ) → CamePairs total room count bytes count [] bytes
 pairs_came_nowhere total room count bytes = record { many = omega arith; so_far = ([], refl, refl); same = refl }
 
--- reading all goes on behind a pair
+-- reading all goes on after a pair
 pair_step : (one : List ℕ → Result (List ℕ) Bad) (left : ℕ) (rest middle after : List ℕ) → one rest ≡ Ok middle → one middle ≡ Ok after
     → after_all one (2 * suc left) rest ≡ after_all one (2 * left) after
 pair_step one left rest middle after e f =

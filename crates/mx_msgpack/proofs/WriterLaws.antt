@@ -75,7 +75,7 @@ pairs_later (pair ∷ others) (suc i) d below =
     ap (λ (bytes : List ℕ). spelled pair ++ bytes) (pairs_later others i d (omega arith))
     ∙ sym (append_assoc (spelled pair) (shortest_pairs (pair_list_view (take i others))) (spelled (get_or others i d)))
 
--- the same as the code counts, behind what was there before
+-- the same as the code counts, after what was there before
 pub all_more : (before now new : List ℕ) (values : List Value) (i : ℕ) (d : Value) → i < length values
     → now ≡ before ++ shortest_all (list_view (take i values)) → new ≡ now ++ shortest (value_view (get_or values i d))
     → new ≡ before ++ shortest_all (list_view (take (i + 1) values))

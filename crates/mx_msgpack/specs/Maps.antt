@@ -1,4 +1,4 @@
--- Maps by their keys, as headers and bodies have them. A key that isn't a number of 0 or more is passed over.
+-- Maps by their keys, as headers and bodies have them. A key that isn't a number of 0 or more is skipped.
 use Rattle.std.specs.Prelude.{ℕ, zero, suc, Bool, false, List, [], ◌∷◌, take, drop, Option, Some, None, ◌==◌, if◌then◌else◌}
 use Rattle.std.specs.Option.{option_map, option_map_or, option_or}
 use Rattle.mx_msgpack.specs.Projections.{as_map, shown_first, first_as}

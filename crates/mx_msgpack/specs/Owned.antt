@@ -1,4 +1,4 @@
--- The grammar's value that an owned value stands for.
+-- The grammar's value of an owned value.
 use Rattle.std.specs.Prelude.{◌≡◌, ℕ, List, [], ◌∷◌, ◌++◌}
 use Rattle.mx_msgpack.specs.declared.value.Value.{Value, Nil, Bool as Boolean, Int, Str, Bin, Array', Map', Opaque, Row_of-Value, end_of-Value, more_of-Value}
 use Rattle.mx_msgpack.specs.declared.value.Values.{Values}

@@ -59,8 +59,7 @@ pub fn read_value(alloc: Global, bytes: &[u8]) -> Result<(Value, usize), ReadBad
     Ok((value, bytes.len() - rest.len()))
 }
 
-/// Reads the value that stands first, inside `total` bytes that end where these end, with room for
-/// so many containers one inside the other. Gives the bytes after it too.
+/// `bytes` is the end of `total` bytes, and at most `room` containers may stand one inside the other.
 #[cycle(read)]
 fn read_any(
     alloc: Global,
@@ -115,7 +114,6 @@ fn read_any(
     }
 }
 
-/// Reads so many values in a row, and gives the bytes after them.
 #[cycle(read)]
 fn read_values(
     alloc: Global,
@@ -142,7 +140,6 @@ fn read_values(
     Ok((values, rest))
 }
 
-/// Reads so many pairs in a row, each a key and then a value, and gives the bytes after them.
 #[cycle(read)]
 fn read_pairs(
     alloc: Global,
@@ -170,7 +167,6 @@ fn read_pairs(
     Ok((pairs, rest))
 }
 
-/// The room inside a container at this place, which announces so many values or pairs.
 fn room_inside(at: usize, room: usize, count: u32) -> Result<usize, Bad>
     ensures found { IfOk result (λ inner. (room ≡ suc inner) × (count ≤ max_length)) }
     ensures fault { IfErr result (λ bad. ((room ≡ 0) × (bad ≡ Deep at))
@@ -185,7 +181,6 @@ fn room_inside(at: usize, room: usize, count: u32) -> Result<usize, Bad>
     Ok(room - 1)
 }
 
-/// Takes so many bytes behind a head at this place, and gives those after them.
 fn read_bytes(alloc: Global, at: usize, size: u32, after: &[u8]) -> Result<(Bytes, &[u8]), ReadBad>
     ensures found { IfOk result (λ x. (size ≤ max_length) × (size ≤ length after.now)
         × (x.0 ≡ take size after.now) × (x.1.now ≡ drop size after.now)) }
@@ -201,7 +196,6 @@ fn read_bytes(alloc: Global, at: usize, size: u32, after: &[u8]) -> Result<(Byte
     Ok((Bytes::from_slice(alloc, content)?, rest))
 }
 
-/// Takes a head at this place and so many bytes behind it, and gives those after them.
 fn read_opaque<'a>(
     alloc: Global,
     at: usize,

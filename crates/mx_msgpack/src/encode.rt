@@ -89,7 +89,6 @@ fn write_any(value: &Value, out: &mut Bytes) -> Result<(), AllocError>
     Ok(())
 }
 
-/// Adds the values, one after the other.
 #[cycle(write)]
 fn write_all(values: &[Value], out: &mut Bytes) -> Result<(), AllocError>
     requires { AreWritable (list_view values.now) }
@@ -101,7 +100,6 @@ fn write_all(values: &[Value], out: &mut Bytes) -> Result<(), AllocError>
     Ok(())
 }
 
-/// Adds each pair's key and then its value, one pair after the other.
 #[cycle(write)]
 fn write_pairs(pairs: &[(Value, Value)], out: &mut Bytes) -> Result<(), AllocError>
     requires { ArePairsWritable (pair_list_view pairs.now) }
@@ -114,7 +112,6 @@ fn write_pairs(pairs: &[(Value, Value)], out: &mut Bytes) -> Result<(), AllocErr
     Ok(())
 }
 
-/// Adds an Int in the fewest bytes that spell it.
 fn write_int(number: i128, out: &mut Bytes) -> Result<(), AllocError>
     requires { Fits64 number }
     ensures { MatchResult result (λ _. out.new ≡ out.old ++ shortest_int number) (λ _. out.new ≡ out.old) }
@@ -126,7 +123,6 @@ fn write_int(number: i128, out: &mut Bytes) -> Result<(), AllocError>
     }
 }
 
-/// Adds the number below 0 that is one less than minus `below`, in the fewest bytes that spell it.
 #[tactic(auto, unfolding(crate::specs::Spelling::shortest_negative))]
 fn write_negative(below: u64, out: &mut Bytes) -> Result<(), AllocError>
     requires { below < 2 ^ 63 }
@@ -161,7 +157,6 @@ pub fn write_str_head(size: usize, out: &mut Bytes) -> Result<(), AllocError>
     Ok(())
 }
 
-/// Adds the shortest head of a Bin of so many bytes.
 #[tactic(auto, unfolding(crate::specs::Spelling::bin_head))]
 fn write_bin_head(size: usize, out: &mut Bytes) -> Result<(), AllocError>
     requires { size ≤ max_length }
@@ -175,7 +170,6 @@ fn write_bin_head(size: usize, out: &mut Bytes) -> Result<(), AllocError>
     Ok(())
 }
 
-/// Adds the shortest head of an Array of so many values.
 #[tactic(auto, unfolding(crate::specs::Spelling::array_head))]
 fn write_array_head(count: usize, out: &mut Bytes) -> Result<(), AllocError>
     requires { count ≤ max_length }
@@ -207,14 +201,12 @@ pub fn write_map_head(count: usize, out: &mut Bytes) -> Result<(), AllocError>
     Ok(())
 }
 
-/// Adds a leading byte and a number of 8 bits.
 fn write_8(leading: u8, number: u8, out: &mut Bytes) -> Result<(), AllocError>
     ensures { MatchResult result (λ _. out.new ≡ out.old ++ leading ∷ big_bytes 1 number) (λ _. out.new ≡ out.old) }
 {
     out.extend_from_slice(&[leading, number])
 }
 
-/// Adds a leading byte and a number of 16 bits, the highest first.
 fn write_16(leading: u8, number: u16, out: &mut Bytes) -> Result<(), AllocError>
     ensures { MatchResult result (λ _. out.new ≡ out.old ++ leading ∷ big_bytes 2 number) (λ _. out.new ≡ out.old) }
 {
@@ -223,7 +215,6 @@ fn write_16(leading: u8, number: u16, out: &mut Bytes) -> Result<(), AllocError>
     out.extend_from_slice(&spelled)
 }
 
-/// Adds a leading byte and a number of 32 bits, the highest first.
 fn write_32(leading: u8, number: u32, out: &mut Bytes) -> Result<(), AllocError>
     ensures { MatchResult result (λ _. out.new ≡ out.old ++ leading ∷ big_bytes 4 number) (λ _. out.new ≡ out.old) }
 {
@@ -232,7 +223,6 @@ fn write_32(leading: u8, number: u32, out: &mut Bytes) -> Result<(), AllocError>
     out.extend_from_slice(&spelled)
 }
 
-/// Adds a leading byte and a number of 64 bits, the highest first.
 fn write_64(leading: u8, number: u64, out: &mut Bytes) -> Result<(), AllocError>
     ensures { MatchResult result (λ _. out.new ≡ out.old ++ leading ∷ big_bytes 8 number) (λ _. out.new ≡ out.old) }
 {

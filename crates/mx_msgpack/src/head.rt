@@ -28,7 +28,7 @@ pub(crate) enum Head {
     Extension(u32),
 }
 
-/// What the length behind a leading byte is of.
+/// What a length after a leading byte counts.
 #[derive(Clone, Copy, Debug, PartialEq, Eq)]
 pub(crate) enum Kind {
     Str,
@@ -38,7 +38,6 @@ pub(crate) enum Kind {
     Extension,
 }
 
-/// Reads the head of the value that stands first in `bytes`, and gives the bytes after the head.
 /// `at` is the place of the leading byte.
 #[inline]
 #[tactic(auto, unfolding(crate::specs::Reading::head_at))]
@@ -142,7 +141,6 @@ fn sized_head(leading: u8, rest: &[u8]) -> Result<(Head, &[u8]), Bad>
     }
 }
 
-/// A head that goes on with a length of so many bytes.
 #[inline]
 fn sized_at(kind: Kind, width: usize, rest: &[u8]) -> Result<(Head, &[u8]), Bad>
     requires width { (width ≡ 1) ⊎ (width ≡ 2) ⊎ (width ≡ 4) }
@@ -161,7 +159,6 @@ fn sized_at(kind: Kind, width: usize, rest: &[u8]) -> Result<(Head, &[u8]), Bad>
     Ok((kind_head(kind, size), rest))
 }
 
-/// The head of this type and length.
 #[inline]
 fn kind_head(kind: Kind, size: u32) -> Head
     ensures { result ≡ kind_head kind size }
@@ -175,7 +172,6 @@ fn kind_head(kind: Kind, size: u32) -> Head
     }
 }
 
-/// A number of 0 or more, of so many bytes.
 #[inline]
 fn unsigned_head(width: usize, rest: &[u8]) -> Result<(Head, &[u8]), Bad>
     requires width { (width ≡ 1) ⊎ (width ≡ 2) ⊎ (width ≡ 4) ⊎ (width ≡ 8) }
@@ -189,7 +185,6 @@ fn unsigned_head(width: usize, rest: &[u8]) -> Result<(Head, &[u8]), Bad>
     Ok((Head::Int(i128::from(number_of(digits))), rest))
 }
 
-/// A number with a sign, of so many bytes.
 fn signed_head(width: usize, rest: &[u8]) -> Result<(Head, &[u8]), Bad>
     requires width { (width ≡ 1) ⊎ (width ≡ 2) ⊎ (width ≡ 4) ⊎ (width ≡ 8) }
     ensures exact { Gives (λ x. (x.0, x.1.now)) result (signed_head width rest.now) }
@@ -214,7 +209,6 @@ fn signed_head(width: usize, rest: &[u8]) -> Result<(Head, &[u8]), Bad>
     Ok((Head::Int(signed), rest))
 }
 
-/// The number in 1, 2, 4 or 8 bytes, the highest first.
 #[inline(always)]
 pub(crate) fn number_of(digits: &[u8]) -> u64
     requires width { (length digits.now ≡ 1) ⊎ (length digits.now ≡ 2) ⊎ (length digits.now ≡ 4) ⊎ (length digits.now ≡ 8) }

@@ -82,7 +82,6 @@ pub fn first_pair(bytes: &[u8]) -> (PairRef<'_>, &[u8])
     (PairRef { key, value }, rest)
 }
 
-/// The key that stands first, where it is a number of 0 or more, and the bytes after it.
 #[inline(always)]
 fn first_key(bytes: &[u8]) -> (Option<u64>, &[u8])
     ensures key { result.0 ≡ unsigned_in bytes.now }
@@ -112,7 +111,6 @@ pub fn value_under(key: u64, pairs: PairsRef<'_>) -> Option<&[u8]>
     found
 }
 
-/// Whether a pair has this key.
 #[inline(always)]
 fn is_key(wanted: u64, key: Option<u64>) -> bool
     ensures { result ≡ is_key wanted key }
@@ -142,7 +140,6 @@ pub fn values_under<'a>(keys: &[u8], bytes: &'a [u8], values: &mut [Option<&'a [
     }
 }
 
-/// Puts a value in each place of its key.
 #[inline]
 fn note<'a>(keys: &[u8], key: u64, value: &'a [u8], values: &mut [Option<&'a [u8]>])
     requires { length values.old ≡ length keys.now }

@@ -57,7 +57,6 @@ pub fn unsigned_at(bytes: &[u8]) -> Option<(u64, &[u8])>
     }
 }
 
-/// A number of 1, 2, 4 or 8 bytes, the highest first, and the bytes after it; `None` where there are fewer.
 #[inline(always)]
 fn wide_at(width: usize, bytes: &[u8]) -> Option<(u64, &[u8])>
     requires width { (width ≡ 1) ⊎ (width ≡ 2) ⊎ (width ≡ 4) ⊎ (width ≡ 8) }

@@ -12,7 +12,7 @@ use crate::head::{Head, head_at};
 pub(crate) const MAX_NESTING: usize = 64;
 
 /// How many bytes a text, bytes or an extension may have, and how many values or pairs a container.
-pub(crate) const MAX_LENGTH: u32 = 2_097_152;
+pub const MAX_LENGTH: u32 = 2_097_152;
 
 /// The maximum number of bytes after a leading byte that alone gives the value's length.
 const MAX_PLAIN: usize = 31;
@@ -67,7 +67,7 @@ pub(crate) fn measure_behind(head: Head, rest: &[u8], bytes: &[u8]) -> Result<us
     }
 }
 
-/// As `skip`, from head to head behind the head of a container, with one counter for all open
+/// As `skip`, from head to head after the head of a container, with one counter for all open
 /// containers: as few as are opened here can't stand too deep one inside the other.
 #[inline(never)]
 fn walk(inside: Inside, behind: &[u8], bytes: &[u8]) -> Result<usize, Bad>
@@ -139,8 +139,6 @@ fn walk_nested(bytes: &[u8]) -> Result<usize, Bad>
     Ok(bytes.len() - rest.len())
 }
 
-/// Steps over the head that stands first, and over what isn't values behind it. Gives what a
-/// container announces, where the head is one's, and the bytes after.
 #[inline(always)]
 #[tactic(auto, unfolding(crate::specs::Reading::head_at))]
 fn step_over(at: usize, bytes: &[u8]) -> Result<(Option<Inside>, &[u8]), Bad>
@@ -181,7 +179,6 @@ fn step_headed(at: usize, bytes: &[u8]) -> Result<(Option<Inside>, &[u8]), Bad>
     step_behind(at, head, rest)
 }
 
-/// What a container announces, where the head is one's, and the bytes after what isn't values.
 #[inline(always)]
 fn step_behind(at: usize, head: Head, rest: &[u8]) -> Result<(Option<Inside>, &[u8]), Bad>
     ensures exact { Gives (λ x. (x.0, x.1.now)) result (step_behind at head rest.now) }
@@ -204,8 +201,6 @@ fn step_behind(at: usize, head: Head, rest: &[u8]) -> Result<(Option<Inside>, &[
     }
 }
 
-/// The bytes after the value that stands first, where its leading byte alone gives its length; `None`
-/// where it doesn't, or not all of the value is there.
 #[inline(always)]
 fn plain_after(bytes: &[u8]) -> Option<&[u8]>
     ensures plain { IfSome result (λ after. (at : ℕ) → step_over at bytes.now ≡ Ok (None, after.now)) }
@@ -266,7 +261,6 @@ fn fixed_size(leading: u8) -> usize
     }
 }
 
-/// The bytes after so many, behind a head at this place that announces this length.
 #[inline(always)]
 fn after_bytes(at: usize, announced: u32, size: usize, rest: &[u8]) -> Result<&[u8], Bad>
     ensures exact { Gives (λ x. x.now) result (after_bytes at announced size rest.now) }

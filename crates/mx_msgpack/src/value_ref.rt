@@ -66,7 +66,6 @@ fn read_behind<'a>(
     Ok((value_of(head, content, whole), size))
 }
 
-/// The value of a head, of the bytes behind it, and of all of its bytes.
 #[inline(always)]
 fn value_of<'a>(head: Head, content: &'a [u8], whole: &'a [u8]) -> ValueRef<'a>
     ensures { view result ≡ shown head content.now whole.now }

@@ -50,7 +50,6 @@ impl ValueType {
     }
 }
 
-/// Whether a value is a Boolean, a number, a text or bytes.
 fn is_scalar(value: &ValueRef<'_>) -> bool
     ensures { result ≡ types.takes Scalar (view value.now) }
 {

@@ -4,7 +4,7 @@ use Rattle.mx_msgpack.specs.Maps.{pairs_from, value_under}
 use Rattle.mx_msgpack.proofs.LookupLaws.{later}
 use Rattle.mx_msgpack.proofs.maps.value_under.Given as goal
 
--- what was found so far and what the pairs left give are together what all pairs give
+-- what was found so far and what the remaining pairs give are together what all pairs give
 abbrev pub invariant-loop-left : goal.invariant-loop-left
 invariant-loop-left l =
     later (option_copied l.found) (value_under l.key (pairs_from l.left l.rest)) ≡ value_under l.key (pairs_from l.pairs.count l.pairs.bytes.now)

@@ -4,7 +4,7 @@ use Rattle.mx_msgpack.specs.Maps.{pairs_from, pairs_in, value_under}
 use Rattle.mx_msgpack.proofs.LookupLaws.{followed}
 use Rattle.mx_msgpack.proofs.maps.values_under.Given as goal
 
--- what was found so far and what the pairs left give are together what all pairs give
+-- what was found so far and what the remaining pairs give are together what all pairs give
 abbrev pub invariant-loop-left : goal.invariant-loop-left
 invariant-loop-left l = followed l.keys (map option_copied l.values) (pairs_from l.left l.rest) ≡ map (λ key. value_under key (pairs_in l.bytes)) l.keys
 
