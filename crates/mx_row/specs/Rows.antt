@@ -89,7 +89,7 @@ replaced_in body = do
 unfoldable pub row_in : ℕ → List Pair → Option Row
 row_in type body = if type == replace_type then replaced_in body else None
 
--- who wrote a row, where it isn't a local one
+-- the replica id that wrote a row, where it isn't a local one
 abbrev pub replica_in : ℕ → Option ℕ
 replica_in id = if nat_lt id 1 then None else if nat_lt 31 id then None else Some id
 

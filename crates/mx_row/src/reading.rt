@@ -58,7 +58,6 @@ pub fn read_tx(bytes: &[u8]) -> Option<(TxRef<'_>, &[u8])>
     Some((tx, rest))
 }
 
-/// The number of 0 or more under a key.
 #[tactic(auto, unfolding(crate::specs::Rows::number_under))]
 fn number_under(key: u8, pairs: PairsRef<'_>) -> Option<u64>
     ensures { result ≡ number_under key (pairs_view pairs.entry) }
@@ -67,7 +66,6 @@ fn number_under(key: u8, pairs: PairsRef<'_>) -> Option<u64>
     unsigned_in(value)
 }
 
-/// The space and the tuple of a row of this type.
 #[tactic(auto, unfolding(crate::specs::Rows::row_in))]
 fn row_in(request_type: u64, body: PairsRef<'_>) -> Option<(u32, &[u8])>
     ensures { option_map (λ x. Replaced x.0 x.1.now) result ≡ row_in request_type (pairs_view body.entry) }
@@ -78,7 +76,6 @@ fn row_in(request_type: u64, body: PairsRef<'_>) -> Option<(u32, &[u8])>
     replace_in(body)
 }
 
-/// The space and the tuple of a row that puts a tuple into a space.
 #[tactic(auto, unfolding(crate::specs::Rows::replaced_in))]
 fn replace_in(body: PairsRef<'_>) -> Option<(u32, &[u8])>
     ensures { option_map (λ x. Replaced x.0 x.1.now) result ≡ replaced_in (pairs_view body.entry) }
@@ -90,7 +87,6 @@ fn replace_in(body: PairsRef<'_>) -> Option<(u32, &[u8])>
     short_enough(space, tuple)
 }
 
-/// The space and the tuple, where they fit into a body.
 fn short_enough(space: u32, tuple: &[u8]) -> Option<(u32, &[u8])>
     ensures { option_map (λ x. Replaced x.0 x.1.now) result ≡ short_enough (Replaced space tuple.now) }
 {
@@ -100,7 +96,6 @@ fn short_enough(space: u32, tuple: &[u8]) -> Option<(u32, &[u8])>
     Some((space, tuple))
 }
 
-/// How many bytes the shortest spelling of a number has.
 #[tactic(auto, unfolding(mx_msgpack::specs::Spelling::shortest_unsigned))]
 fn spelled_len(number: u32) -> usize
     ensures exact { result ≡ length (shortest_unsigned number) }
@@ -114,7 +109,6 @@ fn spelled_len(number: u32) -> usize
     }
 }
 
-/// The value, where it is an array.
 #[tactic(auto, unfolding(crate::specs::Rows::tuple_in))]
 fn tuple_in(value: &[u8]) -> Option<&[u8]>
     ensures { option_copied result ≡ tuple_in value.now }
@@ -125,7 +119,7 @@ fn tuple_in(value: &[u8]) -> Option<&[u8]>
     }
 }
 
-/// The replica id, where it isn't that of rows which stay on one replica.
+/// Rows with the replica id 0 are local, and stay on one replica.
 #[tactic(auto, unfolding(crate::specs::Rows::replica_in))]
 fn replica_in(id: u64) -> Option<u8>
     ensures { result ≡ replica_in id }
@@ -136,7 +130,6 @@ fn replica_in(id: u64) -> Option<u8>
     }
 }
 
-/// Whether the row is a transaction by itself.
 fn stands_alone(header: PairsRef<'_>) -> bool
     ensures { result ≡ stands_alone (value_under row_number_key (pairs_view header.entry)) (pairs_view header.entry) }
 {

@@ -1,6 +1,6 @@
 //! Rows of a journal, written in their shortest spelling.
 
-ghost use Rattle.std.specs.Prelude.{◌≡◌, ◌++◌, ◌∷◌, OnOk};
+ghost use Rattle.std.specs.Prelude.{◌≡◌, ◌++◌, ◌∷◌, length, take, MatchResult};
 ghost use Rattle.mx_msgpack.specs.Spelling.{shortest_unsigned};
 ghost use Rattle.mx_base.specs.Keys.{type_key, replica_key, lsn_key};
 ghost use Rattle.mx_row.specs.Rows.{IsTransaction, transaction_text, row_text, row_body_text, replace_type};
@@ -21,9 +21,25 @@ const MAP_OF_THREE: u8 = 0x83;
 const REPLACE: u8 = 3;
 
 /// Adds the rows of a transaction.
+///
+/// # Errors
+/// Out of memory; nothing is added.
 pub fn write_tx(tx: &Tx, out: &mut Bytes) -> Result<(), AllocError>
     requires { IsTransaction tx.now }
-    ensures { OnOk result (out.new ≡ out.old ++ transaction_text tx.now) }
+    ensures { MatchResult result (λ _. out.new ≡ out.old ++ transaction_text tx.now) (λ _. out.new ≡ out.old) }
+{
+    let before = out.len();
+    let written = write_rows(tx, out);
+    if written.is_err() {
+        out.truncate(before);
+    }
+    written
+}
+
+/// As `write_tx`, but at an error a prefix of the rows may have been added, as by each function below.
+fn write_rows(tx: &Tx, out: &mut Bytes) -> Result<(), AllocError>
+    requires { IsTransaction tx.now }
+    ensures { MatchResult result (λ _. out.new ≡ out.old ++ transaction_text tx.now) (λ _. take (length out.old) out.new ≡ out.old) }
 {
     let mut lsn = tx.first;
     for row in tx.rows.as_slice() {
@@ -33,19 +49,19 @@ pub fn write_tx(tx: &Tx, out: &mut Bytes) -> Result<(), AllocError>
     Ok(())
 }
 
-/// Adds a row: its header and its body.
 fn write_row(replica: u8, lsn: u64, row: &Row, out: &mut Bytes) -> Result<(), AllocError>
-    ensures { OnOk result (out.new ≡ out.old ++ row_text replica lsn row.now) }
+    ensures { MatchResult result (λ _. out.new ≡ out.old ++ row_text replica lsn row.now) (λ _. take (length out.old) out.new ≡ out.old) }
 {
     write_head(replica, lsn, out)?;
     write_body(row, out)?;
     Ok(())
 }
 
-/// Adds the header of a row.
 fn write_head(replica: u8, lsn: u64, out: &mut Bytes) -> Result<(), AllocError>
-    ensures { OnOk result (out.new ≡ out.old
-        ++ ((0x83 ∷ type_key ∷ replace_type ∷ replica_key ∷ shortest_unsigned replica) ++ (lsn_key ∷ shortest_unsigned lsn))) }
+    ensures { MatchResult result
+        (λ _. out.new ≡ out.old
+        ++ ((0x83 ∷ type_key ∷ replace_type ∷ replica_key ∷ shortest_unsigned replica) ++ (lsn_key ∷ shortest_unsigned lsn)))
+        (λ _. take (length out.old) out.new ≡ out.old) }
 {
     out.extend_from_slice(&[MAP_OF_THREE, keys::TYPE, REPLACE, keys::REPLICA])?;
     write_unsigned(u64::from(replica), out)?;
@@ -54,9 +70,8 @@ fn write_head(replica: u8, lsn: u64, out: &mut Bytes) -> Result<(), AllocError>
     Ok(())
 }
 
-/// Adds the body of a row.
 fn write_body(row: &Row, out: &mut Bytes) -> Result<(), AllocError>
-    ensures { OnOk result (out.new ≡ out.old ++ row_body_text row.now) }
+    ensures { MatchResult result (λ _. out.new ≡ out.old ++ row_body_text row.now) (λ _. take (length out.old) out.new ≡ out.old) }
 {
     match row {
         Row::Replaced { space, tuple } => {

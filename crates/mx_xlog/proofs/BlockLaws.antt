@@ -1,4 +1,4 @@
--- What a block's head says of the bytes behind it.
+-- What a block's head says of the bytes after it.
 use Rattle.std.proofs.Common.{◌≡◌, ℕ, ◌≤◌, Bool, true, false, not, nat_eq, List, ◌++◌, length, take, drop, refl, sym, ap, ◌∙◌, arith}
 use Rattle.std.proofs.lemmas.List.{length-take, take-append-drop}
 use Rattle.std.specs.Cmp.Lexicographic.{pointwise, same_text, other_text}

@@ -92,7 +92,7 @@ none_goes_on Tells known rest none told = λ head line more tail fits are is_lin
     let value = told head line more fits are in
     none value.0 line tail is_line value.1
 
--- bytes that begin with some lines and with no fewer others begin with a front of the others
+-- bytes that begin with some lines and with no fewer others begin with a prefix of the others
 pub front_lines : (lines known : List (List ℕ)) (rest tail : List ℕ) → AreLines lines → AreLines known → length lines ≤ length known
     → lines_text lines ++ rest ≡ lines_text known ++ tail → (more : List (List ℕ)) × (known ≡ lines ++ more)
 front_lines [] known rest tail l k enough is = (known, refl)
@@ -116,7 +116,7 @@ no_more true false mine its byte clock its_clock more is = absurd cc
 no_more false true mine its byte clock its_clock more is = absurd cc
 no_more false false mine its byte clock its_clock more is = cc
 
--- a header's lines are no proper front of another one's
+-- a header's lines are no proper prefix of another one's
 pub no_longer : (head other : Head) (more : List (List ℕ)) → header_lines head ≡ header_lines other ++ more → more ≡ []
 no_longer head other more is =
     no_more (head.replica == 1) (other.replica == 1) (codes "Replica: " ++ decimal head.replica) (codes "Replica: " ++ decimal other.replica)
@@ -168,7 +168,7 @@ fault_behind known next others head rest bytes line fits are is none place =
             let none_left = ap length (no_longer head other (found.0 ++ next ∷ others) whole) in
             omega (arith, length-append found.0 (next ∷ others))
 
--- bytes whose first line tells no value
+-- bytes whose first line has no value
 pub none_found : {X : Type 0} (Tells : X → List ℕ → Type 0) (line rest bytes : List ℕ) → BeginsLine line rest bytes
     → ((value : X) → ¬ Tells value line) → BeginsNone Tells bytes
 none_found Tells line rest bytes begins none = λ value other more is_line told is.

@@ -1,4 +1,4 @@
--- The lines behind the first four: at which one bytes stop to be a header, and what a whole one tells.
+-- The lines after the first four: at which one bytes stop to be a header, and what a whole one says.
 use Rattle.std.proofs.Common.{◌≡◌, ℕ, ◌+◌, ◌-◌, ◌<◌, Bool, true, false, if◌then◌else◌, ◌==◌, List, [], ◌∷◌, ◌++◌, length, refl, sym, ap, ◌∙◌}
 use Rattle.std.proofs.Common.{append_assoc, arith, length-append, inl, inr}
 use mathlib.Core.Logic.{◌⊎◌}
@@ -12,7 +12,7 @@ use Rattle.mx_xlog.specs.HeaderParts.{opening_lines, BeginsWith, BeginsNone}
 use Rattle.mx_xlog.proofs.HeaderLaws.{fault_behind, lines_behind, one_line_more}
 use Rattle.mx_xlog.proofs.PlaceLaws.{head_told, some_head, some_fits}
 
--- what may stand behind a replica's line, or behind the first four lines where there is none
+-- what may stand after a replica's line, or after the first four lines where there is none
 after_replica : (first known : Bool) (mine other clock line : List ℕ) (more : List (List ℕ)) → ¬ (clock ≡ other)
     → (if first then [] else mine ∷ []) ++ clock ∷ [] ∷ [] ≡ (if known then [] else other ∷ []) ++ line ∷ more
     → ((known ≡ true) × (first ≡ false) × (line ≡ mine)) ⊎ (line ≡ clock)
@@ -21,7 +21,7 @@ after_replica true false mine other clock line more apart is = absurd (apart cc)
 after_replica false true mine other clock line more apart is = inl (refl, refl, cc)
 after_replica false false mine other clock line more apart is = inr cc
 
--- what stands behind a vclock's line
+-- what stands after a vclock's line
 after_clock : (first known : Bool) (mine other clock told line : List ℕ) (more : List (List ℕ)) → ¬ (clock ≡ other) → ¬ (told ≡ mine)
     → (if first then [] else mine ∷ []) ++ clock ∷ [] ∷ [] ≡ (if known then [] else other ∷ []) ++ told ∷ line ∷ more → line ≡ []
 after_clock true true mine other clock told line more apart too is = cc
@@ -32,7 +32,7 @@ after_clock false false mine other clock told line more apart too is = cc
 first_byte : (byte other : ℕ) (bytes more : List ℕ) → byte ∷ bytes ≡ other ∷ more → byte ≡ other
 first_byte byte other bytes more is = cc
 
--- a line tells a vclock or a replica id
+-- a line has a vclock or a replica id
 apart : (clock : List ℕ) (id : ℕ) → ¬ (codes "VClock: " ++ vclock_text clock ≡ codes "Replica: " ++ decimal id)
 apart clock id is = omega (arith, first_byte 86 82 _ _ is)
 
@@ -88,7 +88,7 @@ module _ (snapshot : Bool) (instance set : List ℕ) (replica : ℕ) (a b bytes 
     lines_told : header_lines head ≡ clock_known ++ [] ∷ []
     lines_told = ap (λ lines. opening_lines snapshot instance set ++ lines) (sym (append_assoc (replica_lines replica) (clock_text ∷ []) ([] ∷ [])))
 
-    -- what stands behind the vclock isn't the empty line
+    -- what stands after the vclock isn't the empty line
     pub no_end : (line : ℕ) → ((rest : List ℕ) → ¬ (c ≡ 10 ∷ rest)) → line ≡ 6 + length (replica_lines replica) → IsFaultLine bytes line
     no_end line none place =
         fault_behind clock_known _ _ head c bytes line head_fits lines_told clock_told

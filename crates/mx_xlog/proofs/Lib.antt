@@ -1,4 +1,5 @@
 mod BlockLaws
+mod FileLaws
 mod HeaderLaws
 mod LastLaws
 mod LineLaws
@@ -6,5 +7,7 @@ pub mod OneLaws
 mod PlaceLaws
 mod PlainLaws
 mod RegisterLaws
+mod SplitLaws
+mod ToldLaws
 mod ValueLaws
 pub mod ReadingLaws

@@ -16,19 +16,17 @@ pub lines_added : (lines more : List (List ℕ)) (old new : List ℕ) → new �
 lines_added lines more old new added =
     ap (λ l. old ++ l) (ended-append lines more) ∙ sym (append_assoc old (lines_text lines) (lines_text more)) ∙ ap (λ l. l ++ lines_text more) (sym added)
 
--- the lines of a header, added one by one
-pub header_added : (replica : List (List ℕ)) (kind version instance set clock out a b c d e f g : List ℕ) → a ≡ out ++ lines_text (kind ∷ []) → b ≡ a ++ lines_text (version ∷ [])
-    → c ≡ b ++ lines_text (instance ∷ []) → d ≡ c ++ lines_text (set ∷ []) → e ≡ d ++ lines_text replica → f ≡ e ++ lines_text (clock ∷ []) → g ≡ f ++ lines_text ([] ∷ [])
-    → g ≡ out ++ lines_text (kind ∷ version ∷ instance ∷ set ∷ (replica ++ clock ∷ [] ∷ []))
-header_added replica kind version instance set clock out a b c d e f g to_a to_b to_c to_d to_e to_f to_g =
+-- the lines of a header, added part by part
+pub header_added : (type : List (List ℕ)) (instance set : List ℕ) (replica clock : List (List ℕ)) (out a b c d e : List ℕ) → a ≡ out ++ lines_text type
+    → b ≡ a ++ lines_text (instance ∷ []) → c ≡ b ++ lines_text (set ∷ []) → d ≡ c ++ lines_text replica → e ≡ d ++ lines_text clock
+    → e ≡ out ++ lines_text (type ++ instance ∷ set ∷ (replica ++ clock))
+header_added type instance set replica clock out a b c d e to_a to_b to_c to_d to_e =
     sym (
-    lines_added (kind ∷ []) (version ∷ instance ∷ set ∷ (replica ++ clock ∷ [] ∷ [])) out a to_a
-    ∙ lines_added (version ∷ []) (instance ∷ set ∷ (replica ++ clock ∷ [] ∷ [])) a b to_b
-    ∙ lines_added (instance ∷ []) (set ∷ (replica ++ clock ∷ [] ∷ [])) b c to_c
-    ∙ lines_added (set ∷ []) (replica ++ clock ∷ [] ∷ []) c d to_d
-    ∙ lines_added replica (clock ∷ [] ∷ []) d e to_e
-    ∙ lines_added (clock ∷ []) ([] ∷ []) e f to_f
-    ∙ sym to_g
+    lines_added type (instance ∷ set ∷ (replica ++ clock)) out a to_a
+    ∙ lines_added (instance ∷ []) (set ∷ (replica ++ clock)) a b to_b
+    ∙ lines_added (set ∷ []) (replica ++ clock) b c to_c
+    ∙ lines_added replica clock c d to_d
+    ∙ sym to_e
     )
 
 pub line_longer : (bytes : List ℕ) (at : ℕ) → at < length bytes → (get_or bytes at 0 ≡ 10 → ⊥) → IsLine (take at bytes) → IsLine (take (suc at) bytes)
@@ -36,7 +34,7 @@ line_longer [] at within other line = absurd (omega arith)
 line_longer (byte ∷ bytes) zero within other line = (other, tt)
 line_longer (byte ∷ bytes) (suc at) within other line = (line.0, line_longer bytes at (omega arith) other line.1)
 
--- the bytes before a newline and behind it
+-- the bytes before a newline and after it
 pub around_newline : (bytes : List ℕ) (at : ℕ) → at < length bytes → get_or bytes at 0 ≡ 10 → bytes ≡ take at bytes ++ 10 ∷ drop (suc at) bytes
 around_newline [] at within is = absurd (omega arith)
 around_newline (byte ∷ bytes) zero within is = ap (λ b. b ∷ bytes) is

@@ -10,7 +10,7 @@ use Rattle.mx_xlog.specs.Lines.{TellsId}
 use Rattle.mx_xlog.specs.HeaderParts.{file_type, opening_lines, BeginsWith, BeginsNone, TellsFileType}
 use Rattle.mx_xlog.proofs.HeaderLaws.{none_goes_on, fault_behind, one_line_more}
 
--- a head that tells this
+-- a head that says this
 abbrev pub head_told : Bool → List ℕ → List ℕ → ℕ → List ℕ → Head
 head_told snapshot instance set replica clock =
     record { snapshot = snapshot; instance = instance; set = set; replica = replica; clock = clock }
@@ -19,7 +19,7 @@ head_told snapshot instance set replica clock =
 abbrev none_reached : List ℕ
 none_reached = replicate 32 0
 
--- some head that tells this
+-- some head that says this
 abbrev pub some_head : Bool → List ℕ → List ℕ → ℕ → Head
 some_head snapshot instance set replica = head_told snapshot instance set replica none_reached
 

@@ -1,4 +1,4 @@
--- What the text of an identifier and of a vclock tells.
+-- What the text of an identifier and of a vclock says.
 use Rattle.std.proofs.Common.{◌≡◌, ℕ, suc, ◌+◌, ◌<◌, ◌≤◌, ◌/◌, ◌%◌, Bool, true, false, if◌then◌else◌, Some, List, ◌++◌, length, drop, slice_index, All, not, nat_eq, ◌∷◌, [], IsTrue, ◌↔◌, ◌⊎◌, inl, inr, refl, sym, ap, subst, ◌∙◌, arith, ◌==◌}
 use Rattle.std.proofs.lemmas.Bool.{cases_lt}
 use Rattle.std.specs.Cmp.Lexicographic.{pointwise, same_text, other_text}

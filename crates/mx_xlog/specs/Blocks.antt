@@ -1,5 +1,6 @@
 -- The blocks of journal and snapshot files, and the marker at a file's end.
-use Rattle.std.specs.Prelude.{◌≡◌, ℕ, ◌+◌, ◌≤◌, List, [], ◌∷◌, ◌++◌, length, drop}
+use Rattle.std.specs.Prelude.{◌≡◌, ℕ, ◌+◌, ◌≤◌, List, [], ◌∷◌, ◌++◌, length, map, drop}
+use Rattle.std.specs.List.{concat, AllByRecursion}
 use Rattle.byteorder.specs.Endian.{big_bytes}
 use Rattle.mx_xlog.specs.Checksums.{checksum_of}
 use Rattle.mx_xlog.specs.declared.block.Block.{Block}
@@ -31,6 +32,12 @@ end_marker = 0xd5 ∷ 0x10 ∷ 0xad ∷ 0xed ∷ []
 -- the bytes begin with a block of this data
 abbrev pub BeginsBlock : List ℕ → List ℕ → Type 0
 BeginsBlock rows bytes = (rest : List ℕ) × IsData rows × (bytes ≡ block_of rows ++ rest)
+
+-- the bytes are blocks of these data, one after the other, and then this rest, which begins with no block
+pub record SplitsInto (bytes : List ℕ) (blocks : List (List ℕ)) (rest : List ℕ) : Type 0 where
+  pub sound : AllByRecursion IsData blocks
+  pub parts : bytes ≡ concat (map block_of blocks) ++ rest
+  pub ends : (rows : List ℕ) → ¬ BeginsBlock rows rest
 
 -- the bytes begin with the marker of a file's end
 abbrev pub BeginsEnd : List ℕ → Type 0

@@ -12,7 +12,7 @@ pub record IsHead (head : Head) : Type 0 where
   pub sound : IsVclock head.clock
   pub nothing : slice_index head.clock 0 ≡ 0
 
--- the line of the replica id, which is left out for replica 1
+-- the line of the replica id, which is omitted for replica 1
 abbrev pub replica_lines : ℕ → List (List ℕ)
 replica_lines id = if id == 1 then [] else (codes "Replica: " ++ decimal id) ∷ []
 

@@ -1,6 +1,6 @@
 //! Blocks: the data of some rows after its length and its checksum.
 
-ghost use Rattle.std.specs.Prelude.{◌≡◌, ◌++◌, OnOk, MatchOption};
+ghost use Rattle.std.specs.Prelude.{◌≡◌, ◌++◌, length, take, MatchOption, MatchResult};
 ghost use Rattle.mx_xlog.specs.Blocks.{IsData, BeginsBlock, block_of, end_marker, StandsAt};
 ghost use Rattle.mx_xlog.specs.Heads.{BeginsNoBlock, block_head};
 
@@ -18,14 +18,14 @@ const MAX_DATA_SIZE: usize = 4_194_304;
 /// The marker of a file's end.
 const END_MARKER: [u8; 4] = [0xd5, 0x10, 0xad, 0xed];
 
-/// What stands at a place of a file behind its header. A place counts bytes from 0.
+/// What stands at a place of a file after its header. A place counts bytes from 0.
 #[derive(Clone, Copy, Debug, Drop, PartialEq, Eq)]
 pub enum Block {
-    /// A block, with the place of its data's first byte and the place behind its last.
+    /// A block, with the place of its data's first byte and the place after its last.
     Rows {
         /// The first byte of the data.
         from: usize,
-        /// The place behind the data.
+        /// The place after the data.
         to: usize,
     },
     /// The marker of a file's end.
@@ -36,7 +36,7 @@ pub enum Block {
     Torn(usize),
 }
 
-/// What stands at this place of the bytes. The place may lie behind their end.
+/// What stands at this place of the bytes. The place may lie beyond their end.
 pub fn read_block(bytes: &[u8], at: usize) -> Block
     ensures { StandsAt bytes.now at result }
 {
@@ -60,7 +60,6 @@ pub fn read_block(bytes: &[u8], at: usize) -> Block
     }
 }
 
-/// The data of the block that the bytes begin with.
 fn first_rows(bytes: &[u8]) -> Option<&[u8]>
     ensures { MatchOption result (BeginsNoBlock bytes.now) (λ rows. BeginsBlock rows.now bytes.now) }
 {
@@ -85,9 +84,25 @@ fn first_rows(bytes: &[u8]) -> Option<&[u8]>
 }
 
 /// Appends a block of these rows, which are 1 to 4,194,304 bytes.
+///
+/// # Errors
+/// Out of memory; nothing is appended.
 pub fn write_block(rows: &[u8], out: &mut Bytes) -> Result<(), AllocError>
     requires { IsData rows.now }
-    ensures { OnOk result (out.new ≡ out.old ++ block_of rows.now) }
+    ensures { MatchResult result (λ _. out.new ≡ out.old ++ block_of rows.now) (λ _. out.new ≡ out.old) }
+{
+    let before = out.len();
+    let written = write_parts(rows, out);
+    if written.is_err() {
+        out.truncate(before);
+    }
+    written
+}
+
+/// As `write_block`, but at an error the block's head may have been appended.
+fn write_parts(rows: &[u8], out: &mut Bytes) -> Result<(), AllocError>
+    requires { IsData rows.now }
+    ensures { MatchResult result (λ _. out.new ≡ out.old ++ block_of rows.now) (λ _. take (length out.old) out.new ≡ out.old) }
 {
     let head = block_head(rows.len() as u32, checksum(rows));
     out.extend_from_slice(&head)?;
@@ -96,14 +111,15 @@ pub fn write_block(rows: &[u8], out: &mut Bytes) -> Result<(), AllocError>
 }
 
 /// Appends the marker of a file's end.
+///
+/// # Errors
+/// Out of memory; nothing is appended.
 pub fn write_end(out: &mut Bytes) -> Result<(), AllocError>
-    ensures { OnOk result (out.new ≡ out.old ++ end_marker) }
+    ensures { MatchResult result (λ _. out.new ≡ out.old ++ end_marker) (λ _. out.new ≡ out.old) }
 {
-    out.extend_from_slice(&END_MARKER)?;
-    Ok(())
+    out.extend_from_slice(&END_MARKER)
 }
 
-/// The bytes before data of this length and checksum.
 fn block_head(size: u32, sum: u32) -> [u8; HEAD_SIZE]
     ensures { result ≡ block_head size sum }
 {

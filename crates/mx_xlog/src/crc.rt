@@ -39,7 +39,6 @@ static AFTER_BYTE: [u32; 256] = [
     0x79b737ba, 0x8bdcb4b9, 0x988c474d, 0x6ae7c44e, 0xbe2da0a5, 0x4c4623a6, 0x5f16d052, 0xad7d5351,
 ];
 
-/// The register after one byte more.
 #[inline]
 fn next_checksum(register: u32, byte: u8) -> u32
     ensures { result ≡ next_checksum register byte }

@@ -5,6 +5,7 @@ mod block;
 mod crc;
 mod head;
 mod header;
+mod laws;
 mod lines;
 mod reading;
 
@@ -12,4 +13,5 @@ pub use block::{Block, read_block, write_block, write_end};
 pub use crc::checksum;
 pub use head::Head;
 pub use header::write_header;
+pub use laws::{all_bytes_read_as_a_file, blocks_are_spelled};
 pub use reading::{HeadFault, read_header};

@@ -6,7 +6,6 @@ ghost use Rattle.mx_xlog.specs.Lines.{BeginsLine, BeginsNoLine, TellsId, TellsRe
 use mx_vclock::Vclock;
 use uuid::Uuid;
 
-/// The first line, without its newline, and the bytes after the newline.
 pub(crate) fn first_line(bytes: &[u8]) -> Option<(&[u8], &[u8])>
     ensures { MatchOption result (BeginsNoLine bytes.now) (λ found. BeginsLine found.0.now found.1.now bytes.now) }
 {
@@ -20,7 +19,6 @@ pub(crate) fn first_line(bytes: &[u8]) -> Option<(&[u8], &[u8])>
     None
 }
 
-/// What a line has after this prefix.
 pub(crate) fn behind<'a>(line: &'a [u8], prefix: &[u8]) -> Option<&'a [u8]>
     ensures { MatchOption result ((value : List ℕ) → ¬ (line.now ≡ prefix.now ++ value)) (λ value. line.now ≡ prefix.now ++ value.now) }
 {
@@ -46,7 +44,6 @@ pub(crate) fn id_behind(line: &[u8], prefix: &[u8]) -> Option<Uuid>
     Some(id)
 }
 
-/// The replica id of a line, which isn't 1.
 pub(crate) fn replica_in(line: &[u8]) -> Option<u8>
     ensures { MatchOption result ((id : ℕ) → ¬ TellsReplica id line.now) (λ id. TellsReplica id line.now) }
 {
@@ -59,7 +56,6 @@ pub(crate) fn replica_in(line: &[u8]) -> Option<u8>
     None
 }
 
-/// Whether the text is this number, which is below 100.
 fn spells(id: u8, text: &[u8]) -> bool
     requires { id < 100 }
     ensures { IsTrue result ↔ (text.now ≡ decimal id) }

@@ -56,7 +56,6 @@ pub fn read_header(bytes: &[u8]) -> Result<(Head, usize), HeadFault>
     Ok((head, bytes.len() - rest.len()))
 }
 
-/// The replica id, which is 1 where no line has another, and the bytes after its line.
 fn read_replica(bytes: &[u8]) -> (u8, &[u8])
     ensures below { result.0 < 32 }
     ensures begins { bytes.now ≡ lines_text (replica_lines result.0) ++ result.1.now }
@@ -65,7 +64,7 @@ fn read_replica(bytes: &[u8]) -> (u8, &[u8])
     replica_line(bytes).unwrap_or((1, bytes))
 }
 
-/// The line of the vclock, counted from 1, in a header of this replica id.
+/// Lines are counted from 1.
 fn clock_place(replica: u8) -> u8
     ensures place { result ≡ 5 + length (replica_lines replica) }
     ensures most { result ≤ 6 }
@@ -73,7 +72,6 @@ fn clock_place(replica: u8) -> u8
     if replica == 1 { 5 } else { 6 }
 }
 
-/// Whether the first line says that the file is a snapshot, and the bytes after the line.
 fn file_type_line(bytes: &[u8]) -> Option<(bool, &[u8])>
     ensures { MatchOption result (BeginsNone TellsFileType bytes.now) (λ found. BeginsWith TellsFileType found.0 found.1.now bytes.now) }
 {
@@ -84,7 +82,6 @@ fn file_type_line(bytes: &[u8]) -> Option<(bool, &[u8])>
     Some((false, rest))
 }
 
-/// The identifier after the prefix in the first line, and the bytes after the line.
 fn id_line<'a>(bytes: &'a [u8], prefix: &[u8]) -> Option<(Uuid, &'a [u8])>
     ensures { MatchOption result
         (BeginsNone (TellsId prefix.now) bytes.now)
@@ -94,7 +91,6 @@ fn id_line<'a>(bytes: &'a [u8], prefix: &[u8]) -> Option<(Uuid, &'a [u8])>
     Some((id_behind(line, prefix)?, rest))
 }
 
-/// The replica id of the first line, and the bytes after the line.
 fn replica_line(bytes: &[u8]) -> Option<(u8, &[u8])>
     ensures { MatchOption result (BeginsNone TellsReplica bytes.now) (λ found. BeginsWith TellsReplica found.0 found.1.now bytes.now) }
 {
@@ -102,7 +98,6 @@ fn replica_line(bytes: &[u8]) -> Option<(u8, &[u8])>
     Some((replica_in(line)?, rest))
 }
 
-/// The vclock of the first line, and the bytes after the line.
 fn clock_line(bytes: &[u8]) -> Option<(Vclock, &[u8])>
     ensures { MatchOption result (BeginsNone TellsClock bytes.now) (λ found. BeginsWith TellsClock found.0 found.1.now bytes.now) }
 {

@@ -1,6 +1,6 @@
 use Rattle.std.proofs.Common.{◌≡◌, ◌+◌, ◌++◌, take}
 use Rattle.mx_row.specs.Rows.{rows_text}
-use Rattle.mx_row.proofs.writing.write_tx.Given as goal
+use Rattle.mx_row.proofs.writing.write_rows.Given as goal
 
 abbrev pub invariant-loop-row : goal.invariant-loop-row
 invariant-loop-row l = record {
