@@ -19,7 +19,6 @@ pub fn text_of(alloc: Global, refusal: &Refusal) -> Result<Bytes, AllocError>
     Ok(text_in(alloc, refusal)?.into_bytes())
 }
 
-/// As `text_of`.
 fn text_in(alloc: Global, refusal: &Refusal) -> Result<Text, AllocError>
     ensures { IfOk result (λ text. text ≡ text_of refusal.now) }
 {
@@ -115,7 +114,6 @@ fn text_in(alloc: Global, refusal: &Refusal) -> Result<Text, AllocError>
     }
 }
 
-/// Words alone.
 fn plain(alloc: Global, words: &str) -> Result<Text, AllocError>
     ensures { IfOk result (λ text. text ≡ words.now) }
 {
@@ -123,7 +121,6 @@ fn plain(alloc: Global, words: &str) -> Result<Text, AllocError>
     text.words(words)
 }
 
-/// Words, and a number after them.
 fn up_to_count(alloc: Global, before: &str, count: u64) -> Result<Text, AllocError>
     ensures { IfOk result (λ text. text ≡ before.now ++ decimal count) }
 {
@@ -131,7 +128,6 @@ fn up_to_count(alloc: Global, before: &str, count: u64) -> Result<Text, AllocErr
     text.words(before)?.number(count)
 }
 
-/// Words with a number between them.
 fn with_count(alloc: Global, before: &str, count: u64, after: &str) -> Result<Text, AllocError>
     ensures { IfOk result (λ text. text ≡ before.now ++ decimal count ++ after.now) }
 {
@@ -139,7 +135,6 @@ fn with_count(alloc: Global, before: &str, count: u64, after: &str) -> Result<Te
     text.words(before)?.number(count)?.words(after)
 }
 
-/// Words, and a key after them.
 fn with_key(alloc: Global, before: &str, key: u8) -> Result<Text, AllocError>
     ensures { IfOk result (λ text. text ≡ before.now ++ key_text key) }
 {
@@ -147,7 +142,6 @@ fn with_key(alloc: Global, before: &str, key: u8) -> Result<Text, AllocError>
     text.words(before)?.key(key)
 }
 
-/// Words with a name between them.
 fn with_name(alloc: Global, before: &str, name: &Name, after: &str) -> Result<Text, AllocError>
     ensures { IfOk result (λ text. text ≡ before.now ++ quoted name.now ++ after.now) }
 {
@@ -155,7 +149,6 @@ fn with_name(alloc: Global, before: &str, name: &Name, after: &str) -> Result<Te
     text.words(before)?.name(name)?.words(after)
 }
 
-/// A key part or a field, and the type that is expected of it.
 fn with_type(
     alloc: Global,
     before: &str,
@@ -169,7 +162,6 @@ fn with_type(
     text.words(": ")?.words(expected.text())?.words(" expected")
 }
 
-/// The text of the refusal of this name.
 fn duplicate_key(alloc: Global, index: &Name, space: &Name) -> Result<Text, AllocError>
     ensures { IfOk result (λ text. text ≡ text_of (refusal.DuplicateKey index.now space.now)) }
 {
@@ -178,7 +170,6 @@ fn duplicate_key(alloc: Global, index: &Name, space: &Name) -> Result<Text, Allo
     text.words(" of space ")?.name(space)
 }
 
-/// The text of the refusal of this name.
 fn unsupported(alloc: Global, what: Unsupported) -> Result<Text, AllocError>
     ensures { IfOk result (λ text. text ≡ text_of (refusal.Unsupported what)) }
 {
@@ -186,7 +177,6 @@ fn unsupported(alloc: Global, what: Unsupported) -> Result<Text, AllocError>
     text.words("Unsupported: ")?.words(what.text())
 }
 
-/// The text of the refusal of this name.
 fn key_part_count(alloc: Global, parts: u32, index: u32) -> Result<Text, AllocError>
     ensures { IfOk result (λ text. text ≡ text_of (refusal.KeyPartCount parts index)) }
 {
@@ -195,7 +185,6 @@ fn key_part_count(alloc: Global, parts: u32, index: u32) -> Result<Text, AllocEr
     text.words(" parts, index of ")?.number(u64::from(index))
 }
 
-/// The text of the refusal of this name.
 fn index_missing(alloc: Global, index: IndexId, space: &Name) -> Result<Text, AllocError>
     ensures { IfOk result (λ text. text ≡ text_of (refusal.IndexMissing index space.now)) }
 {
@@ -204,7 +193,6 @@ fn index_missing(alloc: Global, index: IndexId, space: &Name) -> Result<Text, Al
     text.words(" in space ")?.name(space)
 }
 
-/// The text of the refusal of this name.
 fn field_count(alloc: Global, fields: u32, expected: u32) -> Result<Text, AllocError>
     ensures { IfOk result (λ text. text ≡ text_of (refusal.FieldCount fields expected)) }
 {
@@ -215,7 +203,6 @@ fn field_count(alloc: Global, fields: u32, expected: u32) -> Result<Text, AllocE
         .words(" expected")
 }
 
-/// The text of the refusal of this name.
 fn index_not_unique(alloc: Global, index: &Name, space: &Name) -> Result<Text, AllocError>
     ensures { IfOk result (λ text. text ≡ text_of (refusal.IndexNotUnique index.now space.now)) }
 {
@@ -226,7 +213,6 @@ fn index_not_unique(alloc: Global, index: &Name, space: &Name) -> Result<Text, A
         .words(" is not unique")
 }
 
-/// The text of the refusal of this name.
 fn outside_journal(alloc: Global, reached: &Reach) -> Result<Text, AllocError>
     ensures { IfOk result (λ text. text ≡ outside_text reached.now) }
 {

@@ -26,7 +26,6 @@ impl Model for Text {
 }
 
 impl Text {
-    /// An empty text.
     pub(crate) fn new(alloc: Global) -> Text
         ensures { result ≡ [] }
     {
@@ -36,14 +35,12 @@ impl Text {
         }
     }
 
-    /// The text's bytes.
     pub(crate) fn into_bytes(self) -> Bytes
         ensures { result ≡ self }
     {
         self.bytes
     }
 
-    /// Adds words.
     pub(crate) fn words(mut self, words: &str) -> Result<Text, AllocError>
         ensures { IfOk result (λ text. text ≡ self ++ words.now) }
     {
@@ -51,7 +48,6 @@ impl Text {
         Ok(self)
     }
 
-    /// Adds a number in decimal digits.
     pub(crate) fn number(mut self, number: u64) -> Result<Text, AllocError>
         ensures { IfOk result (λ text. text ≡ self ++ decimal number) }
     {
@@ -60,7 +56,6 @@ impl Text {
         Ok(self)
     }
 
-    /// Adds a key of a header or body, in two hexadecimal digits.
     pub(crate) fn key(mut self, key: u8) -> Result<Text, AllocError>
         ensures { IfOk result (λ text. text ≡ self ++ key_text key) }
     {
@@ -69,7 +64,6 @@ impl Text {
         Ok(self)
     }
 
-    /// Adds a name in quotation marks.
     pub(crate) fn name(mut self, name: &Name) -> Result<Text, AllocError>
         ensures { IfOk result (λ text. text ≡ self ++ quoted name.now) }
     {
@@ -79,7 +73,6 @@ impl Text {
         Ok(self)
     }
 
-    /// Adds a vclock.
     pub(crate) fn clock(mut self, clock: &Vclock) -> Result<Text, AllocError>
         ensures { IfOk result (λ text. text ≡ self ++ vclock.vclock_text clock.now) }
     {
@@ -89,7 +82,6 @@ impl Text {
     }
 }
 
-/// A digit from 0 to 15, a lower-case letter from ten on.
 fn hex_digit(digit: u8) -> u8
     requires { digit < 16 }
     ensures { result ≡ hex_digit digit }

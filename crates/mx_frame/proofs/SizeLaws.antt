@@ -36,7 +36,7 @@ width_is leading width (inr (inr (inl (l, w)))) = rw (l, w) refl
 width_is leading width (inr (inr (inr (inl (l, w))))) = rw (l, w) refl
 width_is leading width (inr (inr (inr (inr (l, w))))) = rw (l, w) refl
 
--- the number of a leading byte and the bytes behind it
+-- the number of a leading byte and the bytes after it
 abbrev pub number_of : (leading width : ℕ) → List ℕ → ℕ
 number_of leading zero digits = leading
 number_of leading (suc width) digits = big_number (suc width) digits
@@ -101,7 +101,7 @@ pub none_read : (leading : ℕ) (rest : List ℕ) → width_behind leading ≡ N
 unfolding size_at
 none_read leading rest e = rw e refl
 
--- a spelled number at the front
+-- a spelled number as a prefix
 pub number_read : (number : ℕ) (front rest : List ℕ) → SpellsUnsigned number front → size_at (front ++ rest) ≡ size_in_limit number rest
 number_read number front rest spelled =
     let s = spelling number front spelled in
@@ -114,7 +114,7 @@ number_read number front rest spelled =
     ∙ ap (λ (n : ℕ). size_in_limit n (drop s.width (s.digits ++ rest))) (sym s.same)
     ∙ ap (size_in_limit number) (drop_at s.digits rest s.width long)
 
--- the front of a number's spelling
+-- a proper prefix of a number's spelling
 pub front_read : (number : ℕ) (bytes missing : List ℕ) → 0 < length missing → SpellsUnsigned number (bytes ++ missing) → size_at bytes ≡ Part
 unfolding size_at
 front_read number [] missing some spelled = refl

@@ -58,7 +58,7 @@ codes_above a b one other e = record {
 
 -- ---- numbers of a fixed width
 
--- the highest digit decides, and where it doesn't, what is left
+-- the highest digit decides, else the rest
 digits_order : (base a b r s : ℕ) → r < base → s < base → ordering_then (nat_cmp a b) (nat_cmp r s) ≡ nat_cmp (a * base + r) (b * base + s)
 digits_order base a b r s low low' = nat_cmp_is _ _ _ (by_digit (nat_cmp a b) (ranked a b (nat_cmp a b) refl))
   where
@@ -80,7 +80,7 @@ digits_order base a b r s low low' = nat_cmp_is _ _ _ (by_digit (nat_cmp a b) (r
         let parts : (b + 1) * base ≡ b * base + 1 * base = add-mul b 1 base in
         omega arith
 
--- a number by its highest byte and what is left
+-- a number by its highest byte and the rest
 highest_byte : (n x : ℕ) → byte_at n x * 256 ^ n + x % 256 ^ n ≡ x % 256 ^ suc n
 highest_byte n x =
     let rest = big_from-cons 0 n (byte_at n x) (bytes_high_first n x ++ []) ∙ big_from-bytes n x [] in

@@ -30,7 +30,7 @@ AreFit-push (first ∷ parts) part fit fits = (fit.0, AreFit-push parts part fit
 
 -- ---- what makes a key or fails, seen after some of its parts
 
--- the whole key is these parts and then what is left to be made
+-- the whole key is these parts and then the remaining ones
 pub record IsSoFar {E : Type 0} (whole left : Result Key E) (out : List ℕ) : Type 0 where
   pub done : Key
   pub fit : AreFit done
@@ -96,7 +96,7 @@ bad_item def others part count place rest below parts e =
 
 -- ---- by owned values
 
--- some parts are written, and the values that are left are the others
+-- some parts are written, and the remaining values are the others
 pub record IsWritten (left : List Value) (out : List ℕ) (key : Key) : Type 0 where
   pub rest : Key
   pub parts : AreParts left rest

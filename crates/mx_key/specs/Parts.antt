@@ -62,7 +62,7 @@ key_of (part ∷ parts) fields = do
   others ← key_of parts fields
   Ok (first ∷ others)
 
--- The parts that items are, the first of them in this place; or the first one of another type. Items without a part are passed over.
+-- The parts that items are, the first of them in this place; or the first one of another type. Items without a part are skipped.
 abbrev pub parts_of_items : ℕ → List Part → List (List ℕ) → Result Key Misfit
 parts_of_items place def [] = Ok []
 parts_of_items place [] (item ∷ items) = Ok []

@@ -5,7 +5,7 @@ use Rattle.mx_key.specs.declared.iterator.IterKind.{IterKind}
 use Rattle.mx_key.specs.declared.iterator.IterKind.TheVariants.{Eq, Req, All, Lt, Le, Ge, Gt}
 use Rattle.mx_key.specs.Keys.{Key, AreFit, key_cmp, is_key_prefix}
 
--- an end at a key: an inclusive one takes in all keys with this prefix, an exclusive one leaves all of them out
+-- an end at a key: an inclusive one includes all keys with this prefix, an exclusive one none of them
 pub data End : Type 0 where
   Inclusive : Key → End
   Exclusive : Key → End
@@ -47,7 +47,7 @@ range_by Gt key = record { low = Exclusive key; high = Open }
 range_by Le key = record { low = Open; high = Inclusive key }
 range_by Lt key = record { low = Open; high = Exclusive key }
 
--- what an iterator goes through from a key; an empty key sets no end
+-- what an iterator scans from a key; an empty key sets no end
 abbrev pub range_of : IterKind → Key → Range
 range_of iterator [] = whole_range
 range_of iterator (part ∷ parts) = range_by iterator (part ∷ parts)

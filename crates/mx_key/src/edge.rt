@@ -27,7 +27,6 @@ pub struct KeyRange {
 }
 
 impl Edge {
-    /// The end as the bound of a map's range.
     fn bound(&self) -> Bound<&Bytes>
         ensures { bound_map (λ x. x.now) result ≡ bound_of self.now }
     {
@@ -38,7 +37,6 @@ impl Edge {
         }
     }
 
-    /// Whether bytes are not below a low end.
     fn is_within_low(&self, bytes: &[u8]) -> bool
         ensures { result ≡ is_within_low self.now bytes.now }
     {
@@ -49,7 +47,6 @@ impl Edge {
         }
     }
 
-    /// Whether bytes are not above a high end.
     fn is_within_high(&self, bytes: &[u8]) -> bool
         ensures { result ≡ is_within_high self.now bytes.now }
     {
@@ -83,8 +80,8 @@ impl KeyRange {
         self.low.is_within_low(bytes) && self.high.is_within_high(bytes)
     }
 
-    /// Ends the range with a key, given by its comparable bytes: a range that is gone through
-    /// downwards at its low end, and upwards at its high end.
+    /// Ends the range with a key of these comparable bytes: at its low end where the scan is downward,
+    /// else at its high end.
     pub fn end_with(&mut self, alloc: Global, down: bool, key: &[u8]) -> Result<(), AllocError>
         ensures err { OnErr result (self.new ≡ self.old) }
         ensures ended { (range : Range) (last : Key) → self.old ≡ edges_of range → key.now ≡ comparable_of last

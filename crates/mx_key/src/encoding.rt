@@ -22,10 +22,7 @@ pub fn comparable(alloc: Global, values: &Values) -> Result<Bytes, AllocError>
     Ok(key)
 }
 
-/// Adds the comparable bytes of the part that a value is; none where it is no part.
-///
-/// # Errors
-/// A prefix of the bytes may have been added.
+/// Adds nothing where the value is no part. At an error a prefix may have been added.
 fn write_value(value: &Value, out: &mut Bytes) -> Result<(), AllocError>
     ensures { OnOk result ((part : KeyPart) → part_of_value value.now ≡ Some part → IsFit part → out.new ≡ out.old ++ part_bytes part) }
 {

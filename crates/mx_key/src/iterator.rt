@@ -3,7 +3,7 @@
 ghost use Rattle.std.specs.Prelude.{◌≡◌};
 ghost use Rattle.mx_key.specs.Ranges.{descends};
 
-/// What a SELECT goes through, from its key on, and in which direction.
+/// What a SELECT scans, from its key on, and in which direction.
 #[derive(Clone, Copy, Debug, Drop, PartialEq, Eq)]
 pub enum IterKind {
     /// All keys with this prefix, upwards.

@@ -33,7 +33,6 @@ pub fn key_of(alloc: Global, def: &KeyDef, fields: &FieldSlices<'_>) -> Result<B
     Ok(key)
 }
 
-/// Adds the comparable bytes of the part that a tuple's field makes.
 fn write_field(part: Part, fields: &FieldSlices<'_>, out: &mut Bytes) -> Result<(), KeyFault>
     ensures { MatchResult result
         (λ _. (found : KeyPart) × (part_of part (slice_get fields.now part.field) ≡ Ok found) × IsFit found × (out.new ≡ out.old ++ part_bytes found))

@@ -1,4 +1,4 @@
-//! Keys: their parts, their order as bytes, and the ranges that iterators go through.
+//! Keys: their parts, their order as bytes, and the ranges that iterators scan.
 #![tactic(auto)]
 
 mod edge;

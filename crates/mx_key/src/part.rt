@@ -19,7 +19,6 @@ pub enum PartKind {
 }
 
 impl PartKind {
-    /// The type of the values that the part may be.
     pub(crate) fn value_type(self) -> ValueType
         ensures { result ≡ part_value_type self }
     {

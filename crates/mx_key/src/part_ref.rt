@@ -36,7 +36,6 @@ pub fn part_in(kind: PartKind, spelling: &[u8]) -> Option<PartRef<'_>>
     }
 }
 
-/// The part that a value is, where it can be one.
 fn part_of(value: ValueRef<'_>) -> Option<PartRef<'_>>
     ensures { option_map part_view result ≡ part_shown (view value.entry) }
 {

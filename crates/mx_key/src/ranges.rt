@@ -1,4 +1,4 @@
-//! The range that an iterator goes through from a key.
+//! The range that an iterator scans from a key.
 
 ghost use Rattle.std.specs.Prelude.{◌≡◌, ◌≤◌, ◌++◌, length, OnOk, Ok, Err, IfOk, MatchOption};
 ghost use Rattle.std.specs.BTreeMap.Range.{IsLeBy, IsLtBy};
@@ -36,7 +36,6 @@ pub fn misfit(def: &KeyDef, key: &[u8]) -> Option<Misfit>
     wrong_part(parts, items)
 }
 
-/// The first item that is no part of its type; `None` where each is.
 fn wrong_part(parts: &[Part], items: Items<'_>) -> Option<Misfit>
     requires { items.count ≤ length parts.now }
     ensures { MatchOption result
@@ -58,7 +57,7 @@ fn wrong_part(parts: &[Part], items: Items<'_>) -> Option<Misfit>
     None
 }
 
-/// The range that an iterator goes through from a key, which is an array that fits an index of these parts.
+/// The range that an iterator scans from a key, which is an array that fits an index of these parts.
 pub fn range(
     alloc: Global,
     def: &KeyDef,
@@ -78,7 +77,7 @@ pub fn range(
     range_by(alloc, iterator, bytes)
 }
 
-/// The range that an iterator goes through from a key of one part or more, given by its comparable bytes.
+/// The key has one part or more.
 #[tactic(auto, using(crate::proofs::RangeLaws::not_above_prefix_end))]
 fn range_by(alloc: Global, iterator: IterKind, key: Bytes) -> Result<KeyRange, AllocError>
     ensures picked { (fitting : Key) → key ≡ comparable_of fitting → IfOk result (λ range. range ≡ edges_of (range_by iterator fitting)) }
@@ -97,7 +96,7 @@ fn range_by(alloc: Global, iterator: IterKind, key: Bytes) -> Result<KeyRange, A
     Ok(KeyRange { low, high })
 }
 
-/// The comparable bytes of a key that fits an index of these parts; none where it is no array.
+/// Of a key that is no array there are no bytes.
 fn key_bytes(alloc: Global, def: &KeyDef, key: &[u8]) -> Result<Bytes, AllocError>
     ensures { (fitting : Key) → key_of_array def.now key.now ≡ Ok fitting → IfOk result (λ bytes. bytes ≡ comparable_of fitting) }
 {
@@ -113,7 +112,6 @@ fn key_bytes(alloc: Global, def: &KeyDef, key: &[u8]) -> Result<Bytes, AllocErro
     Ok(bytes)
 }
 
-/// Adds the comparable bytes of the items, which are parts of these types.
 fn write_items(parts: &[Part], items: Items<'_>, out: &mut Bytes) -> Result<(), AllocError>
     requires { items.count ≤ length parts.now }
     ensures { OnOk result ((fitting : Key) → parts_of_items 0 parts.now (values_from items.entry.count items.entry.bytes.now) ≡ Ok fitting

@@ -26,8 +26,6 @@ pub fn write_part(part: PartRef<'_>, out: &mut Bytes) -> Result<(), AllocError>
     }
 }
 
-/// Adds a number's comparable bytes: its kind, and how far it is above the least number of 64 bits,
-/// in 9 bytes.
 fn write_number(number: i128, out: &mut Bytes) -> Result<(), AllocError>
     ensures { OnOk result (Fits64 number → out.new ≡ out.old ++ part_bytes (Integer number)) }
 {
@@ -47,8 +45,6 @@ fn number_above_least(number: i128) -> u128
     (number + 0x8000_0000_0000_0000) as u128
 }
 
-/// Adds the byte of a kind, and then bytes in which each byte 0 is followed by a byte 255, with two
-/// bytes 0 at the end.
 fn write_content(kind: u8, content: &[u8], out: &mut Bytes) -> Result<(), AllocError>
     ensures { OnOk result (out.new ≡ out.old ++ kind ∷ content_bytes content.now) }
 {

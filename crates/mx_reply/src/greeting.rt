@@ -32,7 +32,6 @@ pub fn write_greeting(
     Ok(greeting)
 }
 
-/// Appends a line, padded with spaces.
 fn push_line(out: &mut Vec<u8>, text: &[u8]) -> Result<(), AllocError>
     ensures { OnOk result (out.new.items ≡ out.old.items ++ padded_line text.now) }
 {

@@ -24,10 +24,7 @@ pub(crate) struct Header {
     pub(crate) kind: u32,
 }
 
-/// Appends the packet whose body is the prefix and then the parts.
-///
-/// # Errors
-/// Memory ran out, or the packet has more than 2^32 - 1 bytes after its size; nothing was appended.
+/// More than 2^32 - 1 bytes after the packet's size are an error, too.
 pub(crate) fn write_packet(
     header: Header,
     prefix: &[u8],
@@ -47,7 +44,6 @@ pub(crate) fn write_packet(
     written
 }
 
-/// As `write_packet`, but out of memory a prefix of the packet may have been appended.
 fn write_pieces(
     header: Header,
     prefix: &[u8],
@@ -71,7 +67,6 @@ fn write_pieces(
     Ok(())
 }
 
-/// The size of all parts, up to `usize::MAX`.
 fn total_size(parts: &[Bytes]) -> usize
     ensures { result ≡ min (length (concat parts.now)) (2 ^ 64 - 1) }
 {
@@ -82,7 +77,6 @@ fn total_size(parts: &[Bytes]) -> usize
     size
 }
 
-/// Appends the parts; out of memory some of the first may have been appended.
 fn write_each(parts: &[Bytes], out: &mut Bytes) -> Result<(), AllocError>
     ensures { MatchResult result (λ _. out.new ≡ out.old ++ concat parts.now) (λ _. take (length out.old) out.new ≡ out.old) }
 {
@@ -92,7 +86,6 @@ fn write_each(parts: &[Bytes], out: &mut Bytes) -> Result<(), AllocError>
     Ok(())
 }
 
-/// The bytes of a packet before its body.
 fn packet_head(size: u32, header: Header) -> [u8; 28]
     ensures { result ≡ (0xce ∷ big_bytes 4 size) ++ reply_header header.schema header.sync.0 header.kind }
 {

@@ -7,16 +7,13 @@ use crate::body::ReplyBody;
 use crate::packet::{Header, write_packet};
 use byteorder::{BigEndian, ByteOrder};
 use mx_base::{Refusal, SyncId, code_of, text_of};
-use mx_msgpack::{Bytes, write_str_head};
+use mx_msgpack::{Bytes, MAX_LENGTH, write_str_head};
 use std::alloc::{AllocError, Global};
-
-/// The maximum size of a Str in bytes.
-const MAX_TEXT: usize = 2_097_152;
 
 /// Appends a success: a packet of type 0 with this sync and schema version, and the body's map.
 ///
 /// # Errors
-/// Memory ran out, or the packet has more than 2^32 - 1 bytes; nothing was appended.
+/// Out of memory, or the packet has more than 2^32 - 1 bytes; nothing was appended.
 pub fn write_ok(
     alloc: Global,
     sync: SyncId,
@@ -55,7 +52,7 @@ pub fn write_ok(
 /// schema version, and the refusal's text in a map.
 ///
 /// # Errors
-/// Memory ran out, or the text has more than 2,097,152 bytes; nothing was appended.
+/// Out of memory, or the text has more than 2,097,152 bytes; nothing was appended.
 pub fn write_error(
     alloc: Global,
     sync: SyncId,
@@ -67,7 +64,7 @@ pub fn write_error(
     ensures fits { OnOk result (23 + length (refusal_body refusal.now) < 2 ^ 32) }
 {
     let text = text_of(alloc, refusal)?;
-    if text.len() > MAX_TEXT {
+    if text.len() > MAX_LENGTH as usize {
         return Err(AllocError);
     }
     let mut head = Bytes::new(alloc);

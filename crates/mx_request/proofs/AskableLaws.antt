@@ -52,7 +52,7 @@ optional_is : {X : Type 0} (P : X → Type 0) (key : ℕ) (default : X) (kind : 
 optional_is P key default kind None x given each e = subst P (ok_is default x e) given
 optional_is P key default kind (Some value) x given each e = each value (right_is key (kind value) x e)
 
--- ---- the kinds
+-- ---- the request types
 
 number_most : (most : ℕ) (value : List ℕ) (x : ℕ) → number_to most value ≡ Some x → x ≤ most
 number_most most value x e =
@@ -286,7 +286,7 @@ module _ (body : List Pair) (request : Request) (inner : AreInner body) where
       let clock = bind_ok (required 0x26 vclock_in body) _ request e in
       asks 0 _ request clock.2 (required_clock 0x26 body clock.0 clock.1, refl)
 
--- the number of a kind
+-- the number of a request type
 abbrev number_of_type : RequestType → ℕ
 number_of_type type.Ack = 0
 number_of_type type.Select = 1
@@ -327,7 +327,7 @@ zero_is : (found : Option (List ℕ)) (kind : RequestType) → zero_type found �
 zero_is None kind e = absurd cc
 zero_is (Some clock) kind e = ap number_of_type (sym (ok_is type.Ack kind e))
 
--- the number that was tested is this kind's
+-- the number that was tested is this request type's
 picked : (number : ℕ) (one kind : RequestType) → (number == number_of_type one) ≡ true → done one ≡ done kind → number ≡ number_of_type kind
 picked number one kind t e = eqb-true number (number_of_type one) t ∙ ap number_of_type (ok_is one kind e)
 

@@ -107,7 +107,7 @@ pub map_shown : (pairs : List Written) → AreWhole pairs → length pairs < 2 ^
     → (size : ℕ) × (reading_of (map_text pairs) ≡ Ok (ShownMap (length pairs) (pairs_text pairs), size))
 map_shown pairs whole few = let s = spelled_so 63 pairs whole in headed_shown (length pairs) s.all (pairs_text pairs) (sym s.many) few s.spelled
 
--- a map may stand in a map, where its values leave room for it
+-- a map may stand in a map, where its values nest no deeper than that allows
 pub map_inner : (pairs : List Written) → AreWithin 62 pairs → length pairs ≤ max_length → IsInner (map_text pairs)
 map_inner pairs within few =
     let s = spelled_so 62 pairs within in

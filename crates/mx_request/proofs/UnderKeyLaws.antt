@@ -25,7 +25,7 @@ pub only_key : (key default number : ℕ) → OnlyKey key (unless_default key de
 only_key key default number other differ =
     cond_both (number == default) _ _ (λ (pairs : List Written). found other pairs ≡ None) (λ _. refl) (λ _. rw differ refl)
 
--- a key that is left out where its number is the default
+-- a key that is omitted where its number is the default
 pub optional_again : (key default number : ℕ) (kind : List ℕ → Option ℕ) (pairs : List Written) → found key pairs ≡ found key (unless_default key default number)
     → kind (shortest_unsigned number) ≡ Some number → optional key default kind (map as_read pairs) ≡ Ok number
 optional_again key default number kind pairs e k =

@@ -29,7 +29,7 @@ pairs_text-append first second = ap concat (map-append entry_text first second) 
 in_parts : (out head first a b c d last : List ℕ) → (((((((out ++ head) ++ first) ++ a) ++ b) ++ c) ++ d) ++ last) ≡ out ++ (head ++ (first ++ ((((a ++ b) ++ c) ++ d) ++ last)))
 in_parts out head first a b c d last = simp append_assoc
 
--- the pairs of a selection, four of which may be left out
+-- the pairs of a selection, four of which may be omitted
 module _ (first last : Written) (a b c d : List Written) where
   abbrev selected : List Written
   selected = first ∷ (a ++ b ++ c ++ d ++ last ∷ [])

@@ -20,7 +20,7 @@ use Rattle.mx_request.proofs.ClockTextLaws.{clock_read_again}
 use Rattle.mx_request.proofs.UnderKeyLaws.{found, OnlyKey, only_key, optional_again, required_again, space_found, index_found, limit_found, offset_found, iterator_found, key_found, change_space, change_index, change_base, change_key, change_operations, removal_space, removal_index, removal_key, upsertion_space, upsertion_base, upsertion_tuple, upsertion_operations, header_kind, header_sync, header_stream}
 use Rattle.mx_request.proofs.WholeLaws.{body_few, body_whole, header_few, header_whole}
 
--- the body is of this request's kind, and asks it
+-- the body is of this request's type, and asks it
 record Reads (request : Request) (body : List Pair) : Type 0 where
   kind : RequestType
   told : request_type_of (type_number request) body ≡ Ok kind

@@ -1,5 +1,5 @@
--- How a request is written: a packet of a header map and, where the body has keys, a body map, keys rising, each key and
--- number spelled shortest. A key with a default is written where its value is another one.
+-- How a request is written: a packet of a header map and, where the body has keys, a body map, keys ascending, each key and
+-- number spelled shortest. A key whose value is its default is omitted.
 use Rattle.std.specs.Prelude.{◌≡◌, ⊤, ℕ, ◌-◌, ◌^◌, ◌<◌, ◌≤◌, List, [], ◌∷◌, ◌++◌, length, map, slice_index, None, ◌==◌, if◌then◌else◌}
 use Rattle.std.specs.List.{concat}
 use Rattle.byteorder.specs.Endian.{big_bytes}
@@ -115,7 +115,7 @@ IsAskable (Subscribe instance set clock) = IsUuid instance × IsUuid set × IsVc
 IsAskable (Ack clock) = IsVclock clock
 IsAskable _ = ⊤
 
--- A vclock that is written has no component of the replica id 0, since that is left out.
+-- A vclock that is written has no component of the replica id 0, since that is omitted.
 abbrev pub IsShared : Request → Type 0
 IsShared (Subscribe instance set clock) = slice_index clock 0 ≡ 0
 IsShared (Ack clock) = slice_index clock 0 ≡ 0

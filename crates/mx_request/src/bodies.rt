@@ -50,7 +50,6 @@ pub(crate) fn body_request(
     }
 }
 
-/// What a SELECT asks.
 #[tactic(auto, unfolding(crate::specs::Requests::select_in))]
 fn select_in(body: &[u8]) -> Result<RequestRef<'_>, Refusal>
     ensures { Gives request_view result (select_in (pairs_in body.now)) }
@@ -79,7 +78,6 @@ fn select_in(body: &[u8]) -> Result<RequestRef<'_>, Refusal>
     })
 }
 
-/// What an INSERT asks.
 #[tactic(auto, unfolding(crate::specs::Requests::insert_in))]
 fn insert_in(body: &[u8]) -> Result<RequestRef<'_>, Refusal>
     ensures { Gives request_view result (insert_in (pairs_in body.now)) }
@@ -93,7 +91,6 @@ fn insert_in(body: &[u8]) -> Result<RequestRef<'_>, Refusal>
     })
 }
 
-/// What a REPLACE asks.
 #[tactic(auto, unfolding(crate::specs::Requests::replace_in))]
 fn replace_in(body: &[u8]) -> Result<RequestRef<'_>, Refusal>
     ensures { Gives request_view result (replace_in (pairs_in body.now)) }
@@ -107,7 +104,6 @@ fn replace_in(body: &[u8]) -> Result<RequestRef<'_>, Refusal>
     })
 }
 
-/// What an UPDATE asks.
 #[tactic(auto, unfolding(crate::specs::Requests::update_in))]
 fn update_in(body: &[u8]) -> Result<RequestRef<'_>, Refusal>
     ensures { Gives request_view result (update_in (pairs_in body.now)) }
@@ -134,7 +130,6 @@ fn update_in(body: &[u8]) -> Result<RequestRef<'_>, Refusal>
     })
 }
 
-/// What a DELETE asks.
 #[tactic(auto, unfolding(crate::specs::Requests::delete_in))]
 fn delete_in(body: &[u8]) -> Result<RequestRef<'_>, Refusal>
     ensures { Gives request_view result (delete_in (pairs_in body.now)) }
@@ -149,7 +144,6 @@ fn delete_in(body: &[u8]) -> Result<RequestRef<'_>, Refusal>
     })
 }
 
-/// What an UPSERT asks.
 #[tactic(auto, unfolding(crate::specs::Requests::upsert_in))]
 fn upsert_in(body: &[u8]) -> Result<RequestRef<'_>, Refusal>
     ensures { Gives request_view result (upsert_in (pairs_in body.now)) }
@@ -169,7 +163,7 @@ fn upsert_in(body: &[u8]) -> Result<RequestRef<'_>, Refusal>
     })
 }
 
-/// What a BEGIN asks. The isolation level is checked and not kept, since there is only one.
+/// The isolation level is checked and not kept, since there is only one.
 #[tactic(auto, unfolding(crate::specs::Requests::begin_in))]
 fn begin_in(body: &[u8]) -> Result<RequestRef<'_>, Refusal>
     ensures { Gives request_view result (begin_in (pairs_in body.now)) }
@@ -181,7 +175,6 @@ fn begin_in(body: &[u8]) -> Result<RequestRef<'_>, Refusal>
     Ok(RequestRef::Plain(Request::Begin))
 }
 
-/// What a JOIN asks.
 #[tactic(auto, unfolding(crate::specs::Requests::join_in))]
 fn join_in(body: &[u8]) -> Result<RequestRef<'_>, Refusal>
     ensures { Gives request_view result (join_in (pairs_in body.now)) }
@@ -194,7 +187,6 @@ fn join_in(body: &[u8]) -> Result<RequestRef<'_>, Refusal>
     }))
 }
 
-/// What a SUBSCRIBE asks.
 #[tactic(auto, unfolding(crate::specs::Requests::subscribe_in))]
 fn subscribe_in(body: &[u8]) -> Result<RequestRef<'_>, Refusal>
     ensures { Gives request_view result (subscribe_in (pairs_in body.now)) }
@@ -213,7 +205,6 @@ fn subscribe_in(body: &[u8]) -> Result<RequestRef<'_>, Refusal>
     }))
 }
 
-/// What an ACK asks.
 #[tactic(auto, unfolding(crate::specs::Requests::ack_in))]
 fn ack_in(body: &[u8]) -> Result<RequestRef<'_>, Refusal>
     ensures { Gives request_view result (ack_in (pairs_in body.now)) }
@@ -226,7 +217,6 @@ fn ack_in(body: &[u8]) -> Result<RequestRef<'_>, Refusal>
     }))
 }
 
-/// The operations, where each has the shape of one.
 fn shaped(operations: &[u8]) -> Result<&[u8], Refusal>
     ensures { Gives (λ shaped. shaped.now) result (operations_in operations.now) }
 {

@@ -45,7 +45,6 @@ pub fn read_request(
     }
 }
 
-/// What a header and a body ask, or the first reason why they are refused.
 #[tactic(auto, unfolding(crate::specs::Requests::request_in))]
 fn request_in<'a>(header: &[u8], body: &'a [u8]) -> Result<(Head3, RequestRef<'a>), Refusal>
     ensures { Gives (λ asked. (asked.0, request_view asked.1)) result (request_in (pairs_in header.now) (pairs_in body.now)) }

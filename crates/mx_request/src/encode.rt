@@ -20,7 +20,7 @@ use uuid::Uuid;
 const NO_LIMIT: u64 = 0xffff_ffff;
 
 /// Adds the packet of a request, its size included: a header of type, sync and stream, and a body
-/// where the request has keys. A key with a default is left out where its value is that.
+/// where the request has keys. A key whose value is its default is omitted.
 ///
 /// # Errors
 /// Out of memory, or header and body have more than 2^32 - 1 bytes together. Nothing is added.
@@ -40,10 +40,7 @@ pub fn write_request(
     write_sized(&content, out)
 }
 
-/// Adds bytes behind their number, which takes 32 bits.
-///
-/// # Errors
-/// Out of memory, or there are more than 2^32 - 1 bytes. Nothing is added.
+/// More than 2^32 - 1 bytes are an error, too.
 fn write_sized(content: &Bytes, out: &mut Bytes) -> Result<(), AllocError>
     ensures written { MatchResult result (λ _. out.new ≡ out.old ++ ((0xce ∷ big_bytes 4 (length content.now)) ++ content.now)) (λ _. out.new ≡ out.old) }
     ensures fits { OnOk result (length content.now < 2 ^ 32) }
@@ -61,7 +58,6 @@ fn write_sized(content: &Bytes, out: &mut Bytes) -> Result<(), AllocError>
     written
 }
 
-/// Adds two slices. At an error the first may have been added.
 fn write_both(first: &[u8], second: &[u8], out: &mut Bytes) -> Result<(), AllocError>
     ensures { MatchResult result (λ _. out.new ≡ out.old ++ (first.now ++ second.now)) (λ _. take (length out.old) out.new ≡ out.old) }
 {
@@ -69,7 +65,6 @@ fn write_both(first: &[u8], second: &[u8], out: &mut Bytes) -> Result<(), AllocE
     out.extend_from_slice(second)
 }
 
-/// Adds the map of a header.
 fn write_header(head: &Head3, out: &mut Bytes) -> Result<(), AllocError>
     ensures { OnOk result (out.new ≡ out.old ++ map_text (header_pairs head.now)) }
 {
@@ -80,7 +75,6 @@ fn write_header(head: &Head3, out: &mut Bytes) -> Result<(), AllocError>
     write_unless(0, keys::STREAM, head.stream.0, out)
 }
 
-/// Adds the map of a body; nothing where the request has no keys.
 fn write_body(request: &Request, out: &mut Bytes) -> Result<(), AllocError>
     ensures { OnOk result (out.new ≡ out.old ++ request_body_text (body_pairs request.now)) }
 {
@@ -125,7 +119,6 @@ fn write_body(request: &Request, out: &mut Bytes) -> Result<(), AllocError>
     }
 }
 
-/// Adds the body of a selection.
 fn write_select(
     space: SpaceId,
     index: IndexId,
@@ -154,7 +147,6 @@ fn write_select(
     write_array(keys::PARTS, key, out)
 }
 
-/// Adds the body of an insertion or a replacement.
 fn write_tuple(space: SpaceId, tuple: &Bytes, out: &mut Bytes) -> Result<(), AllocError>
     ensures { OnOk result (out.new ≡ out.old ++ map_text (body_pairs (request.Insert space tuple.now))) }
 {
@@ -163,7 +155,6 @@ fn write_tuple(space: SpaceId, tuple: &Bytes, out: &mut Bytes) -> Result<(), All
     write_array(keys::TUPLE, tuple, out)
 }
 
-/// Adds the body of an update.
 fn write_update(
     space: SpaceId,
     index: IndexId,
@@ -184,7 +175,6 @@ fn write_update(
     write_array(keys::TUPLE, operations, out)
 }
 
-/// Adds the body of a deletion.
 fn write_delete(
     space: SpaceId,
     index: IndexId,
@@ -200,7 +190,6 @@ fn write_delete(
     write_array(keys::PARTS, key, out)
 }
 
-/// Adds the body of an upsert.
 fn write_upsert(
     space: SpaceId,
     base: u32,
@@ -218,7 +207,6 @@ fn write_upsert(
     write_array(keys::OPERATIONS, operations, out)
 }
 
-/// Adds the body of a joining replica.
 fn write_join(instance: &Uuid, out: &mut Bytes) -> Result<(), AllocError>
     ensures { OnOk result (out.new ≡ out.old ++ map_text (body_pairs (request.Join instance.now))) }
 {
@@ -226,7 +214,6 @@ fn write_join(instance: &Uuid, out: &mut Bytes) -> Result<(), AllocError>
     write_uuid(keys::INSTANCE, instance, out)
 }
 
-/// Adds the body of a subscribing replica.
 fn write_subscribe(
     instance: &Uuid,
     set: &Uuid,
@@ -241,7 +228,6 @@ fn write_subscribe(
     write_clock(keys::CLOCK, clock, out)
 }
 
-/// Adds the body of an acknowledgement.
 fn write_ack(clock: &Vclock, out: &mut Bytes) -> Result<(), AllocError>
     ensures { OnOk result (out.new ≡ out.old ++ map_text (body_pairs (request.Ack clock.now))) }
 {
@@ -249,7 +235,6 @@ fn write_ack(clock: &Vclock, out: &mut Bytes) -> Result<(), AllocError>
     write_clock(keys::CLOCK, clock, out)
 }
 
-/// How many pairs an optional key comes to: one where its number isn't the default, else none.
 fn pairs_unless(default: u64, number: u64) -> usize
     ensures count { (key : ℕ) → result ≡ length (unless_default key default number) }
     ensures few { result ≤ 1 }
@@ -257,7 +242,6 @@ fn pairs_unless(default: u64, number: u64) -> usize
     usize::from(number != default)
 }
 
-/// Adds a key and its number, where that isn't the default.
 fn write_unless(default: u64, key: u8, number: u64, out: &mut Bytes) -> Result<(), AllocError>
     ensures { OnOk result (out.new ≡ out.old ++ concat (map entry_text (unless_default key default number))) }
 {
@@ -267,7 +251,6 @@ fn write_unless(default: u64, key: u8, number: u64, out: &mut Bytes) -> Result<(
     Ok(())
 }
 
-/// Adds a key and its number.
 fn write_number(key: u8, number: u64, out: &mut Bytes) -> Result<(), AllocError>
     ensures { OnOk result (out.new ≡ out.old ++ entry_text (key, shortest_unsigned number)) }
 {
@@ -275,7 +258,6 @@ fn write_number(key: u8, number: u64, out: &mut Bytes) -> Result<(), AllocError>
     write_unsigned(number, out)
 }
 
-/// Adds a key and its array.
 fn write_array(key: u8, array: &Bytes, out: &mut Bytes) -> Result<(), AllocError>
     ensures { OnOk result (out.new ≡ out.old ++ entry_text (key, array.now)) }
 {
@@ -283,7 +265,6 @@ fn write_array(key: u8, array: &Bytes, out: &mut Bytes) -> Result<(), AllocError
     out.extend_from_slice(array.as_slice())
 }
 
-/// Adds a key and its UUID, as a text with hyphens.
 fn write_uuid(key: u8, id: &Uuid, out: &mut Bytes) -> Result<(), AllocError>
     ensures { OnOk result (out.new ≡ out.old ++ entry_text (key, uuid_str id.now)) }
 {
@@ -294,7 +275,6 @@ fn write_uuid(key: u8, id: &Uuid, out: &mut Bytes) -> Result<(), AllocError>
     out.extend_from_slice(text.as_bytes())
 }
 
-/// Adds a key and its vclock.
 fn write_clock(key: u8, clock: &Vclock, out: &mut Bytes) -> Result<(), AllocError>
     ensures { OnOk result (out.new ≡ out.old ++ entry_text (key, clock_map clock.now)) }
 {

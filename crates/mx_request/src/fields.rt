@@ -13,7 +13,6 @@ use mx_msgpack::unsigned_in;
 use mx_vclock::Vclock;
 use uuid::Uuid;
 
-/// The number of 0 or more under a key; 0 where the key isn't there.
 pub(crate) fn optional_unsigned(key: u8, value: Option<&[u8]>) -> Result<u64, Refusal>
     ensures { result ≡ optional_value key 0 unsigned_in (option_copied value.entry) }
 {
@@ -23,7 +22,6 @@ pub(crate) fn optional_unsigned(key: u8, value: Option<&[u8]>) -> Result<u64, Re
     }
 }
 
-/// The number from 0 to `most` under a key; `default` where the key isn't there.
 pub(crate) fn optional_number(
     key: u8,
     default: u32,
@@ -40,7 +38,6 @@ pub(crate) fn optional_number(
     }
 }
 
-/// The number of 32 bits under a key that has to be there.
 pub(crate) fn required_number(key: u8, value: Option<&[u8]>) -> Result<u32, Refusal>
     ensures { result ≡ required_value key number_32 (option_copied value.entry) }
 {
@@ -50,7 +47,6 @@ pub(crate) fn required_number(key: u8, value: Option<&[u8]>) -> Result<u32, Refu
     }
 }
 
-/// The array under a key that has to be there.
 pub(crate) fn required_array(key: u8, value: Option<&[u8]>) -> Result<&[u8], Refusal>
     ensures { Gives (λ array. array.now) result (required_value key array_in (option_copied value.entry)) }
 {
@@ -60,7 +56,6 @@ pub(crate) fn required_array(key: u8, value: Option<&[u8]>) -> Result<&[u8], Ref
     }
 }
 
-/// The UUID under a key that has to be there.
 pub(crate) fn required_uuid(key: u8, value: Option<&[u8]>) -> Result<Uuid, Refusal>
     ensures { result ≡ required_value key uuid_in (option_copied value.entry) }
 {
@@ -70,7 +65,6 @@ pub(crate) fn required_uuid(key: u8, value: Option<&[u8]>) -> Result<Uuid, Refus
     }
 }
 
-/// The vclock under a key that has to be there.
 pub(crate) fn required_clock(key: u8, value: Option<&[u8]>) -> Result<Vclock, Refusal>
     ensures { result ≡ required_value key vclock_in (option_copied value.entry) }
 {
@@ -80,7 +74,6 @@ pub(crate) fn required_clock(key: u8, value: Option<&[u8]>) -> Result<Vclock, Re
     }
 }
 
-/// The number from 0 to `most` that stands first under a key.
 fn number_under(key: u8, most: u32, value: &[u8]) -> Result<u32, Refusal>
     ensures value { result ≡ legal_value key (number_to most value.now) }
     ensures most { IfOk result (λ number. number ≤ most) }
@@ -89,7 +82,6 @@ fn number_under(key: u8, most: u32, value: &[u8]) -> Result<u32, Refusal>
     Ok(number as u32)
 }
 
-/// The value under a key, where it is a legal one.
 fn legal_value<X>(key: u8, value: Option<X>) -> Result<X, Refusal>
     ensures { result ≡ legal_value key value }
 {

@@ -29,7 +29,6 @@ enum Arguments {
     Splice,
 }
 
-/// Why an array isn't one of update operations: the fault of the first that has one.
 pub(crate) fn shape_fault(operations: &[u8]) -> Option<Refusal>
     ensures { result ≡ shape_fault operations.now }
 {
@@ -39,7 +38,6 @@ pub(crate) fn shape_fault(operations: &[u8]) -> Option<Refusal>
     }
 }
 
-/// The fault of the first operation that has one. The 4,001st is one too many.
 fn first_fault(operations: Items<'_>) -> Option<Refusal>
     ensures { result ≡ first_fault_from 0 (values_from operations.entry.count operations.entry.bytes.now) }
 {
@@ -57,7 +55,6 @@ fn first_fault(operations: Items<'_>) -> Option<Refusal>
     None
 }
 
-/// Why the operation at this place has no shape of one.
 fn operation_fault(place: u32, operation: &[u8]) -> Option<Refusal>
     ensures { result ≡ operation_fault place operation.now }
 {
@@ -87,7 +84,6 @@ fn operator_of(operation: &[u8]) -> Option<(u8, Items<'_>)>
     Some((*letter, operands))
 }
 
-/// Why these are no operands of the operator with this letter.
 fn operands_fault(place: u32, letter: u8, operands: Items<'_>) -> Option<Refusal>
     ensures { result ≡ operands_fault place (arguments_of letter) (values_from operands.entry.count operands.entry.bytes.now) }
 {
@@ -101,7 +97,6 @@ fn operands_fault(place: u32, letter: u8, operands: Items<'_>) -> Option<Refusal
     }
 }
 
-/// The arguments of the operator with this letter.
 fn arguments_of(letter: u8) -> Option<Arguments>
     ensures { result ≡ arguments_of letter }
 {
@@ -115,7 +110,6 @@ fn arguments_of(letter: u8) -> Option<Arguments>
     }
 }
 
-/// Whether these are a field number, and then these arguments.
 fn are_operands(arguments: Arguments, operands: Items<'_>) -> bool
     ensures { result ≡ are_operands arguments (values_from operands.entry.count operands.entry.bytes.now) }
 {
@@ -126,7 +120,6 @@ fn are_operands(arguments: Arguments, operands: Items<'_>) -> bool
     is_int(field) && are_arguments(arguments, values)
 }
 
-/// How many values these arguments are.
 fn how_many(arguments: Arguments) -> u32
     ensures count { result ≡ argument_count arguments }
     ensures small { result ≤ 3 }
@@ -140,7 +133,6 @@ fn how_many(arguments: Arguments) -> u32
     }
 }
 
-/// Whether the values that stand here, of which there are enough, are these arguments.
 fn are_arguments(arguments: Arguments, values: &[u8]) -> bool
     ensures { result ≡ are_arguments arguments (values_from (argument_count arguments) values.now) }
 {
@@ -154,7 +146,6 @@ fn are_arguments(arguments: Arguments, values: &[u8]) -> bool
     }
 }
 
-/// Whether an Int and a text stand first.
 fn is_cut(bytes: &[u8]) -> bool
     ensures { result ≡ (is_int (first_value bytes.now) && is_text (first_value (after_value bytes.now))) }
 {
@@ -163,7 +154,6 @@ fn is_cut(bytes: &[u8]) -> bool
     is_int(cut) && text_in(text).is_some()
 }
 
-/// What the array that stands first holds.
 fn elements_in(value: &[u8]) -> Option<Items<'_>>
     ensures { option_map (λ items. values_from items.count items.bytes.now) result ≡ elements_in value.now }
 {
@@ -176,7 +166,6 @@ fn elements_in(value: &[u8]) -> Option<Items<'_>>
     }
 }
 
-/// The text that stands first.
 fn text_in(value: &[u8]) -> Option<&[u8]>
     ensures { option_copied result ≡ first_as as_text value.now }
 {
@@ -186,14 +175,12 @@ fn text_in(value: &[u8]) -> Option<&[u8]>
     }
 }
 
-/// Whether an Int stands first.
 fn is_int(value: &[u8]) -> bool
     ensures { result ≡ is_int value.now }
 {
     matches!(read_ref(value), Ok((ValueRef::Int(_), _)))
 }
 
-/// Whether an Int of 1 or more stands first.
 fn is_one_or_more(value: &[u8]) -> bool
     ensures { result ≡ is_one_or_more (unsigned_in value.now) }
 {

@@ -49,7 +49,6 @@ pub(crate) enum RequestRef<'a> {
     Plain(Request),
 }
 
-/// The request with copies of its arrays.
 pub(crate) fn to_owned(alloc: Global, request: RequestRef<'_>) -> Result<Request, AllocError>
     ensures { IfOk result (λ owned. owned ≡ request_view request.entry) }
 {

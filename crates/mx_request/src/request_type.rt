@@ -29,7 +29,6 @@ pub(crate) enum RequestType {
     Id,
 }
 
-/// The type that has this number.
 #[tactic(auto, unfolding(crate::specs::Requests::request_type_of))]
 pub(crate) fn request_type_of(number: u64, body: &[u8]) -> Result<RequestType, Refusal>
     ensures known { Gives (λ x. x) result (request_type_of number (pairs_in body.now)) }

@@ -8,19 +8,15 @@ ghost use Rattle.mx_request.specs.Values.{array_in, vclock_from, vclock_in, numb
 ghost use Rattle.mx_msgpack.specs.Readers.{unsigned_in};
 
 use mx_msgpack::{PairsRef, ValueRef, first_pair, read_ref, unsigned_in};
-use mx_vclock::Vclock;
+use mx_vclock::{MAX_LSN, Vclock};
 use uuid::Uuid;
 
 /// How many replica ids there are.
-const REPLICAS: u64 = 32;
-
-/// The greatest lsn.
-const MAX_LSN: u64 = 1 << 58;
+const REPLICAS: u64 = mx_vclock::REPLICAS as u64;
 
 /// How many bytes the hyphenated text of a UUID has.
 const UUID_TEXT: usize = 36;
 
-/// The number from 0 to this one that stands first.
 pub(crate) fn number_to(most: u64, value: &[u8]) -> Option<u64>
     ensures value { result ≡ number_to most value.now }
     ensures most { IfSome result (λ number. number ≤ most) }
@@ -32,7 +28,6 @@ pub(crate) fn number_to(most: u64, value: &[u8]) -> Option<u64>
     Some(number)
 }
 
-/// The bytes, where an array stands first in them.
 pub(crate) fn array_in(value: &[u8]) -> Option<&[u8]>
     ensures { option_copied result ≡ array_in value.now }
 {
@@ -54,7 +49,6 @@ pub(crate) fn uuid_in(value: &[u8]) -> Option<Uuid>
     }
 }
 
-/// The vclock whose map of replica ids to lsns stands first.
 pub(crate) fn vclock_in(value: &[u8]) -> Option<Vclock>
     ensures { result ≡ vclock_in value.now }
 {
@@ -67,8 +61,7 @@ pub(crate) fn vclock_in(value: &[u8]) -> Option<Vclock>
     }
 }
 
-/// The vclock of pairs of replica ids and lsns. Of an id that comes more than once the last lsn counts,
-/// and one that doesn't come has 0.
+/// Of an id that comes more than once the last lsn counts.
 fn vclock_from(pairs: PairsRef<'_>) -> Option<Vclock>
     ensures { result ≡ vclock_from (replicate replicas 0) (pairs_from pairs.entry.count pairs.entry.bytes.now) }
 {

@@ -37,7 +37,7 @@ outbox_of-push start end buffer queue front reply whole =
     let left : held_length queue ≡ length (drop end buffer) = omega (arith, length-drop end buffer) in
     rw (take-append-le end buffer reply fits, drop-append-le end buffer reply fits, held_replies-push queue (drop end buffer) front reply left) refl
 
--- ---- what left is dropped
+-- ---- what was sent is dropped
 
 pub outbox_of-drop : (start end dropped : ℕ) (buffer : List ℕ) (queue : List Held) → dropped ≤ start → start ≤ end
     → outbox_of (start - dropped) (end - dropped) (drop dropped buffer) queue ≡ outbox_of start end buffer queue
@@ -52,7 +52,7 @@ outbox_of-drop start end dropped buffer queue less order =
     ap (drop (start - dropped)) leaves ∙ drop-drop (start - dropped) dropped (take end buffer) ∙ ap (λ (n : ℕ). drop n (take end buffer)) start_is in
     rw (waits, out) refl
 
--- ---- replies that may leave
+-- ---- replies that may be sent
 
 -- no reply waits
 pub release_none : (durable start end : ℕ) (buffer : List ℕ) (queue : List Held) → ¬ (0 < length queue)
@@ -60,7 +60,7 @@ pub release_none : (durable start end : ℕ) (buffer : List ℕ) (queue : List H
 release_none durable start end buffer [] none = rw (append-nil (drop start (take end buffer))) refl
 release_none durable start end buffer (first ∷ others) none = absurd (none (omega arith))
 
--- the front of a queue
+-- the first of a queue
 front_and_others : (queue : List Held) (first : Held) → 0 < length queue → first ≡ get_or queue 0 first → queue ≡ first ∷ drop 1 queue
 front_and_others [] first some is = absurd (omega arith)
 front_and_others (held ∷ others) first some is = cc
@@ -73,7 +73,7 @@ module _ (queue others : List Held) (first : Held) (some : 0 < length queue) (is
   pub held_length-first : held_length queue ≡ first.size + held_length others
   held_length-first = ap held_length front_is ∙ held_length-cons first others
 
-  -- it may leave
+  -- it may be sent
   pub release_first : (durable start end : ℕ) (buffer : List ℕ) → start ≤ end → end ≤ length buffer → first.front ≤ durable
       → after_release durable (outbox_of start (end + first.size) buffer others) ≡ after_release durable (outbox_of start end buffer queue)
   release_first durable start end buffer order within free =
@@ -87,7 +87,7 @@ module _ (queue others : List Held) (first : Held) (some : 0 < length queue) (is
       rw (leaves, drop-drop first.size end buffer, taken, append_assoc) refl in
       front_leaves ∙ ap (λ (q : List Held). after_release durable (outbox_of start end buffer q)) (sym front_is)
 
-  -- it may not leave
+  -- it may not be sent
   pub release_not : (durable start end : ℕ) (buffer : List ℕ) → durable < first.front
       → after_release durable (outbox_of start end buffer queue) ≡ outbox_of start end buffer queue
   release_not durable start end buffer waits =

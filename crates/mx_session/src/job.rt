@@ -18,7 +18,6 @@ pub struct Job {
     pub ask: Ask,
 }
 
-/// What a packet comes to, and whether the connection ends with it.
 pub(crate) fn job_in(
     alloc: Global,
     connection: ConnId,
@@ -43,7 +42,6 @@ pub(crate) fn broken_job(connection: ConnId) -> Job
     refused_job(connection, StreamId(0), SyncId(0), Refusal::NotMessagePack)
 }
 
-/// What a header and a body ask, or why they are refused.
 fn asked_job(
     alloc: Global,
     connection: ConnId,
@@ -73,7 +71,6 @@ fn asked_job(
     }
 }
 
-/// A refusal of a packet of this connection.
 fn refused_job(connection: ConnId, stream: StreamId, sync: SyncId, refusal: Refusal) -> Job
     ensures { result ≡ record { name = record { conn = connection; stream = stream }; sync = sync; ask = Ask.Refused refusal } }
 {

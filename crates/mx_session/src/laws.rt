@@ -22,7 +22,7 @@ pub fn jobs_are_those_of_the_stream()
         → next_by connection (bytes ++ more) (first_frame (bytes ++ more)) ≡ JobSeen job (rest ++ more) last }
     // After the end bytes count for nothing.
     ensures ended { (connection : ℕ) (bytes more : List ℕ) → ends connection bytes ≡ true → jobs_of connection (bytes ++ more) ≡ jobs_of connection bytes }
-    // Before the end a further piece adds the jobs of what was left, with the piece after it.
+    // Before the end a further piece adds the jobs of what remained, with the piece after it.
     ensures in_pieces { (connection : ℕ) (bytes more : List ℕ) → ends connection bytes ≡ false
         → jobs_of connection (bytes ++ more) ≡ jobs_of connection bytes ++ jobs_of connection (rest_of bytes ++ more) }
 {}

@@ -16,7 +16,7 @@ pub(crate) struct Outbox {
     buffer: Vec<u8>,
     start: usize,
     released: usize,
-    /// The replies that wait, the first in front.
+    /// The replies that wait, oldest first.
     queue: VecDeque<Held>,
 }
 
@@ -40,7 +40,6 @@ impl Model for Outbox {
 }
 
 impl Outbox {
-    /// An outbox from which these bytes may be sent, and in which nothing waits.
     pub(crate) fn new(alloc: Global, out: &[u8]) -> Result<Outbox, AllocError>
         ensures { IfOk result (λ outbox. outbox ≡ record { waiting = []; out = out.now }) }
     {
@@ -52,10 +51,6 @@ impl Outbox {
         })
     }
 
-    /// Adds a reply after the others.
-    ///
-    /// # Errors
-    /// Out of memory; the reply isn't added.
     pub(crate) fn push(&mut self, front: u64, reply: &[u8]) -> Result<(), AllocError>
         ensures { MatchResult result
             (λ _. self.new ≡ record self.old { waiting = self.old.waiting ++ record { front = front; reply = reply.now } ∷ [] })
@@ -73,7 +68,6 @@ impl Outbox {
         Ok(())
     }
 
-    /// Lets replies be sent, in order, up to the first whose `front` is above `durable`.
     pub(crate) fn release(&mut self, durable: u64)
         ensures { self.new ≡ after_release durable self.old }
     {
@@ -86,21 +80,18 @@ impl Outbox {
         }
     }
 
-    /// The `front` of the first reply that waits.
     pub(crate) fn first_front(&self) -> Option<u64>
         ensures { result ≡ first_front self.now.waiting }
     {
         self.queue.front().map(|first| first.front)
     }
 
-    /// The bytes that may be sent.
     pub(crate) fn out(&self) -> &[u8]
         ensures { result.now ≡ self.now.out }
     {
         &self.buffer[self.start..self.released]
     }
 
-    /// Drops the first `count` bytes that may be sent, once they are.
     pub(crate) fn sent(&mut self, count: usize)
         requires { count ≤ length self.old.out }
         ensures { self.new ≡ record self.old { out = drop count self.old.out } }
@@ -114,8 +105,8 @@ impl Outbox {
     }
 }
 
-/// Drops the first `sent` bytes where they are more than half, so that each byte is moved at most once
-/// for each byte that was sent. Returns how many were dropped.
+/// Waits until more than half of the buffer is sent, so that each byte is moved at most once for each
+/// byte that was sent.
 fn drop_sent(buffer: &mut Vec<u8>, sent: usize) -> usize
     requires { sent ≤ vec_len buffer.old }
     ensures dropped { (result ≤ sent) × (buffer.new.items ≡ drop result buffer.old.items) }

@@ -18,7 +18,6 @@ pub(crate) fn maps_in(packet: &[u8]) -> Option<(&[u8], &[u8])>
     Some((header, body))
 }
 
-/// A body: no bytes, or one map and nothing else.
 fn body_in(bytes: &[u8]) -> Option<&[u8]>
     ensures { option_copied result ≡ body_in bytes.now }
 {

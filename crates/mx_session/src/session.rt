@@ -102,7 +102,6 @@ impl Session {
         }
     }
 
-    /// Ends the connection, and drops what came on it.
     fn end(&mut self)
         ensures { self.new ≡ record self.old { rest = []; ended = true } }
     {

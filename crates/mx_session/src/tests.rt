@@ -16,10 +16,10 @@ const PING: [u8; 4] = [0x03, 0x81, 0x00, 0x40];
 
 /// What ends a connection, each with the sync and the stream of its refusal.
 const ENDS: [(&[u8], u64, u64); 10] = [
-    // Behind the header a byte that begins no value, and one more map than two.
+    // After the header a byte that begins no value, and one more map than two.
     (b"\x06\x82\x00\x40\x01\x07\xc1", 7, 0),
     (b"\x05\x81\x00\x40\x80\x80", 0, 0),
-    // The front of an array, and what isn't a map.
+    // A prefix of an array, and what isn't a map.
     (b"\x09\x83\x00\x40\x01\xcc\x2a\x0a\x03\x91", 42, 3),
     (b"\x08\x83\x00\x40\x01\x05\x01\x06\xc0", 6, 0),
     (b"\x06\x82\x00\x40\x01\xa0\xc0", 0, 0),
@@ -63,12 +63,11 @@ fn jobs_of(alloc: Global, stream: &[u8], size: usize) -> Result<Option<Vec<Job>>
     Ok(ended.then_some(jobs))
 }
 
-/// Whether the session tells that it ended.
 fn has_ended(session: &mut Session) -> Result<bool, AllocError> {
     Ok(matches!(session.next_job()?, Next::Ended))
 }
 
-/// What a job asks, in a word.
+/// A name for what a job asks.
 fn word_of(ask: &Ask) -> &'static str {
     match ask {
         Ask::Request(Request::Ping) => "ping",
@@ -121,12 +120,11 @@ fn tells_the_same_jobs_whatever_the_pieces(rt: HostRuntime) -> Result<(), Fail> 
     Ok(())
 }
 
-/// Adds a reply.
 fn push(alloc: Global, session: &mut Session, front: u64, reply: &[u8]) -> Result<(), AllocError> {
     session.push_reply(front, Bytes::from_slice(alloc, reply)?)
 }
 
-/// Lets the first bytes go that may leave, where they are these.
+/// Sends the first bytes that may be sent, and aborts where they aren't these.
 fn send(rt: &impl Abort, session: &mut Session, bytes: &[u8]) {
     let out = session.out();
     assert!(rt; bytes.len() <= out.len());
@@ -162,7 +160,7 @@ fn sends_in_parts(rt: HostRuntime) -> Result<(), Fail> {
     session.release(0);
     send(&rt, &mut session, &GREETING[100..]);
     send(&rt, &mut session, b"a");
-    // Most of the buffer left, and is dropped here.
+    // Most of the buffer is sent, and is dropped here.
     push(rt.alloc(), &mut session, 1, b"de")?;
     assert_eq!(rt; session.out(), b"bc".as_slice());
     session.release(1);

@@ -62,6 +62,6 @@ module _ (place : ℕ) (entry : FormatEntry) (entries : List FormatEntry) (field
   field_fails (Some field) told same e =
       rw (begun, rest_some fields place field (sym same)) (refused (meets entry field) (Wrong place entry.kind) told _ e)
 
--- no entry is left
+-- no entry remains
 pub none_left : (place : ℕ) (entries : List FormatEntry) (fields : List (List ℕ)) → length entries ≡ place → fields_checked place (drop place entries) fields ≡ Ok tt
 none_left place entries fields e = rw (drop_all place entries (omega arith)) refl

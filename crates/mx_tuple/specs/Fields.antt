@@ -1,5 +1,5 @@
 -- Tuples and their fields.
-use Rattle.std.specs.Prelude.{◌≡◌, ℕ, ◌+◌, List, [], ◌∷◌, ◌++◌, length, Some}
+use Rattle.std.specs.Prelude.{◌≡◌, ℕ, ◌+◌, ◌-◌, ◌^◌, List, [], ◌∷◌, ◌++◌, length, Some}
 use Rattle.std.specs.List.{concat, scan}
 use Rattle.std.specs.Option.{unwrap_or}
 use Rattle.mx_msgpack.specs.Items.{items_of}
@@ -8,6 +8,10 @@ use Rattle.mx_msgpack.specs.Items.{items_of}
 pub record TupleValue : Type 0 where
   pub bytes : List ℕ
   pub fields : List (List ℕ)
+
+-- the maximum number of a tuple's fields, and so of a format's entries
+abbrev pub max_fields : ℕ
+max_fields = 2 ^ 32 - 1
 
 -- the tuple of an array's bytes
 abbrev pub tuple_of : List ℕ → TupleValue

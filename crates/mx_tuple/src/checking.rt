@@ -7,18 +7,17 @@ ghost use Rattle.mx_msgpack.specs.View.{view};
 ghost use Rattle.mx_tuple.specs.Formats.{checked, fields_checked, meets};
 ghost use Rattle.mx_tuple.specs.Steps.{field_checked};
 
-use crate::formats::{FieldKind, Format, FormatEntry};
+use crate::formats::{FieldKind, Format, FormatEntries, FormatEntry};
 use crate::tuple::Tuple;
 use mx_msgpack::{ValueRef, read_ref};
 
-/// Why a tuple doesn't meet a format. Fields count from 0. A place is a `usize`, since a format may
-/// have more entries than 32 bits count.
+/// Why a tuple doesn't meet a format. Fields count from 0.
 #[derive(Clone, Copy, Debug, Drop, PartialEq, Eq)]
 pub enum FieldFault {
     /// The field is absent.
-    Missing { field: usize },
+    Missing { field: u32 },
     /// The field is of another type.
-    Wrong { field: usize, expected: FieldKind },
+    Wrong { field: u32, expected: FieldKind },
     /// The tuple has another number of fields.
     Count { has: u32, expected: u32 },
 }
@@ -38,21 +37,20 @@ pub fn check(format: &Format, tuple: &Tuple) -> Result<(), FieldFault>
             expected: format.count,
         });
     }
-    check_fields(format.entries.as_slice(), tuple)
+    check_fields(&format.entries, tuple)
 }
 
-/// Whether the fields meet their entries, one after the other.
-fn check_fields(entries: &[FormatEntry], tuple: &Tuple) -> Result<(), FieldFault>
+fn check_fields(entries: &FormatEntries, tuple: &Tuple) -> Result<(), FieldFault>
     ensures { result ≡ fields_checked 0 entries.now tuple.now.fields }
 {
-    for (place, entry) in entries.iter().enumerate() {
-        check_field(place, entry, tuple.at(place))?;
+    for (place, entry) in entries.as_slice().iter().enumerate() {
+        let place = place as u32;
+        check_field(place, entry, tuple.field(place))?;
     }
     Ok(())
 }
 
-/// Whether the field in this place meets its entry; `None` where it is absent.
-fn check_field(place: usize, entry: &FormatEntry, field: Option<&[u8]>) -> Result<(), FieldFault>
+fn check_field(place: u32, entry: &FormatEntry, field: Option<&[u8]>) -> Result<(), FieldFault>
     ensures { result ≡ field_checked place entry.now (option_copied field.entry) }
 {
     match field {
@@ -74,7 +72,6 @@ fn check_field(place: usize, entry: &FormatEntry, field: Option<&[u8]>) -> Resul
     }
 }
 
-/// Whether a field that is there meets an entry.
 #[tactic(auto, unfolding(crate::specs::Formats::meets))]
 fn meets(entry: &FormatEntry, field: &[u8]) -> bool
     ensures { result ≡ meets entry.now field.now }
@@ -87,7 +84,6 @@ fn meets(entry: &FormatEntry, field: &[u8]) -> bool
     }
 }
 
-/// Whether a value is Nil.
 fn is_nil(value: &ValueRef<'_>) -> bool
     ensures { result ≡ is_nil (view value.now) }
 {

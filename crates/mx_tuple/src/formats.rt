@@ -1,11 +1,15 @@
 //! Formats: what a space asks of its tuples' fields.
 
-ghost use Rattle.std.specs.Prelude.{◌≡◌, [], ◌∷◌, ◌++◌, length, OnOk, OnErr};
+ghost use Rattle.std.specs.Prelude.{◌≡◌, ◌<◌, ◌≤◌, [], length, MatchOption};
+ghost use Rattle.mx_tuple.specs.Fields.{max_fields};
 ghost use Rattle.mx_tuple.specs.Formats.{entry_value_type};
 
 use mx_msgpack::{Bytes, ValueType};
-use std::alloc::{AllocError, Global};
+use std::alloc::Global;
 use std::marker::Model;
+
+/// The maximum number of a tuple's fields, and so of a format's entries.
+const MAX_FIELDS: usize = u32::MAX as usize;
 
 /// The type of a field.
 #[derive(Clone, Copy, Debug, Drop, PartialEq, Eq)]
@@ -24,7 +28,6 @@ pub enum FieldKind {
 }
 
 impl FieldKind {
-    /// The type of the values that the field may have.
     pub(crate) fn value_type(self) -> ValueType
         ensures { result ≡ entry_value_type self }
     {
@@ -51,19 +54,23 @@ pub struct FormatEntry {
     pub nullable: bool,
 }
 
-/// The entries of a format, in the order of the fields.
+/// The entries of a format, in the order of the fields: at most 2^32 - 1, as many as a tuple can have
+/// fields.
 #[derive(Debug, Drop)]
 pub struct FormatEntries {
     items: Vec<FormatEntry>,
 }
 
 impl Model for FormatEntries {
-    ghost use Rattle.std.specs.Prelude.{List};
+    ghost use Rattle.std.specs.Prelude.{List, ◌≤◌, length};
     ghost use Rattle.mx_tuple.specs.declared.formats.FormatEntry.{FormatEntry};
+    ghost use Rattle.mx_tuple.specs.Fields.{max_fields};
 
     ghost Value = { List FormatEntry };
 
     ghost view = { λ f. f.items.items };
+
+    ghost invariant = { λ f. length f.items.items ≤ max_fields };
 }
 
 /// What a space asks of its tuples.
@@ -84,11 +91,14 @@ impl FormatEntries {
         }
     }
 
-    /// The entries of the vector.
-    pub fn from_vec(items: Vec<FormatEntry>) -> FormatEntries
-        ensures { result ≡ items.items }
+    /// The entries of the vector; `None` where they are more than 2^32 - 1.
+    pub fn from_vec(items: Vec<FormatEntry>) -> Option<FormatEntries>
+        ensures { MatchOption result (max_fields < length items.items) (λ entries. entries ≡ items.items) }
     {
-        FormatEntries { items }
+        if items.len() > MAX_FIELDS {
+            return None;
+        }
+        Some(FormatEntries { items })
     }
 
     /// The entries as a vector.
@@ -100,17 +110,9 @@ impl FormatEntries {
 
     /// The entries in place.
     pub fn as_slice(&self) -> &[FormatEntry]
-        ensures { result.now ≡ self.now }
+        ensures value { result.now ≡ self.now }
+        ensures within { length self.now ≤ max_fields }
     {
         self.items.as_slice()
-    }
-
-    /// Adds an entry at the end.
-    pub fn push(&mut self, entry: FormatEntry) -> Result<(), AllocError>
-        ensures ok { OnOk result (self.new ≡ self.old ++ entry ∷ []) }
-        ensures err { OnErr result (self.new ≡ self.old) }
-    {
-        self.items.push(entry)?;
-        Ok(())
     }
 }

@@ -95,13 +95,7 @@ impl Tuple {
     pub fn field(&self, n: u32) -> Option<&[u8]>
         ensures { option_copied result ≡ slice_get self.now.fields n }
     {
-        self.at(n as usize)
-    }
-
-    /// As `field`, for each place that an entry of a format can have, which 32 bits may not hold.
-    pub(crate) fn at(&self, n: usize) -> Option<&[u8]>
-        ensures { option_copied result ≡ slice_get self.now.fields n }
-    {
+        let n = n as usize;
         let from = *self.places.get(n)?;
         let to = *self.places.get(n + 1)?;
         self.bytes.as_slice().get(from..to)

@@ -31,7 +31,7 @@ begins number small = by_bytes (decimal number) refl
       },
     )
 
--- one more digit behind the digits of a number
+-- one more digit after the digits of a number
 pub digit_more : (number digit : ℕ) → 0 < number → digit < 10 → 10 * number + digit < 2 ^ 64 → decimal (10 * number + digit) ≡ decimal number ++ (48 + digit) ∷ []
 digit_more number digit some ten small =
     let front : (10 * number + digit) / 10 ≡ number = omega arith in
@@ -51,7 +51,7 @@ pub next_is_digit : (number byte : ℕ) (digits : List ℕ) (whole : ℕ) → wh
 next_is_digit number byte digits whole small e =
     digit_from_value byte (all_digits-append (decimal number) (byte ∷ digits) (subst (AllDigits 10) e (decimal_is_IsNumeral whole small).0.1)).0
 
--- the front and the last of a list
+-- a list as a prefix and its last
 snoc : (first : ℕ) (others : List ℕ) → (front : List ℕ) × (last : ℕ) × (first ∷ others ≡ front ++ last ∷ [])
 snoc first [] = ([], first, refl)
 snoc first (next ∷ others) = let s = snoc next others in (first ∷ s.0, s.1, ap (λ l. first ∷ l) s.2)
@@ -77,7 +77,7 @@ without_last number front last whole small some e = by_order (cases_lt whole 10)
     by_order (inl below) = absurd (omega (arith, ap length joined, ap length (decimal_digit whole below), length-append (decimal number ++ front) (last ∷ []), length-append (decimal number) front))
     by_order (inr above) = (above, (same_last (decimal (whole / 10)) (decimal number ++ front) (48 + whole % 10) last (sym (decimal_step whole above small) ∙ joined)).0)
 
--- what stands behind these digits of a number
+-- what follows these digits of a number
 pub ends_or_goes_on : (number byte whole : ℕ) (digits rest others : List ℕ) → number < 2 ^ 64 → whole < 2 ^ 64 → GoesOn number digits whole → digits ++ rest ≡ byte ∷ others
     → ((whole ≡ number) × (rest ≡ byte ∷ others)) ⊎ ((more : List ℕ) × IsDigit byte × GoesOn number (byte ∷ more) whole × (more ++ rest ≡ others))
 ends_or_goes_on number byte whole [] rest others small fits e f = inl (decimal_injective whole number fits small (e ∙ append-nil (decimal number)), f)
@@ -122,7 +122,7 @@ not_below number digits whole small fits e = by_length (length digits) digits wh
         let l : length (digit ∷ digits) ≡ length (s.0 ++ s.1 ∷ []) = ap length s.2 in
         omega (arith, by_length most s.0 (whole / 10) (omega arith) (omega arith) w.1)
 
--- a number of two digits at most, by its first ones
+-- a number of at most two digits, by a prefix of them
 pub two_digits : (number : ℕ) (digits : List ℕ) (whole : ℕ) → number < 2 ^ 64 → whole < 100 → GoesOn number digits whole → (whole ≡ number) ⊎ ((10 ≤ whole) × (whole / 10 ≡ number))
 two_digits number [] whole small fits e = inl (decimal_injective whole number (omega arith) small (e ∙ append-nil (decimal number)))
 two_digits number (digit ∷ digits) whole small fits e = by_front s.0 w.1

@@ -45,7 +45,7 @@ part_bounds front zeros lsn others clock part =
     let all : Bounded (lsn ∷ others) = all_right (replicate zeros 0) (lsn ∷ others) (all_right front (replicate zeros 0 ++ lsn ∷ others) (subst Bounded part.is part.sound.bounded)) in
     record { id = omega arith; long = omega arith; most = All-head (λ n. n ≤ max_lsn) lsn others all }
 
--- such a vclock with zeros behind
+-- such a vclock with zeros appended
 pub padded : (front : List ℕ) (zeros lsn : ℕ) → Bounded front → length front + zeros ≤ 31 → 0 < lsn → lsn ≤ max_lsn
     → Part front zeros lsn (replicate (31 - (length front + zeros)) 0) (front ++ (replicate zeros 0 ++ lsn ∷ replicate (31 - (length front + zeros)) 0))
 padded front zeros lsn bounded high some most =
@@ -66,7 +66,7 @@ padded front zeros lsn bounded high some most =
       some = some;
     }
 
--- the lsns that were read, with zeros behind, at a place where these came before
+-- the lsns that were read, with zeros appended, at a place where these came before
 abbrev pub lsns_at : Place → List ℕ → List ℕ
 lsns_at Start front = replicate 32 0
 lsns_at Open front = replicate 32 0
@@ -142,7 +142,7 @@ pub record FitsLsn (id number : ℕ) (front clock text : List ℕ) : Type 0 wher
   pub goes_on : GoesOn number digits lsn
   pub spelled : digits ++ more (suc id) others ≡ text
 
--- behind a blank
+-- after a blank
 abbrev pub AfterBlank : (List ℕ → Type 0) → List ℕ → Type 0
 AfterBlank F text = (rest : List ℕ) × (32 ∷ rest ≡ text) × F rest
 

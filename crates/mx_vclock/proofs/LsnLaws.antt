@@ -129,7 +129,7 @@ ends_from id number byte front clock text e = record {
   spelled = e.spelled;
 }
 
--- a comma behind an lsn
+-- a comma after an lsn
 comma_to : (id number : ℕ) (front clock text : List ℕ) → length front ≡ id → Ends id number 44 front clock text → (id < 31) × AfterBlank (FitsNext (suc id) (front ++ number ∷ []) clock) text
 comma_to id number front clock text long e = by_split (split (suc id) e.others)
   where
@@ -164,7 +164,7 @@ comma_from id number front clock text some (rest, e, f) = by_lsn f.lsn f.part f.
       spelled = more-zeros f.zeros (suc id) (suc lsn ∷ f.others) ∙ ap (λ l. 44 ∷ 32 ∷ l) spelled ∙ ap (λ l. 44 ∷ l) e;
     }
 
--- the end behind an lsn
+-- the end after an lsn
 end_to : (id number : ℕ) (front clock text : List ℕ) → length front ≡ id → Ends id number 125 front clock text → IsVclock clock × (clock ≡ front ++ number ∷ replicate (31 - id) 0) × ([] ≡ text)
 end_to id number front clock text long e = by_split (split (suc id) e.others)
   where

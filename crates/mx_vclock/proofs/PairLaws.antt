@@ -39,7 +39,7 @@ pairs_text-append id (lsn ∷ lsns) others = by_test (eqb lsn 0) refl (pairs_tex
         ∙ sym (append_assoc (component_bytes (id, lsn)) (pairs_text (suc id) lsns) later)
         )
 
--- one lsn more, behind what was there before
+-- one lsn more, after the ones before
 pub pairs_more : (before now new : List ℕ) (lsns : List ℕ) (i lsn : ℕ) → i < length lsns → lsn ≡ get_or lsns i 0
     → now ≡ before ++ pairs_text 1 (take i lsns) → new ≡ now ++ pairs_text (i + 1) (lsn ∷ [])
     → new ≡ before ++ pairs_text 1 (take (i + 1) lsns)

@@ -1,4 +1,4 @@
--- What is left of a vclock's text behind a replica id.
+-- What follows a replica id in a vclock's text.
 use Rattle.std.proofs.Common.{◌≡◌, ℕ, zero, suc, ◌+◌, cond, List, [], ◌∷◌, ◌++◌, length, replicate, refl, ap, ◌∙◌, append_assoc, ◌⊎◌, inl, inr, arith}
 use Rattle.std.specs.Prelude.{codes}
 use Rattle.std.specs.Fmt.{decimal}
@@ -9,7 +9,7 @@ use Rattle.mx_vclock.specs.Text.{component_texts, join_with, vclock_text}
 abbrev pub named : ℕ → ℕ → List ℕ → List ℕ
 named id lsn rest = decimal id ++ 58 ∷ 32 ∷ (decimal lsn ++ rest)
 
--- the text behind a component, where these are the lsns from this id on
+-- the text after a component, where these are the lsns from this id on
 abbrev pub more : ℕ → List ℕ → List ℕ
 more id [] = 125 ∷ []
 more id (zero ∷ lsns) = more (suc id) lsns
@@ -21,7 +21,7 @@ first id [] = 125 ∷ []
 first id (zero ∷ lsns) = first (suc id) lsns
 first id (suc lsn ∷ lsns) = named id (suc lsn) (more (suc id) lsns)
 
--- these parts behind another one, and the end
+-- these parts after another one, and the end
 behind : List (List ℕ) → List ℕ
 behind [] = 125 ∷ []
 behind (part ∷ parts) = 44 ∷ 32 ∷ (part ++ behind parts)
@@ -105,7 +105,7 @@ split id (zero ∷ lsns) = later (split (suc id) lsns)
           as_more = s.as_more ∙ ap (λ n. 44 ∷ 32 ∷ named n (suc s.lsn) (more (suc n) s.others)) e;
         })
 
--- zeros are passed over
+-- zeros are skipped
 pub first-zeros : (zeros id : ℕ) (lsns : List ℕ) → first id (replicate zeros 0 ++ lsns) ≡ first (id + zeros) lsns
 first-zeros zero id lsns = let e : id ≡ id + 0 = omega arith in ap (λ n. first n lsns) e
 first-zeros (suc zeros) id lsns = let e : suc id + zeros ≡ id + suc zeros = omega arith in first-zeros zeros (suc id) lsns ∙ ap (λ n. first n lsns) e

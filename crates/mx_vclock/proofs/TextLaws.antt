@@ -23,7 +23,7 @@ goes_on-separated (part ∷ parts) = goes_on-after [] part parts
 pub components-more : (id lsn : ℕ) (lsns : List ℕ) (test : Bool) → eqb lsn 0 ≡ test → component_texts id (lsn ∷ lsns) ≡ if test then component_texts (id + 1) lsns else (decimal id ++ codes ": " ++ decimal lsn) ∷ component_texts (id + 1) lsns
 components-more id lsn lsns test e = rw (e, add-one id) refl
 
--- a component that is 0 is left out
+-- a component that is 0 is omitted
 pub components-skipped : (lsns : List ℕ) (id lsn : ℕ) → id < length lsns → lsn ≡ get_or lsns id 0 → lsn ≡ 0 → component_texts id (drop id lsns) ≡ component_texts (id + 1) (drop (id + 1) lsns)
 components-skipped lsns id lsn below is none =
     at_drop_more (component_texts id) lsns id 0 below ∙ components-more id (get_or lsns id 0) (drop (id + 1) lsns) true (rw (← is, none) refl)
@@ -39,6 +39,6 @@ goes_on-shown text before whole lsns id lsn below is some e =
     let shown = rw (components-shown lsns id lsn below is some) at e in
     simp append_assoc (simp append_assoc at shown)
 
--- nothing is left behind the last lsn
+-- nothing follows the last lsn
 pub goes_on-end : (text before whole lsns : List ℕ) (id : ℕ) → length lsns ≤ id → text ++ goes_on before (component_texts id (drop id lsns)) ≡ whole → text ≡ whole
 goes_on-end text before whole lsns id end e = sym (append-nil text) ∙ (rw (drop_all id lsns end) at e)

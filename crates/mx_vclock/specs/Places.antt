@@ -21,7 +21,7 @@ greatest_id_from id = if nat_lt id 1 then id else if nat_lt 3 id then id else 10
 abbrev pub id_place : ℕ → ℕ → Option Place
 id_place least id = if nat_lt 31 id then None else if nat_lt (greatest_id_from id) least then None else Some (Id least id)
 
--- the place after a byte behind an id's first digits
+-- the place after a byte that follows an id's first digits
 abbrev pub after_id : ℕ → ℕ → ℕ → Option Place
 after_id least id byte =
     if byte == 58 then (if nat_lt id least then None else Some (Colon id))
@@ -29,7 +29,7 @@ after_id least id byte =
     else if nat_lt 3 id then None
     else (digit byte >>= λ d. id_place least (10 * id + d))
 
--- the place after a byte behind an lsn's first digits
+-- the place after a byte that follows an lsn's first digits
 abbrev pub after_lsn : ℕ → ℕ → ℕ → Option Place
 after_lsn id lsn byte =
     if byte == 44 then (if nat_lt id 31 then Some (Comma (id + 1)) else None)

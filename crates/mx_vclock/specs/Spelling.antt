@@ -1,4 +1,4 @@
--- A vclock as a map of MessagePack: its components that aren't 0, in ascending order of replica id. Replica id 0 is left out,
+-- A vclock as a map of MessagePack: its components that aren't 0, in ascending order of replica id. Replica id 0 is omitted,
 -- since its lsns are local to one node.
 use Rattle.std.specs.Prelude.{ℕ, suc, List, [], ◌∷◌, ◌++◌, length, map, drop, ◌==◌, if◌then◌else◌}
 use Rattle.std.specs.List.{concat}

@@ -8,6 +8,6 @@ use thiserror::Error;
 pub struct Gap {
     /// The lsn that the vclock has.
     pub has: u64,
-    /// The lsn that was given.
+    /// The lsn that doesn't follow it.
     pub got: u64,
 }

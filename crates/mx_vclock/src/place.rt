@@ -15,15 +15,15 @@ pub(crate) enum Place {
     Start,
     /// The `{`.
     Open,
-    /// The comma behind an lsn. The next id is this one at least.
+    /// The comma after an lsn. The next id is this one at least.
     Comma(usize),
-    /// The blank behind a comma. The next id is this one at least.
+    /// The blank after a comma. The next id is this one at least.
     Next(usize),
     /// The first digits of an id of `least` at least. Their value is `id`.
     Id { least: usize, id: usize },
-    /// The colon behind this id.
+    /// The colon after this id.
     Colon(usize),
-    /// The blank behind this id's colon.
+    /// The blank after this id's colon.
     Named(usize),
     /// The first digits of the id's lsn. Their value is `lsn`.
     Lsn { id: usize, lsn: u64 },
@@ -31,7 +31,6 @@ pub(crate) enum Place {
     Done,
 }
 
-/// The place after a byte; none where no text goes on with it.
 #[tactic(auto, unfolding(crate::specs::Places::next_place))]
 pub(crate) fn next_place(place: Place, byte: u8) -> Option<Place>
     ensures { result ≡ next_place place byte }
@@ -62,14 +61,12 @@ pub(crate) fn next_place(place: Place, byte: u8) -> Option<Place>
     }
 }
 
-/// The next place, where the byte is the one that is wanted.
 fn place_if(wanted: u8, byte: u8, next: Place) -> Option<Place>
     ensures { result ≡ place_if wanted byte next }
 {
     if byte == wanted { Some(next) } else { None }
 }
 
-/// The value of a decimal digit.
 fn digit(byte: u8) -> Option<u8>
     ensures { result ≡ digit byte }
 {
@@ -79,7 +76,6 @@ fn digit(byte: u8) -> Option<u8>
     }
 }
 
-/// The place after an id's first digits, whose value is `id`, where an allowed id begins with them.
 fn id_place(least: usize, id: usize) -> Option<Place>
     ensures { result ≡ id_place least id }
 {
@@ -89,7 +85,6 @@ fn id_place(least: usize, id: usize) -> Option<Place>
     Some(Place::Id { least, id })
 }
 
-/// The greatest id that begins with the digits of `id`, or a number above the greatest of all.
 fn greatest_id_from(id: usize) -> usize
     ensures { result ≡ greatest_id_from id }
 {
@@ -99,7 +94,6 @@ fn greatest_id_from(id: usize) -> usize
     }
 }
 
-/// The place after a byte behind an id's first digits.
 fn after_id(least: usize, id: usize, byte: u8) -> Option<Place>
     ensures { result ≡ after_id least id byte }
 {
@@ -110,7 +104,6 @@ fn after_id(least: usize, id: usize, byte: u8) -> Option<Place>
     }
 }
 
-/// The place after a byte behind an lsn's first digits.
 fn after_lsn(id: usize, lsn: u64, byte: u8) -> Option<Place>
     ensures { result ≡ after_lsn id lsn byte }
 {

@@ -26,7 +26,6 @@ impl Vclock {
     }
 }
 
-/// As `Vclock::write`, but out of memory a prefix of the map may have been appended.
 fn write_map(clock: &Vclock, out: &mut Bytes) -> Result<(), AllocError>
     ensures { MatchResult result (λ _. out.new ≡ out.old ++ clock_map clock.now) (λ _. take (length out.old) out.new ≡ out.old) }
 {
@@ -36,7 +35,6 @@ fn write_map(clock: &Vclock, out: &mut Bytes) -> Result<(), AllocError>
     Ok(())
 }
 
-/// How many of the lsns have a pair in a map.
 fn pair_count(lsns: &[u64]) -> usize
     ensures exact { (id : ℕ) → result ≡ length (components_from id lsns.now) }
     ensures most { result ≤ length lsns.now }
@@ -44,7 +42,6 @@ fn pair_count(lsns: &[u64]) -> usize
     lsns.iter().filter(|lsn| **lsn != 0).count()
 }
 
-/// Appends the pairs of these lsns, which are those of the replica ids from 1 on.
 fn write_pairs(lsns: &[u64], out: &mut Bytes) -> Result<(), AllocError>
     ensures { MatchResult result (λ _. out.new ≡ out.old ++ concat (map component_bytes (components_from 1 lsns.now))) (λ _. take (length out.old) out.new ≡ out.old) }
 {
@@ -54,7 +51,6 @@ fn write_pairs(lsns: &[u64], out: &mut Bytes) -> Result<(), AllocError>
     Ok(())
 }
 
-/// Appends the pair of a replica id and its lsn, or nothing where the lsn is 0.
 fn write_component(id: u64, lsn: u64, out: &mut Bytes) -> Result<(), AllocError>
     ensures { MatchResult result (λ _. out.new ≡ out.old ++ concat (map component_bytes (components_from id (lsn ∷ [])))) (λ _. take (length out.old) out.new ≡ out.old) }
 {

@@ -59,7 +59,6 @@ impl Vclock {
         self.lsns[usize::from(id)] = lsn;
     }
 
-    /// The lsns, by replica id.
     pub(crate) fn lsns(&self) -> &[u64; REPLICAS]
         ensures value { result.now ≡ self.now }
         ensures whole { length self.now ≡ replicas }

@@ -2,7 +2,7 @@ use Rattle.std.proofs.Common.{◌+◌, ap, ◌∙◌}
 use Rattle.std.specs.List.{slice_get}
 use Rattle.mx_tuple.specs.Fields.{TupleValue, tuple_of}
 use Rattle.mx_tuple.proofs.FieldLaws.{place_read, none_from, none_to, part_read}
-use Rattle.mx_tuple.proofs.tuple.Tuple.at.Goals as goal
+use Rattle.mx_tuple.proofs.tuple.Tuple.field.Goals as goal
 
 pub returns-in_err-from : goal.returns-in_err-from
 returns-in_err-from c =
