@@ -36,6 +36,10 @@ is_draft name = is_numbered (codes ".xlog.inprogress") name || is_numbered (code
 abbrev pub same_bytes : List ℕ → List ℕ → Bool
 same_bytes xs ys = pointwise nat_eq xs ys
 
--- the names that tell what a directory stands for
+-- the names of the files that decide what a directory recovers to
 abbrev pub counts : List ℕ → Bool
 counts name = is_journal name || is_snapshot name
+
+-- the names that a database gives its files
+abbrev pub is_ours : List ℕ → Bool
+is_ours name = counts name || is_draft name

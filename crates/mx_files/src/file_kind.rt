@@ -9,14 +9,12 @@ ghost use Rattle.mx_files.specs.Names.{is_digit, is_numbered, is_journal, is_sna
 /// How many digits a file's name begins with.
 const DIGITS: usize = 20;
 
-/// Whether all bytes are decimal digits.
 fn are_digits(bytes: &[u8]) -> bool
     ensures { result ≡ list_all is_digit bytes.now }
 {
     bytes.iter().all(|byte| byte.is_ascii_digit())
 }
 
-/// Whether a name is twenty digits and this ending.
 fn is_numbered(name: &[u8], ending: &[u8]) -> bool
     ensures { result ≡ is_numbered ending.now name.now }
 {

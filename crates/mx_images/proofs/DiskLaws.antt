@@ -27,6 +27,19 @@ pub get_changed : (change : File → File) (name : List ℕ) (files : Files) (fi
     → finite.get (change_file change name files) other ≡ cond (same_bytes other name) (Some (change file)) (finite.get files other)
 get_changed change name files file other is = rw is (get_inserted files name (change file) other)
 
+pub get_other : (files : Files) (name : List ℕ) (file : File) (other : List ℕ) → same_bytes other name ≡ false
+    → finite.get (finite.insert files name file) other ≡ finite.get files other
+get_other files name file other differs =
+    get_inserted files name file other ∙ ap (λ same. cond same (Some file) (finite.get files other)) differs
+
+pub get_change_other : (change : File → File) (name : List ℕ) (files : Files) (other : List ℕ) → same_bytes other name ≡ false
+    → finite.get (change_file change name files) other ≡ finite.get files other
+get_change_other change name files other differs = by_file (finite.get files name) refl
+  where
+    by_file : (found : Option File) → finite.get files name ≡ found → finite.get (change_file change name files) other ≡ finite.get files other
+    by_file None is = rw is refl
+    by_file (Some file) is = rw is (get_other files name (change file) other differs)
+
 cond_twice : {A : Type 0} (test : Bool) (a b c : A) → cond test a (cond test b c) ≡ cond test a c
 cond_twice true a b c = refl
 cond_twice false a b c = refl

@@ -1,4 +1,4 @@
--- What is read of a prefix of the bytes, and that a crash may leave no byte after the synced ones.
+-- What is read of a prefix of the bytes, and that a crash image may have no byte after the synced ones.
 use Rattle.std.proofs.Common.{◌≡◌, ℕ, ◌+◌, ◌-◌, ◌≤◌, ◌<◌, List, [], length, take, drop, refl, sym, ap, ◌∙◌, arith, ◌⊎◌, inl, inr}
 use Rattle.std.proofs.lemmas.Bool.{cases_lt}
 use Rattle.std.proofs.lemmas.List.{append-nil, take_at, drop_all, drop-take, length-take, take-append-drop}
@@ -29,7 +29,7 @@ drop_front size count bytes = by_size (cases_lt count size)
         let parts : count ≡ size + (count - size) = omega arith in
         ap (λ n. drop size (take n bytes)) parts ∙ drop-take size (count - size) bytes
 
--- a crash may leave the synced bytes alone
+-- the synced bytes alone are a crash image
 pub fair_nothing : (file : File) → IsFairEnd file []
 fair_nothing file head size is =
     let (n, front) = front_of_blocks (file.synced - size) (drop size file.bytes) in

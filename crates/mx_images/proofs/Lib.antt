@@ -2,3 +2,5 @@ pub mod ToldLaws
 pub mod MomentLaws
 pub mod DiskLaws
 pub mod FairLaws
+pub mod OtherLaws
+pub mod ContentLaws

@@ -1,9 +1,12 @@
 -- The states that a directory had during calls, one after the other.
-use Rattle.std.proofs.Common.{◌≡◌, List, [], ◌∷◌, ◌++◌, Option, Some, None, ◌⊎◌, inl, inr, refl, sym, ap, ◌∙◌, append_assoc}
+use Rattle.std.proofs.Common.{◌≡◌, ℕ, List, [], ◌∷◌, ◌++◌, length, take, Option, Some, None, Result, Ok, Err, MatchResult, ◌⊎◌, inl, inr, refl, sym, ap, ◌∙◌, append_assoc, arith}
 use Rattle.std.specs.Prelude.{⊤}
+use Rattle.std.proofs.lemmas.List.{length-append, take_all, take_at}
 use mathlib.Core.Path.{subst}
-use Rattle.mx_outside.specs.Disks.{Disk, IfKnown, Became, Stayed}
+use Rattle.mx_msgpack.proofs.Options.{same_some}
+use Rattle.mx_outside.specs.Disks.{Disk, IfKnown, Makes, MayMake, Became, Stayed, appended}
 use Rattle.mx_outside.specs.Moments.{Moments, Each, newest}
+use Rattle.mx_images.specs.Changes.{with_appended}
 use Rattle.mx_images.proofs.ToldLaws.{told_weaker, where_told}
 
 -- ---- the states of a call or two
@@ -66,7 +69,7 @@ module _ (P : Disk → Type 0) (R : Disk → Disk → Type 0) where
   joined (Some []) middle new one two = tt
   joined (Some (disk ∷ past)) middle new one two = after one.since disk past middle new one.told one.each two
 
-  -- what no change takes away is left at the end
+  -- what no change takes away is there at the end
   pub kept : (Q : Disk → Type 0) → ((older newer : Disk) → R older newer → Q older → Q newer)
       → (new : Option (List Disk)) (start : Disk) (past : List Disk) → Moments P R new start past → Q start → IfKnown new (λ disk past. Q disk)
   kept Q keeps new start past m holds =
@@ -127,3 +130,80 @@ module _ (R : Disk → Disk → Type 0) (itself : (disk : Disk) → R disk disk)
   joined_from old middle new one two =
       told_weaker old (λ disk past. seen_from (λ other. ⊤) new disk past)
       (joined (λ other. ⊤) R old middle new (told_weaker old (any_from middle) one) (told_weaker middle (any_from new) two))
+
+-- ---- two facts of the same states
+
+same_front : (one other rest : List Disk) → one ++ rest ≡ other ++ rest → one ≡ other
+same_front one other rest is =
+    let long : length one ≡ length other = omega (arith, ap length is, length-append one rest, length-append other rest) in
+    sym (take_at one rest (length one) refl) ∙ ap (take (length one)) is ∙ ap (λ (n : ℕ). take n (other ++ rest)) long
+    ∙ take_at other rest (length other) refl
+
+module _ (P Q : Disk → Type 0) (R S : Disk → Disk → Type 0) where
+  each_both : (since : List Disk) (start : Disk) → Each P R since start → Each Q S since start
+      → Each (λ state. P state × Q state) (λ older newer. R older newer × S older newer) since start
+  each_both [] start one other = tt
+  each_both (disk ∷ since) start one other = ((one.0, other.0), (one.1, other.1), each_both since start one.2 other.2)
+
+  pub both_moments : (new : Option (List Disk)) (start : Disk) (past : List Disk) → Moments P R new start past → Moments Q S new start past
+      → Moments (λ state. P state × Q state) (λ older newer. R older newer × S older newer) new start past
+  both_moments new start past one other =
+      let same : one.since ≡ other.since = same_front one.since other.since (start ∷ past)
+      (same_some (one.since ++ start ∷ past) (other.since ++ start ∷ past) (sym one.told ∙ other.told)) in
+      record {
+        since = one.since;
+        told = one.told;
+        each = each_both one.since start one.each (subst (λ since. Each Q S since start) (sym same) other.each);
+      }
+
+-- ---- calls of which only the steps matter
+
+-- each state since comes by R from the one before it
+abbrev pub Steps : (Disk → Disk → Type 0) → (old new : Option (List Disk)) → Type 0
+Steps R old new = IfKnown old (λ disk past. Moments (λ state. ⊤) R new disk past)
+
+module _ (R : Disk → Disk → Type 0) where
+  pub steps_none : (states : Option (List Disk)) → Steps R states states
+  steps_none states = no_moments (λ start state. ⊤) R states
+
+  -- a call that changed nothing
+  pub steps_same : (old new : Option (List Disk)) → new ≡ old → Steps R old new
+  steps_same old new is = subst (Steps R old) (sym is) (steps_none old)
+
+  -- one call, and then another one
+  pub steps_then : (old middle new : Option (List Disk)) → Steps R old middle → Steps R middle new → Steps R old new
+  steps_then old middle new = joined (λ state. ⊤) R old middle new
+
+  pub makes_steps : {T E : Type 0} (change : Disk → Disk) → ((disk : Disk) → R disk (change disk)) → (old new : Option (List Disk)) (result : Result T E)
+      → Makes change old new result → Steps R old new
+  makes_steps change step None new result makes = tt
+  makes_steps change step (Some []) new result makes = tt
+  makes_steps change step (Some (disk ∷ past)) new (Ok value) became = moments_one _ _ (change disk) new disk past tt (step disk) became
+  makes_steps change step (Some (disk ∷ past)) new (Err error) stayed = moments_none _ _ new disk past stayed
+
+  pub may_make_steps : {T E : Type 0} (change : Disk → Disk) → ((disk : Disk) → R disk (change disk)) → (old new : Option (List Disk)) (result : Result T E)
+      → MayMake change old new result → Steps R old new
+  may_make_steps change step None new result makes = tt
+  may_make_steps change step (Some []) new result makes = tt
+  may_make_steps change step (Some (disk ∷ past)) new (Ok value) became = moments_one _ _ (change disk) new disk past tt (step disk) became
+  may_make_steps change step (Some (disk ∷ past)) new (Err error) made = moments_may _ _ (change disk) new disk past tt (step disk) made
+
+-- ---- bytes that are put at the end of a file, and synced
+
+module _ (P : Disk → Type 0) (R : Disk → Disk → Type 0) (name more : List ℕ) (disk : Disk)
+    (put : (count : ℕ) → P (appended name (take count more) disk) × R disk (appended name (take count more) disk))
+    (synced : P (with_appended name more disk) × R (appended name more disk) (with_appended name more disk)) where
+  all_put : P (appended name more disk) × R disk (appended name more disk)
+  all_put =
+      subst (λ bytes. P (appended name bytes disk) × R disk (appended name bytes disk)) (take_all (length more) more (omega arith)) (put (length more))
+
+  -- at an error a prefix of them may have been put there
+  pub while_appended : {T E : Type 0} (new : Option (List Disk)) (past : List Disk) (result : Result T E)
+      → MatchResult result (λ value. new ≡ Some (with_appended name more disk ∷ appended name more disk ∷ disk ∷ past))
+      (λ error. Stayed new disk past ⊎ ((count : ℕ) × Became new (appended name (take count more) disk) disk past))
+      → Moments P R new disk past
+  while_appended new past (Ok value) told =
+      moments_two P R (appended name more disk) (with_appended name more disk) new disk past all_put.0 all_put.1 synced.0 synced.1 told
+  while_appended new past (Err error) (inl stayed) = moments_none P R new disk past stayed
+  while_appended new past (Err error) (inr (count, became)) =
+      moments_one P R (appended name (take count more) disk) new disk past (put count).0 (put count).1 became

@@ -49,7 +49,7 @@ then_changed first second before middle after one two = told_weaker before (λ d
 pub now_changed : (next : Disk) (after : Option (List Disk)) {P : Disk → Type 0} → IsNow after (λ now. now ≡ next) → P next → IsNow after P
 now_changed next after (now, past, is, same) shown = (now, past, is, rw same shown)
 
--- what is told after a call on a directory that told its states before it
+-- what is known after a call on a directory whose states were known before it
 pub told_then : (before after : Option (List Disk)) (P : Disk → List Disk → Type 0) → KnownAlike before after
     → IfKnown before (λ disk past. IfKnown after P) → IfKnown after P
 told_then before after P alike shown = where_told after P (λ disk past told.
@@ -70,7 +70,7 @@ told_after change before after P Q alike changed shown step =
     told_now before after Q alike
     (told_both before (λ disk past changed shown. now_changed (change disk) after changed (step disk shown)) changed shown)
 
--- a directory that is as it was tells as before
+-- what is known of a directory that is as it was is known as before
 pub told_same : (before after : Option (List Disk)) → after ≡ before → KnownAlike before after
 told_same before after same = subst (KnownAlike before) (sym same) (λ told. told, λ told. told)
 

@@ -1,8 +1,9 @@
 -- What calls on a directory make of its disk.
 use Rattle.std.specs.Prelude.{◌≡◌, ℕ, true, false, List, ◌∷◌, Option, Some}
+use Rattle.std.specs.Option.{option_map}
 use Rattle.std.specs.FinMap as finite
-use Rattle.mx_outside.specs.Disks.{Disk, Files, IfKnown, appended, created, file_synced, names_synced, renamed}
-use Rattle.mx_files.specs.Names.{same_bytes, counts}
+use Rattle.mx_outside.specs.Disks.{Disk, File, Files, IfKnown, appended, created, file_synced, names_synced, renamed}
+use Rattle.mx_files.specs.Names.{same_bytes, counts, is_ours}
 
 -- the newest state has this
 abbrev pub IsNow : Option (List Disk) → (Disk → Type 0) → Type 0
@@ -33,3 +34,12 @@ renamed_durably from to disk = names_synced (renamed from to disk)
 abbrev pub SameBut : List ℕ → Files → Files → Type 0
 SameBut name one other =
     (q : List ℕ) → counts q ≡ true → same_bytes q name ≡ false → finite.get other q ≡ finite.get one q
+
+-- every file that isn't ours is as it was
+abbrev pub KeepsOthers : Disk → Disk → Type 0
+KeepsOthers older newer = (name : List ℕ) → is_ours name ≡ false → finite.get newer.now name ≡ finite.get older.now name
+
+-- each journal and snapshot is there where it was, and has the bytes that it had
+abbrev pub SameContents : Files → Files → Type 0
+SameContents older newer = (name : List ℕ) → counts name ≡ true
+    → option_map (λ (file : File). file.bytes) (finite.get newer name) ≡ option_map (λ (file : File). file.bytes) (finite.get older name)

@@ -1,4 +1,4 @@
--- What a crash may leave of the journals and snapshots of a disk.
+-- Crash images of the journals and snapshots of a disk.
 use Rattle.std.specs.Prelude.{◌≡◌, ℕ, true, List, ◌++◌, take, drop, Any, length, Some, None}
 use Rattle.std.specs.FinMap as finite
 use Rattle.mx_outside.specs.Disks.{File, Files, Disk, Leaves, outcomes}
@@ -13,12 +13,12 @@ IsFairEnd file end =
     (head : Head) (size : ℕ) → IsHeader file.bytes head size
     → (count : ℕ) × (blocks_of (drop size (take file.synced file.bytes ++ end)) ≡ take count (blocks_of (drop size file.bytes)))
 
--- A crash may leave these journals and snapshots, where no bytes that it puts after a file's synced ones pass for a block
--- that wasn't appended there. The other files may be any.
+-- These journals and snapshots are a crash image in which no bytes after a file's synced ones read as a block that wasn't
+-- appended there. The other files may be any.
 abbrev pub IsFair : Disk → Files → Type 0
 IsFair disk image = (name : List ℕ) → counts name ≡ true → Any (λ was. Leaves IsFairEnd was (finite.get image name)) (outcomes name disk)
 
--- whatever a crash leaves now, it might have left before
+-- any crash image now was one before
 abbrev pub LeavesNoOther : Disk → Disk → Type 0
 LeavesNoOther older newer = (image : Files) → IsFair newer image → IsFair older image
 

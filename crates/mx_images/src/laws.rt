@@ -3,8 +3,8 @@
 ghost use Rattle.mx_outside.specs.Disks.{Disk, IsImage};
 ghost use Rattle.mx_images.specs.Fair.{IsFair, IsFairEnd};
 
-/// A theorem, which does nothing when it is called: what a crash may leave of a disk, where no end of a
-/// file passes for a block that wasn't appended there, is fair.
+/// A theorem, which does nothing when it is called: a crash image of a disk is fair where no end of a
+/// file reads as a block that wasn't appended there.
 pub fn images_are_fair()
     ensures { (disk image : Disk) → IsImage IsFairEnd disk image → IsFair disk image.now }
 {}

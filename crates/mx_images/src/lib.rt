@@ -1,4 +1,4 @@
-//! What a crash may leave of the files of a directory that count.
+//! Crash images of the journals and snapshots of a directory.
 #![tactic(auto)]
 
 mod laws;

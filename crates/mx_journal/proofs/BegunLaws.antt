@@ -1,4 +1,4 @@
--- What a crash may leave while a journal is begun.
+-- Crash images while a journal is begun.
 use Rattle.std.proofs.Common.{◌≡◌, ◌⊎◌, inl, inr, ℕ, zero, suc, List, [], ◌++◌, length, take, drop, Option, Some, refl, sym, ap, ◌∙◌, arith}
 use Rattle.std.proofs.lemmas.List.{append-nil, drop_all}
 use Rattle.std.proofs.Math.Seq.{take-length}
@@ -23,7 +23,7 @@ take_none : (count : ℕ) → ◌≡◌ {A = List (List ℕ)} (take count []) []
 take_none zero = refl
 take_none (suc count) = refl
 
--- what a crash may leave after a header has no block
+-- after a header a crash image has no block
 header_alone : (head : Head) (end : List ℕ) → IsHead head → IsFairEnd (synced_file (header_of head)) end
     → ReadsAs (header_of head ++ end) (Some (read_of head []))
 header_alone head end fits fair =

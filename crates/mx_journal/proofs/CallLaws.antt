@@ -1,18 +1,18 @@
--- What calls on a directory leave of the names that count.
-use Rattle.std.proofs.Common.{◌≡◌, ◌⊎◌, inl, inr, ℕ, Bool, true, false, cond, List, [], ◌∷◌, length, take, Option, Some, None, refl, sym, ap, ◌∙◌, arith}
+-- What calls on a directory make of the names that count.
+use Rattle.std.proofs.Common.{◌≡◌, ◌⊎◌, inl, inr, ℕ, false, cond, List, [], ◌∷◌, length, take, Option, Some, refl, sym, ap, ◌∙◌, arith}
 use Rattle.std.proofs.lemmas.List.{take_all}
-use mathlib.Core.Bool.{true≢false}
 use Rattle.std.specs.FinMap as finite
 use Rattle.std.specs.FinMap.{FinMap, get-insert}
 use Rattle.std.specs.Cmp.Lexicographic.{slice_cmp, nat_list_cmp_total}
 use Rattle.std.specs.Ordering.{nat_cmp}
 use Rattle.std.proofs.lemmas.Map.Text.{is_eq-slice_cmp}
-use Rattle.mx_outside.specs.Disks.{Disk, File, Files, IfKnown, Became, Stayed, change_file, longer_by, synced_file, outcomes, or_none, appended, created, file_synced}
+use Rattle.mx_outside.specs.Disks.{Disk, File, IfKnown, Became, Stayed, longer_by, synced_file, outcomes, or_none, appended, created, file_synced}
 use Rattle.mx_outside.specs.Moments.{Moments}
 use Rattle.mx_files.specs.Names.{same_bytes, counts}
 use Rattle.mx_journal.specs.Making.{CountsSame}
 use Rattle.mx_images.specs.Changes.{with_appended}
-use Rattle.mx_images.proofs.DiskLaws.{same_self, same_name, get_inserted}
+use Rattle.mx_images.proofs.DiskLaws.{same_self, get_other, get_change_other}
+use Rattle.mx_images.proofs.OtherLaws.{differs_by_count}
 use Rattle.mx_images.proofs.ToldLaws.{told_weaker}
 use Rattle.mx_images.proofs.MomentLaws.{moments_may, moments_none, moments_one, moments_two, joined_from}
 
@@ -31,14 +31,6 @@ not_synced name more before middle after became stayed = told_weaker before all 
 
 -- ---- a name that doesn't count
 
--- it is none of those that count
-pub differs_by_count : (other name : List ℕ) → counts other ≡ true → counts name ≡ false → same_bytes other name ≡ false
-differs_by_count other name counting not = by_same (same_bytes other name) refl
-  where
-    by_same : (same : Bool) → same_bytes other name ≡ same → same ≡ false
-    by_same true is = absurd (true≢false (sym counting ∙ ap counts (same_name other name is) ∙ not))
-    by_same false is = refl
-
 -- what else a name may be
 pub get_older : (older : FinMap (slice_cmp nat_cmp) (List (Option File))) (name : List ℕ) (files : List (Option File)) (other : List ℕ)
     → same_bytes other name ≡ false → finite.get (finite.insert older name files) other ≡ finite.get older other
@@ -51,19 +43,6 @@ pub get_older_itself : (older : FinMap (slice_cmp nat_cmp) (List (Option File)))
 get_older_itself older name files =
     get-insert nat_list_cmp_total older name files name
     ∙ ap (λ same. cond same (Some files) (finite.get older name)) (is_eq-slice_cmp name name ∙ same_self name)
-
-pub get_other : (files : Files) (name : List ℕ) (file : File) (other : List ℕ) → same_bytes other name ≡ false
-    → finite.get (finite.insert files name file) other ≡ finite.get files other
-get_other files name file other differs =
-    get_inserted files name file other ∙ ap (λ same. cond same (Some file) (finite.get files other)) differs
-
-pub get_change_other : (change : File → File) (name : List ℕ) (files : Files) (other : List ℕ) → same_bytes other name ≡ false
-    → finite.get (change_file change name files) other ≡ finite.get files other
-get_change_other change name files other differs = by_file (finite.get files name) refl
-  where
-    by_file : (found : Option File) → finite.get files name ≡ found → finite.get (change_file change name files) other ≡ finite.get files other
-    by_file None is = rw is refl
-    by_file (Some file) is = rw is (get_other files name (change file) other differs)
 
 -- a name that is now, and was, the same, may be the same
 pub same_outcomes : (other : List ℕ) (older newer : Disk) → finite.get newer.now other ≡ finite.get older.now other

@@ -1,5 +1,6 @@
--- What a crash leaves of a journal's file while bytes are put after it.
-use Rattle.std.proofs.Common.{◌≡◌, ℕ, ◌+◌, ◌≤◌, ◌<◌, Bool, true, false, cond, List, [], ◌∷◌, ◌++◌, length, map, take, drop, Option, Some, None, Any, Result, Ok, Err, MatchResult, string_bytes, refl, sym, ap, ◌∙◌, append_assoc, arith, ◌⊎◌, inl, inr}
+-- Crash images of a journal's file while bytes are appended to it.
+use Rattle.std.proofs.Common.{◌≡◌, ℕ, ◌+◌, ◌≤◌, ◌<◌, Bool, true, false, cond, List, [], ◌∷◌, ◌++◌, length, map, take, drop, Option, Some, None, Any, Result, MatchResult, string_bytes, refl, sym, ap, ◌∙◌, append_assoc, arith, ◌⊎◌, inl, inr}
+use Rattle.std.specs.Prelude.{⊤}
 use Rattle.std.specs.List.{AllByRecursion}
 use Rattle.std.proofs.lemmas.Bool.{cases_lt}
 use Rattle.std.proofs.lemmas.List.{append-nil, take_at, drop_at, take_all, take-take, take_min, take-map, length-take, length-map, length-append}
@@ -19,20 +20,21 @@ use Rattle.mx_xlog.proofs.ReadingLaws.{block_at-Advances, block_at-IsStable, blo
 use Rattle.mx_row.specs.declared.tx.Tx.{Tx}
 use Rattle.mx_row.specs.Rows.{IsTransaction, transaction_text}
 use Rattle.mx_xlog.specs.Files.{ReadsAs}
-use Rattle.mx_files.specs.Names.{same_bytes}
+use Rattle.mx_files.specs.Names.{is_ours, same_bytes}
 use Rattle.mx_journal.proofs.BlockLaws.{blocks_again, all_joined, blocks_text-append, nothing_waits}
 use Rattle.mx_journal.specs.declared.journal.Journal.{Journal}
 use Rattle.mx_images.specs.Fair.{IsFairEnd, IsFair}
-use Rattle.mx_journal.specs.Crashes.{read_of, HasAtLeast, NoFewer}
+use Rattle.mx_journal.specs.Crashes.{read_of, HasAtLeast, HasMost, NoFewer}
 use Rattle.mx_journal.specs.Making.{AppendsSynced}
-use Rattle.mx_images.specs.Changes.{Changed, with_appended, IsNow, SameOthers}
+use Rattle.mx_images.specs.Changes.{Changed, KeepsOthers, with_appended, IsNow, SameOthers}
 use Rattle.mx_journal.specs.Written.{IsWritten, Waits, name_of, file_text, blocks_text}
 use Rattle.mx_images.proofs.DiskLaws.{same_self, same_name, get_inserted, get_changed, only_one, first_one}
-use Rattle.mx_images.proofs.MomentLaws.{moments_none, moments_one, moments_two}
-use Rattle.mx_images.proofs.ToldLaws.{told_weaker, where_told, now_changed}
+use Rattle.mx_images.proofs.MomentLaws.{Steps, while_appended}
+use Rattle.mx_images.proofs.OtherLaws.{append_others}
+use Rattle.mx_images.proofs.ToldLaws.{told_both, told_weaker, where_told, now_changed}
 use Rattle.mx_journal.proofs.WrittenLaws.{bytes_extended, extended_as, others_extended}
 use Rattle.mx_images.proofs.FairLaws.{fair_nothing, front_of_blocks}
-use Rattle.mx_journal.proofs.NameLaws.{name_counts}
+use Rattle.mx_journal.proofs.NameLaws.{name_counts, name_ours}
 
 -- ---- prefixes of lists
 
@@ -82,45 +84,63 @@ header_is head body end fits = record { fits = fits; sized = refl; begins = (bod
 abbrev FileHas : Head → List Tx → Option File → Type 0
 FileHas head txs image = (file : File) × (image ≡ Some file) × ReadsAs file.bytes (Some (read_of head txs))
 
--- it has the first ones, and so many at least
+-- it has a prefix of them, of so many at least
 abbrev HasSome : Head → List Tx → ℕ → Option File → Type 0
 HasSome head all least image = (count : ℕ) × (least ≤ count) × (count ≤ length all) × FileHas head (take count all) image
 
--- blocks that are a prefix of all transactions, and have the first ones
+-- a file whose blocks are those of a prefix of all transactions has that prefix
+front_read : (head : Head) (body end : List ℕ) (all : List Tx) (m : ℕ) → IsHead head → blocks_of (body ++ end) ≡ take m (map transaction_text all)
+    → (length (blocks_of (body ++ end)) ≤ length all)
+    × ReadsAs ((header_of head ++ body) ++ end) (Some (read_of head (take (length (blocks_of (body ++ end))) all)))
+front_read head body end all m fits front =
+    let found = blocks_of (body ++ end) in
+    let texts = map transaction_text all in
+    let (same, short) = own_front m texts found front in
+    let total : length texts ≡ length all = length-map all transaction_text in
+    let blocks : map transaction_text (take (length found) all) ≡ blocks_of (drop (length (header_of head)) ((header_of head ++ body) ++ end)) =
+    sym (take-map transaction_text (length found) all) ∙ sym same ∙ ap blocks_of (sym (behind_header head body end)) in
+    (omega (arith, short, total), (header_is head body end fits, blocks))
+
+-- so many at least, where the blocks begin with those of a prefix
 read_back : (head : Head) (body end : List ℕ) (txs all : List Tx) (m : ℕ) (image : Option File) → IsHead head
     → blocks_of body ≡ map transaction_text txs → blocks_of (body ++ end) ≡ take m (map transaction_text all)
     → image ≡ Some (synced_file ((header_of head ++ body) ++ end)) → HasSome head all (length txs) image
 read_back head body end txs all m image fits first front is =
     let found = blocks_of (body ++ end) in
-    let texts = map transaction_text all in
-    let (same, short) = own_front m texts found front in
+    let (short, read) = front_read head body end all m fits front in
     let (rest, joined) = blocks_first body end in
     let long : length found ≡ length txs + length rest =
     ap length joined ∙ length-append (blocks_of body) rest ∙ ap (λ (blocks : List (List ℕ)). length blocks + length rest) first
     ∙ ap (λ n. n + length rest) (length-map txs transaction_text) in
-    let total : length texts ≡ length all = length-map all transaction_text in
-    let blocks : map transaction_text (take (length found) all) ≡ blocks_of (drop (length (header_of head)) ((header_of head ++ body) ++ end)) =
-    sym (take-map transaction_text (length found) all) ∙ sym same ∙ ap blocks_of (sym (behind_header head body end)) in (
-      length found,
-      omega (arith, long),
-      omega (arith, short, total),
-      (synced_file ((header_of head ++ body) ++ end), is, (header_is head body end fits, blocks)),
-    )
+    (length found, omega (arith, long), short, (synced_file ((header_of head ++ body) ++ end), is, read))
 
--- what a crash leaves of such a file
-file_left : (head : Head) (body more : List ℕ) (txs all : List Tx) (n : ℕ) (image : Option File) → IsHead head
-    → blocks_of body ≡ map transaction_text txs → blocks_of (body ++ more) ≡ take n (map transaction_text all)
-    → Leaves IsFairEnd (Some (kept head body more)) image → HasSome head all (length txs) image
-file_left head body more txs all n image fits first front (end, fair, is) =
-    let texts = map transaction_text all in
+-- the blocks of a crash image of such a file are a prefix of those that it has
+record Left (head : Head) (body more : List ℕ) (image : Option File) : Type 0 where
+  pub end : List ℕ
+  pub count : ℕ
+  pub blocks : blocks_of (body ++ end) ≡ take count (blocks_of (body ++ more))
+  pub is : image ≡ Some (synced_file ((header_of head ++ body) ++ end))
+
+file_left : (head : Head) (body more : List ℕ) (image : Option File) → IsHead head → Leaves IsFairEnd (Some (kept head body more)) image
+    → Left head body more image
+file_left head body more image fits (end, fair, is) =
     let synced : take (length (header_of head ++ body)) ((header_of head ++ body) ++ more) ≡ header_of head ++ body =
     take_at (header_of head ++ body) more (length (header_of head ++ body)) refl in
     let (k, read) = fair head (length (header_of head)) (header_is head body more fits) in
-    let (m, both) = two_fronts k n texts in
-    let seen : blocks_of (body ++ end) ≡ take m texts =
-    ap blocks_of (sym (behind_header head body end)) ∙ ap (λ front. blocks_of (drop (length (header_of head)) (front ++ end))) (sym synced)
-    ∙ read ∙ ap (λ bytes. take k (blocks_of bytes)) (behind_header head body more) ∙ ap (take k) front ∙ both in
-    read_back head body end txs all m image fits first seen (is ∙ ap (λ front. Some (synced_file (front ++ end))) synced)
+    record {
+      end = end;
+      count = k;
+      blocks = ap blocks_of (sym (behind_header head body end)) ∙ ap (λ front. blocks_of (drop (length (header_of head)) (front ++ end))) (sym synced)
+          ∙ read ∙ ap (λ bytes. take k (blocks_of bytes)) (behind_header head body more);
+      is = is ∙ ap (λ front. Some (synced_file (front ++ end))) synced;
+    }
+
+-- they are a prefix of all transactions, where those that it has are
+left_front : (head : Head) (body more : List ℕ) (all : List Tx) (n : ℕ) (image : Option File) → blocks_of (body ++ more) ≡ take n (map transaction_text all)
+    → (left : Left head body more image) → (m : ℕ) × (blocks_of (body ++ left.end) ≡ take m (map transaction_text all))
+left_front head body more all n image front left =
+    let (m, both) = two_fronts left.count n (map transaction_text all) in
+    (m, left.blocks ∙ ap (take left.count) front ∙ both)
 
 -- ---- a directory with such a file
 
@@ -134,14 +154,39 @@ one_outcome : (head : Head) (body more : List ℕ) (disk : Disk) → Keeps head 
 one_outcome head body more disk keeps =
     ap (λ file. file ∷ or_none (finite.get disk.older (name_of head))) keeps.file ∙ ap (λ older. Some (kept head body more) ∷ or_none older) keeps.no_older
 
+-- what a crash leaves of it
+left_in : (head : Head) (body more : List ℕ) (disk : Disk) (image : Files) → IsHead head → Keeps head body more disk → IsFair disk image
+    → Left head body more (finite.get image (name_of head))
+left_in head body more disk image fits keeps fair =
+    let found = finite.get image (name_of head) in
+    let left = λ (was : Option File). Leaves IsFairEnd was found in
+    file_left head body more found fits
+    (only_one left (Some (kept head body more)) (subst (Any left) (one_outcome head body more disk keeps) (fair (name_of head) (name_counts head))))
+
 pub left_at_least : (head : Head) (body more : List ℕ) (txs all : List Tx) (n : ℕ) (disk : Disk) → IsHead head
     → blocks_of body ≡ map transaction_text txs → blocks_of (body ++ more) ≡ take n (map transaction_text all) → Keeps head body more disk
     → HasAtLeast head all (length txs) disk
 left_at_least head body more txs all n disk fits first front keeps image fair =
-    let found = finite.get image (name_of head) in
-    let left = λ (was : Option File). Leaves IsFairEnd was found in
-    file_left head body more txs all n found fits first front
-    (only_one left (Some (kept head body more)) (subst (Any left) (one_outcome head body more disk keeps) (fair (name_of head) (name_counts head))))
+    let left = left_in head body more disk image fits keeps fair in
+    let (m, blocks) = left_front head body more all n (finite.get image (name_of head)) front left in
+    read_back head body left.end txs all m (finite.get image (name_of head)) fits first blocks left.is
+
+-- the file as it reads has at least what a crash leaves of it
+pub has_most : (head : Head) (body more : List ℕ) (all : List Tx) (n : ℕ) (disk : Disk) → IsHead head
+    → blocks_of (body ++ more) ≡ take n (map transaction_text all) → Keeps head body more disk → HasMost head all disk
+has_most head body more all n disk fits front keeps =
+    let now = blocks_of (body ++ more) in
+    let (within, read) = front_read head body more all n fits front in
+    record {
+      count = length now;
+      within = within;
+      has = (kept head body more, keeps.file, read);
+      most = λ image fair.
+          let left = left_in head body more disk image fits keeps fair in
+          let (m, blocks) = left_front head body more all n (finite.get image (name_of head)) front left in
+          let few : length (blocks_of (body ++ left.end)) ≤ length now = omega (arith, ap length left.blocks, length-take left.count now) in
+          (length (blocks_of (body ++ left.end)), few, (synced_file ((header_of head ++ body) ++ left.end), left.is, (front_read head body left.end all m fits blocks).1));
+    }
 
 -- ---- no fewer than before
 
@@ -153,7 +198,7 @@ same_outcomes name q older newer same differs =
 abbrev put_back : Head → List ℕ → Files → Files
 put_back head body image = finite.insert image (name_of head) (synced_file (header_of head ++ body))
 
--- a crash might have left them before
+-- they were a crash image before
 fair_back : (head : Head) (body more : List ℕ) (older newer : Disk) (image : Files) → Keeps head body more older
     → SameOthers (name_of head) older newer → IsFair newer image → IsFair older (put_back head body image)
 fair_back head body more older newer image keeps same fair q counted = by_name (same_bytes q (name_of head)) refl
@@ -270,70 +315,74 @@ module _ (head : Head) (more : List ℕ) (txs all : List Tx) (disk : Disk) (puts
       let (n, front) = front_put body more 0 (map transaction_text all) puts.after in
       left_at_least head body [] txs all n disk puts.fits puts.before front keeps_before
 
-  -- a prefix of the bytes was put
-  pub has_between : (count : ℕ) → HasAtLeast head all (length txs) (appended (name_of head) (take count more) disk)
-  has_between count =
-      let (n, front) = front_put body more count (map transaction_text all) puts.after in
-      left_at_least head body (take count more) txs all n (appended (name_of head) (take count more) disk) puts.fits puts.before front
-      (keeps_appended (take count more))
-
-  -- all was put
-  pub has_appended : HasAtLeast head all (length txs) (appended (name_of head) more disk)
-  has_appended =
+  -- all was put, and synced
+  synced_front : blocks_of ((body ++ more) ++ []) ≡ take (length (map transaction_text all)) (map transaction_text all)
+  synced_front =
       let texts = map transaction_text all in
-      left_at_least head body more txs all (length texts) (appended (name_of head) more disk) puts.fits puts.before
-      (puts.after ∙ sym (take_all (length texts) texts (omega arith))) (keeps_appended more)
+      ap blocks_of (append-nil (body ++ more)) ∙ puts.after ∙ sym (take_all (length texts) texts (omega arith))
 
-  -- and synced
+  keeps_all : Keeps head (body ++ more) [] (with_appended (name_of head) more disk)
+  keeps_all =
+      keeps_synced head (body ++ more) (with_appended (name_of head) more disk)
+      (bytes_extended (name_of head) more (file_text head txs) disk puts.file ∙ ap (λ bytes. Some (synced_file bytes)) (append_assoc (header_of head) body more))
+      puts.no_older
+
   pub has_all : HasAtLeast head all (length all) (with_appended (name_of head) more disk)
   has_all =
-      let texts = map transaction_text all in
-      let file = bytes_extended (name_of head) more (file_text head txs) disk puts.file
-      ∙ ap (λ bytes. Some (synced_file bytes)) (append_assoc (header_of head) body more) in
-      left_at_least head (body ++ more) [] all all (length texts) (with_appended (name_of head) more disk) puts.fits puts.after
-      (ap blocks_of (append-nil (body ++ more)) ∙ puts.after ∙ sym (take_all (length texts) texts (omega arith)))
-      (keeps_synced head (body ++ more) (with_appended (name_of head) more disk) file puts.no_older)
+      left_at_least head (body ++ more) [] all all (length (map transaction_text all)) (with_appended (name_of head) more disk) puts.fits puts.after
+      synced_front keeps_all
 
   -- the states in between: no other file changes, and this one has no fewer each time
-  abbrev pub Grows : Option (List Disk) → List Disk → Type 0
-  Grows states past =
-      Moments (λ now. SameOthers (name_of head) disk now × HasAtLeast head all (length txs) now) (NoFewer head all) states disk past
+  abbrev IsBetween : Disk → Type 0
+  IsBetween now = SameOthers (name_of head) disk now × HasAtLeast head all (length txs) now
 
-  pub grew_none : (after : Option (List Disk)) (past : List Disk) → Stayed after disk past → Grows after past
-  grew_none after past stayed = moments_none _ _ after disk past stayed
-
-  pub grew_some : (count : ℕ) (after : Option (List Disk)) (past : List Disk)
-      → Became after (appended (name_of head) (take count more) disk) disk past → Grows after past
-  grew_some count after past became =
+  put_some : (count : ℕ) → IsBetween (appended (name_of head) (take count more) disk) × NoFewer head all disk (appended (name_of head) (take count more) disk)
+  put_some count =
       let next = appended (name_of head) (take count more) disk in
+      let (n, front) = front_put body more count (map transaction_text all) puts.after in
+      let has = left_at_least head body (take count more) txs all n next puts.fits puts.before front (keeps_appended (take count more)) in
       let others = others_appended (name_of head) (take count more) disk (synced_file (file_text head txs)) puts.file in
-      moments_one _ _ next after disk past (others, has_between count)
-      (no_fewer head body [] txs all disk next puts.before keeps_before others (has_between count)) became
+      ((others, has), no_fewer head body [] txs all disk next puts.before keeps_before others has)
 
-  pub grew_all : (after : Option (List Disk)) (past : List Disk)
-      → after ≡ Some (with_appended (name_of head) more disk ∷ appended (name_of head) more disk ∷ disk ∷ past) → Grows after past
-  grew_all after past told =
+  put_all : IsBetween (with_appended (name_of head) more disk)
+      × NoFewer head all (appended (name_of head) more disk) (with_appended (name_of head) more disk)
+  put_all =
       let file = synced_file (file_text head txs) in
-      let next = appended (name_of head) more disk in
       let last = with_appended (name_of head) more disk in
-      let others = others_appended (name_of head) more disk file puts.file in
-      let has = at_least_weaker head all (length all) (length txs) last no_less has_all in
-      moments_two _ _ next last after disk past (others, has_appended)
-      (no_fewer head body [] txs all disk next puts.before keeps_before others has_appended)
-      (others_extended (name_of head) more disk file puts.file, has)
-      (no_fewer head body more txs all next last puts.before (keeps_appended more) (others_synced (name_of head) more disk file puts.file) has) told
+      let has = at_least_weaker head all (length all) (length txs) last no_less has_all in (
+        (others_extended (name_of head) more disk file puts.file, has),
+        no_fewer head body more txs all (appended (name_of head) more disk) last puts.before (keeps_appended more)
+            (others_synced (name_of head) more disk file puts.file) has,
+      )
 
-  pub grew : {T E : Type 0} (wanted bytes : List ℕ) (after : Option (List Disk)) (past : List Disk) (result : Result T E) → wanted ≡ name_of head → bytes ≡ more
-      → MatchResult result (λ value. after ≡ Some (with_appended wanted bytes disk ∷ appended wanted bytes disk ∷ disk ∷ past))
-      (λ error. Stayed after disk past ⊎ ((count : ℕ) × Became after (appended wanted (take count bytes) disk) disk past))
-      → Grows after past
-  grew wanted bytes after past (Ok value) named same told =
-      grew_all after past (told ∙ ap (λ n. Some (with_appended n bytes disk ∷ appended n bytes disk ∷ disk ∷ past)) named
-      ∙ ap (λ b. Some (with_appended (name_of head) b disk ∷ appended (name_of head) b disk ∷ disk ∷ past)) same)
-  grew wanted bytes after past (Err error) named same (inl stayed) = grew_none after past stayed
-  grew wanted bytes after past (Err error) named same (inr (count, became)) =
-      grew_some count after past (became ∙ ap (λ n. Some (appended n (take count bytes) disk ∷ disk ∷ past)) named
-      ∙ ap (λ b. Some (appended (name_of head) (take count b) disk ∷ disk ∷ past)) same)
+  -- and it has at least what a crash leaves of it
+  most_some : (count : ℕ) → HasMost head all (appended (name_of head) (take count more) disk)
+  most_some count =
+      let (n, front) = front_put body more count (map transaction_text all) puts.after in
+      has_most head body (take count more) all n (appended (name_of head) (take count more) disk) puts.fits front (keeps_appended (take count more))
+
+  most_all : HasMost head all (with_appended (name_of head) more disk)
+  most_all =
+      has_most head (body ++ more) [] all (length (map transaction_text all)) (with_appended (name_of head) more disk) puts.fits synced_front keeps_all
+
+  module _ {T E : Type 0} (wanted bytes : List ℕ) (after : Option (List Disk)) (past : List Disk) (result : Result T E) (named : wanted ≡ name_of head)
+      (same : bytes ≡ more) (appends : MatchResult result (λ value. after ≡ Some (with_appended wanted bytes disk ∷ appended wanted bytes disk ∷ disk ∷ past))
+      (λ error. Stayed after disk past ⊎ ((count : ℕ) × Became after (appended wanted (take count bytes) disk) disk past))) where
+    appends_more : MatchResult result
+        (λ value. after ≡ Some (with_appended (name_of head) more disk ∷ appended (name_of head) more disk ∷ disk ∷ past))
+        (λ error. Stayed after disk past ⊎ ((count : ℕ) × Became after (appended (name_of head) (take count more) disk) disk past))
+    appends_more = subst (λ b. Put (name_of head) b) same (subst (λ n. Put n bytes) named appends)
+      where
+        Put : List ℕ → List ℕ → Type 0
+        Put n b = MatchResult result (λ value. after ≡ Some (with_appended n b disk ∷ appended n b disk ∷ disk ∷ past))
+            (λ error. Stayed after disk past ⊎ ((count : ℕ) × Became after (appended n (take count b) disk) disk past))
+
+    pub grew : Moments IsBetween (NoFewer head all) after disk past
+    grew = while_appended IsBetween (NoFewer head all) (name_of head) more disk put_some put_all after past result appends_more
+
+    pub grew_most : Moments (HasMost head all) (λ older newer. ⊤) after disk past
+    grew_most =
+        while_appended (HasMost head all) (λ older newer. ⊤) (name_of head) more disk (λ count. (most_some count, tt)) (most_all, tt) after past result appends_more
 
 -- ---- what a journal's calls put
 
@@ -373,6 +422,15 @@ wrote_moments journal name bytes before after result txs waits named same =
     grew journal.head journal.waiting txs (txs ++ waits) disk (puts_waiting journal disk txs waits written waiting) name bytes after past result
     (named ∙ written.named) same appends)
 
+pub wrote_reads : {T E : Type 0} (journal : Journal) (name bytes : List ℕ) (before after : Option (List Disk)) (result : Result T E) (txs waits : List Tx)
+    → name ≡ string_bytes journal.name → bytes ≡ journal.waiting → AppendsSynced name bytes before after result
+    → IfKnown before (λ disk past. IsWritten journal disk txs → Waits journal waits
+    → Moments (HasMost journal.head (txs ++ waits)) (λ older newer. ⊤) after disk past)
+wrote_reads journal name bytes before after result txs waits named same =
+    told_weaker before (λ disk past appends written waiting.
+    grew_most journal.head journal.waiting txs (txs ++ waits) disk (puts_waiting journal disk txs waits written waiting) name bytes after past result
+    (named ∙ written.named) same appends)
+
 pub ended_moments : {T E : Type 0} (journal : Journal) (name bytes : List ℕ) (before after : Option (List Disk)) (result : Result T E) (txs : List Tx)
     → name ≡ string_bytes journal.name → bytes ≡ end_marker → AppendsSynced name bytes before after result
     → IfKnown before (λ disk past. IsWritten journal disk txs
@@ -380,6 +438,13 @@ pub ended_moments : {T E : Type 0} (journal : Journal) (name bytes : List ℕ) (
 ended_moments journal name bytes before after result txs named same =
     told_weaker before (λ disk past appends written.
     grew journal.head end_marker txs txs disk (puts_marker journal disk txs written) name bytes after past result (named ∙ written.named) same appends)
+
+pub ended_reads : {T E : Type 0} (journal : Journal) (name bytes : List ℕ) (before after : Option (List Disk)) (result : Result T E) (txs : List Tx)
+    → name ≡ string_bytes journal.name → bytes ≡ end_marker → AppendsSynced name bytes before after result
+    → IfKnown before (λ disk past. IsWritten journal disk txs → Moments (HasMost journal.head txs) (λ older newer. ⊤) after disk past)
+ended_reads journal name bytes before after result txs named same =
+    told_weaker before (λ disk past appends written.
+    grew_most journal.head end_marker txs txs disk (puts_marker journal disk txs written) name bytes after past result (named ∙ written.named) same appends)
 
 -- all that was pushed
 counted : (journal : Journal) (disk : Disk) (txs waits : List Tx) → IsWritten journal disk txs → Waits journal waits → journal.pushed ≡ length (txs ++ waits)
@@ -411,3 +476,11 @@ caught_up_synced journal states count txs waits none pushed =
     let same : length txs ≡ count = sym (ap length (ap (λ more. txs ++ more) nothing ∙ append-nil txs)) ∙ sym total in
     let has = has_before journal.head journal.waiting txs (txs ++ waits) disk (puts_waiting journal disk txs waits written waiting) in
     (total, (disk, past, told, subst (λ n. HasAtLeast journal.head (txs ++ waits) n disk) same has)))
+
+-- the calls change no file that isn't ours
+pub put_others : {T E : Type 0} (journal : Journal) (name bytes : List ℕ) (before after : Option (List Disk)) (result : Result T E)
+    → name ≡ string_bytes journal.name → IfKnown before (λ disk past. (txs : List Tx) × IsWritten journal disk txs)
+    → AppendsSynced name bytes before after result → Steps KeepsOthers before after
+put_others journal name bytes before after result named =
+    told_both before (λ disk past (txs, written).
+    append_others name bytes (Some (disk ∷ past)) after result (ap is_ours (named ∙ written.named) ∙ name_ours journal.head))

@@ -1,4 +1,4 @@
--- What a crash may leave where a draft gets a file's name.
+-- Crash images where a draft gets a file's name.
 use Rattle.std.proofs.Common.{◌≡◌, ◌⊎◌, inl, inr, ℕ, zero, suc, ◌+◌, Bool, true, false, ◌&&◌, ◌||◌, cond, List, [], ◌∷◌, ◌++◌, length, take, drop, Option, Some, None, Any, codes, refl, sym, ap, ◌∙◌, arith}
 use Rattle.std.proofs.lemmas.List.{length-append}
 use Rattle.std.proofs.lemmas.Bool.{eqb-true}
@@ -15,10 +15,11 @@ use Rattle.mx_files.specs.Names.{draft_ending, is_numbered, is_snapshot, same_by
 use Rattle.mx_images.specs.Fair.{IsFair, IsFairEnd}
 use Rattle.mx_images.specs.Changes.{SameBut, Changed, with_draft, renamed_durably, IsNow}
 use Rattle.mx_journal.specs.Making.{CountsSame, HasMade, MayMakeFile}
-use Rattle.mx_journal.proofs.CallLaws.{KeepsCounting, differs_by_count, get_older, get_older_itself, same_outcomes}
+use Rattle.mx_journal.proofs.CallLaws.{KeepsCounting, get_older, get_older_itself, same_outcomes}
 use Rattle.mx_images.proofs.DiskLaws.{same_name, get_inserted, get_removed, get_drafted, get_moved, get_made, at_itself, only_one, first_one}
 use Rattle.mx_images.proofs.FairLaws.{fair_nothing}
 use Rattle.mx_images.proofs.MomentLaws.{moments_may, moments_two, joined_from, weaker}
+use Rattle.mx_images.proofs.OtherLaws.{differs_by_count}
 use Rattle.mx_images.proofs.ToldLaws.{told_weaker, told_both, told_after, told_nothing, now_changed}
 
 -- ---- a draft's name never counts
@@ -45,7 +46,7 @@ pub draft_counts : (name : List ℕ) → counts (name ++ draft_ending) ≡ false
 draft_counts name =
     ap (λ test. test || is_snapshot (name ++ draft_ending)) (draft_ends (codes ".xlog") name refl refl) ∙ draft_ends (codes ".snap") name refl refl
 
--- ---- what a crash may leave of a name
+-- ---- a name in a crash image
 
 abbrev Fair : Files → List ℕ → Option File → Type 0
 Fair image name was = Leaves IsFairEnd was (finite.get image name)
@@ -58,7 +59,7 @@ first_or_later P first others (suc place, file, inside, is, here) = inr (place, 
 alone : (name : List ℕ) (disk : Disk) → outcomes name (names_synced disk) ≡ finite.get disk.now name ∷ []
 alone name disk = ap (λ older. finite.get disk.now name ∷ or_none older) (get-empty (slice_cmp nat_cmp) name)
 
--- the files with the least that a crash leaves of this name, where it was this
+-- the files with the least that a crash image has at this name, where it was this
 abbrev least : List ℕ → Option File → Files → Files
 least name None files = finite.remove files name
 least name (Some file) files = finite.insert files name (synced_file (take file.synced file.bytes ++ []))
@@ -77,7 +78,7 @@ least_other name (Some file) files other differs =
     let left = synced_file (take file.synced file.bytes ++ []) in
     get_inserted files name left other ∙ ap (λ same. cond same (Some left) (finite.get files other)) differs
 
--- where a crash might have left all names but one, and leaves the new file at that one
+-- where all names but one are as in a crash image, and that one has the new file
 made_from : (name bytes : List ℕ) (older : Disk) (image : Files)
     → ((other : List ℕ) → counts other ≡ true → same_bytes other name ≡ false → Any (Fair image other) (outcomes other older))
     → Fair image name (Some (synced_file bytes)) → HasMade name bytes older image
@@ -178,7 +179,7 @@ renamed_may draft name bytes disk not is image fair = by_count (counts name) ref
         by_first (first_or_later (Fair image name) (Some (synced_file bytes)) (outcomes name disk)
         (subst (Any (Fair image name)) (renamed_itself draft name disk (synced_file bytes) is (differs_by_count name draft counting not)) (fair name counting)))
 
--- the file is there, whatever a crash leaves
+-- the file is there after any crash
 made_there : (draft name bytes : List ℕ) (disk : Disk) → counts draft ≡ false → counts name ≡ true → (image : Files)
     → IsFair (renamed_durably draft name (with_draft draft bytes disk)) image → HasMade name bytes disk image
 made_there draft name bytes disk not counting image fair =

@@ -1,4 +1,4 @@
--- What a crash leaves of a journal's file, and of the journals and snapshots beside it.
+-- Crash images of a journal's file, and of the journals and snapshots beside it.
 use Rattle.std.specs.Prelude.{◌≡◌, ◌⊎◌, ℕ, ◌≤◌, List, [], length, map, take, Some}
 use Rattle.std.specs.FinMap as finite
 use Rattle.mx_outside.specs.Disks.{Disk, File, Files}
@@ -20,19 +20,26 @@ abbrev pub HasFile : Head → List Tx → Files → Type 0
 HasFile head transactions files =
     (file : File) × (finite.get files (name_of head) ≡ Some file) × ReadsAs file.bytes (Some (read_of head transactions))
 
--- Whatever a crash leaves, the journal's file has the first ones of these transactions, and so many at least.
+-- After any crash the journal's file has a prefix of these transactions, which has at least so many of them.
 abbrev pub HasAtLeast : Head → List Tx → ℕ → Disk → Type 0
 HasAtLeast head transactions least disk =
     (image : Files) → IsFair disk image → (count : ℕ) × (least ≤ count) × (count ≤ length transactions) × HasFile head (take count transactions) image
+
+-- The journal's file has the first ones of these transactions, and whatever a crash leaves, it has no more of them.
+pub record HasMost (head : Head) (transactions : List Tx) (disk : Disk) : Type 0 where
+  pub count : ℕ
+  pub within : count ≤ length transactions
+  pub has : HasFile head (take count transactions) disk.now
+  pub most : (image : Files) → IsFair disk image → (fewer : ℕ) × (fewer ≤ count) × HasFile head (take fewer transactions) image
 
 -- it has no fewer than before: each bound that held still holds
 abbrev pub NoFewer : Head → List Tx → Disk → Disk → Type 0
 NoFewer head transactions older newer = (least : ℕ) → HasAtLeast head transactions least older → HasAtLeast head transactions least newer
 
--- a crash might have left these files, but for the journal's file, which has no transaction
+-- these files are a crash image, except for the journal's file, which has no transaction
 abbrev pub HasBegun : Head → Disk → Files → Type 0
 HasBegun head disk image = (was : Files) × IsFair disk was × SameBut (name_of head) was image × HasFile head [] image
 
--- whatever a crash leaves now, it might have left before, but for the journal's file, which may have been begun
+-- any crash image now was one before, except for the journal's file, which may have been begun
 abbrev pub MayBegin : Head → Disk → Disk → Type 0
 MayBegin head older newer = (image : Files) → IsFair newer image → IsFair older image ⊎ HasBegun head older image

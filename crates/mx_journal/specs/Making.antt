@@ -23,12 +23,12 @@ RenamesDurably from to before after result = IfKnown before (λ disk past. Match
 abbrev pub CountsSame : Disk → Disk → Type 0
 CountsSame older newer = (name : List ℕ) → counts name ≡ true → outcomes name newer ≡ outcomes name older
 
--- a crash might have left these files, but for the one of this name, which has these bytes and an end
+-- these files are a crash image, except for the one of this name, which has these bytes and an end
 abbrev pub HasMade : (name bytes : List ℕ) → Disk → Files → Type 0
 HasMade name bytes disk image =
     (was : Files) × IsFair disk was × SameBut name was image
     × (end : List ℕ) × IsFairEnd (synced_file bytes) end × (finite.get image name ≡ Some (synced_file (bytes ++ end)))
 
--- whatever a crash leaves now, it might have left before, but for the file of this name, which may have these bytes
+-- any crash image now was one before, except for the file of this name, which may have these bytes
 abbrev pub MayMakeFile : (name bytes : List ℕ) → Disk → Disk → Type 0
 MayMakeFile name bytes older newer = (image : Files) → IsFair newer image → IsFair older image ⊎ HasMade name bytes older image

@@ -1,6 +1,6 @@
 //! The journal.
 
-ghost use Rattle.std.specs.Prelude.{◌≡◌, ◌+◌, ◌++◌, ◌∷◌, [], false, true, List, length, Some, IfOk, OnOk};
+ghost use Rattle.std.specs.Prelude.{◌≡◌, ◌+◌, ◌++◌, ◌∷◌, [], ⊤, false, true, List, length, Some, IfOk, OnErr, OnOk};
 ghost use Rattle.std.specs.FinMap as finite;
 ghost use Rattle.mx_outside.specs.Causes.{HasCauseOf};
 ghost use Rattle.mx_outside.specs.Disks.{Disk, Files, IfKnown, KnownAlike, synced_file};
@@ -13,9 +13,9 @@ ghost use Rattle.mx_row.specs.Clocks.{follows, clock_after_one};
 ghost use Rattle.mx_journal.specs.Counting.{SameButPushed, caught_up};
 ghost use Rattle.mx_journal.specs.declared.fault.JournalFault.TheVariants.{Failed};
 ghost use Rattle.mx_images.specs.Fair.{IsFair};
-ghost use Rattle.mx_journal.specs.Crashes.{HasAtLeast, HasBegun, MayBegin, NoFewer};
+ghost use Rattle.mx_journal.specs.Crashes.{HasAtLeast, HasBegun, HasMost, MayBegin, NoFewer};
 ghost use Rattle.mx_journal.specs.Written.{IsWritten, Waits, IsNewest, Created, file_text, name_of};
-ghost use Rattle.mx_images.specs.Changes.{IsNow, SameOthers};
+ghost use Rattle.mx_images.specs.Changes.{IsNow, KeepsOthers, SameOthers};
 
 use crate::fault::JournalFault;
 use crate::making::{append_synced, make_file};
@@ -28,7 +28,7 @@ use mx_xlog::{Head, write_block, write_end, write_header};
 use std::alloc::{AllocError, Global};
 
 /// A journal that writes to one file of a directory, whose name is the signature of the vclock at
-/// which the file begins. It doesn't own the directory; each call is given it.
+/// which the file begins. It doesn't own the directory; each call takes it.
 ///
 /// Transactions are pushed, and wait until they are written out, each as one block, and synced.
 #[derive(Debug, Drop)]
@@ -45,10 +45,10 @@ pub struct Journal {
 
 impl Journal {
     /// Begins a journal: a file that has a header and no block. It gets its name once it is durable,
-    /// in the place of the file that has this name.
+    /// and replaces a file that has this name.
     ///
-    /// A crash meanwhile leaves what one before might have left, but for this file; after `Ok` it
-    /// leaves this file too.
+    /// Until it returns, each crash image is one of the directory as it was before, except for this
+    /// file; after `Ok` each crash image has this file too. Files that aren't the database's are kept.
     ///
     /// # Errors
     /// A call on the directory failed, or out of memory.
@@ -60,6 +60,7 @@ impl Journal {
         ensures created { IfKnown (D.states dir.old) (λ disk past. IfOk result (λ journal.
             IsNow (D.states dir.new) (λ now. IsWritten journal now [] × Created head disk now))) }
         ensures moments { IfKnown (D.states dir.old) (λ disk past. Moments (MayBegin head disk) (MayBegin head) (D.states dir.new) disk past) }
+        ensures others { IfKnown (D.states dir.old) (λ disk past. Moments (λ _. ⊤) KeepsOthers (D.states dir.new) disk past) }
         ensures there { IfKnown (D.states dir.old) (λ disk past. IfOk result (λ journal.
             IsNow (D.states dir.new) (λ now. (image : Files) → IsFair now image → HasBegun head disk image))) }
         ensures begins { IfOk result (λ journal. (journal.head ≡ head) × (journal.clock ≡ head.clock) × Waits journal []) }
@@ -84,7 +85,7 @@ impl Journal {
     /// Adds a transaction to those that wait. It has the next lsn of its replica.
     ///
     /// # Errors
-    /// Out of memory. The journal can't be used any more.
+    /// Out of memory; the journal is as before.
     pub fn push(&mut self, alloc: Global, tx: &Tx) -> Result<(), AllocError>
         requires sound { IsTransaction tx.now }
         requires follows { follows self.old.next tx.now ≡ true }
@@ -93,30 +94,29 @@ impl Journal {
         ensures written { (disk : Disk) (txs : List Tx) → IsWritten self.old disk txs → IsWritten self.new disk txs }
         ensures head { self.new.head ≡ self.old.head }
         ensures clock { self.new.clock ≡ self.old.clock }
-    {
-        let mut rows = Bytes::new(alloc);
-        write_tx(tx, &mut rows)?;
-        write_block(rows.as_slice(), &mut self.waiting)?;
-        self.note_pushed(tx)?;
-        Ok(())
-    }
-
-    /// Counts a transaction that was put after those that wait.
-    fn note_pushed(&mut self, tx: &Tx) -> Result<(), AllocError>
-        requires sound { IsTransaction tx.now }
-        requires follows { follows self.old.next tx.now ≡ true }
-        ensures next { OnOk result (self.new.next ≡ clock_after_one self.old.next tx.now) }
-        ensures pushed { OnOk result (self.new.pushed ≡ self.old.pushed + 1) }
-        ensures others { SameButPushed self.old self.new }
+        ensures err { OnErr result (self.new ≡ self.old) }
     {
         let Some(pushed) = self.pushed.checked_add(1) else {
             return Err(AllocError);
         };
+        let mut rows = Bytes::new(alloc);
+        write_tx(tx, &mut rows)?;
+        write_block(rows.as_slice(), &mut self.waiting)?;
+        self.note_pushed(tx, pushed);
+        Ok(())
+    }
+
+    fn note_pushed(&mut self, tx: &Tx, pushed: u64)
+        requires sound { IsTransaction tx.now }
+        requires follows { follows self.old.next tx.now ≡ true }
+        ensures next { self.new.next ≡ clock_after_one self.old.next tx.now }
+        ensures pushed { self.new.pushed ≡ pushed }
+        ensures others { SameButPushed self.old self.new }
+    {
         let Ok(()) = self.next.follow(tx.replica, tx.first) else {
             unreachable!();
         };
         self.pushed = pushed;
-        Ok(())
     }
 
     /// Writes what waits, and syncs it. Says how many of its transactions are durable.
@@ -134,6 +134,9 @@ impl Journal {
         ensures moments { (txs waits : List Tx) → IfKnown (D.states dir.old) (λ disk past. IsWritten self.old disk txs → Waits self.old waits
             → Moments (λ now. SameOthers (name_of self.old.head) disk now × HasAtLeast self.old.head (txs ++ waits) (length txs) now)
             (NoFewer self.old.head (txs ++ waits)) (D.states dir.new) disk past) }
+        ensures reads { (txs waits : List Tx) → IfKnown (D.states dir.old) (λ disk past. IsWritten self.old disk txs → Waits self.old waits
+            → Moments (HasMost self.old.head (txs ++ waits)) (λ _ _. ⊤) (D.states dir.new) disk past) }
+        ensures others { IfKnown (D.states dir.old) (λ disk past. Moments (λ _. ⊤) KeepsOthers (D.states dir.new) disk past) }
         ensures synced { (txs waits : List Tx) → IfKnown (D.states dir.old) (λ disk past. IsWritten self.old disk txs → Waits self.old waits
             → IfOk result (λ count. (count ≡ length (txs ++ waits)) × IsNow (D.states dir.new) (HasAtLeast self.old.head (txs ++ waits) count))) }
         ensures none { IfOk result (λ count. Waits self.new [] × (count ≡ self.old.pushed) × (self.new.clock ≡ self.old.next)) }
@@ -152,7 +155,6 @@ impl Journal {
         Ok(self.note_written())
     }
 
-    /// Notes that all transactions that were pushed are durable, and says how many they are.
     fn note_written(&mut self) -> u64
         ensures journal { self.new ≡ caught_up self.old }
         ensures count { result ≡ self.old.pushed }
@@ -177,6 +179,9 @@ impl Journal {
         ensures moments { (txs : List Tx) → IfKnown (D.states dir.old) (λ disk past. IsWritten self disk txs
             → Moments (λ now. SameOthers (name_of self.head) disk now × HasAtLeast self.head txs (length txs) now)
             (NoFewer self.head txs) (D.states dir.new) disk past) }
+        ensures reads { (txs : List Tx) → IfKnown (D.states dir.old) (λ disk past. IsWritten self disk txs
+            → Moments (HasMost self.head txs) (λ _ _. ⊤) (D.states dir.new) disk past) }
+        ensures others { IfKnown (D.states dir.old) (λ disk past. Moments (λ _. ⊤) KeepsOthers (D.states dir.new) disk past) }
         ensures cause { HasCauseOf Failed (D.faults dir.old) (D.faults dir.new) result }
     {
         let mut marker = Bytes::new(alloc);

@@ -1,13 +1,13 @@
 //! Files that are made and appended to, durably.
 
-ghost use Rattle.std.specs.Prelude.{◌≡◌, ◌++◌, true, false, List, OnOk};
+ghost use Rattle.std.specs.Prelude.{◌≡◌, ◌++◌, ⊤, true, false, List, OnOk};
 ghost use Rattle.mx_outside.specs.Causes.{HasCauseOf};
 ghost use Rattle.mx_outside.specs.Disks.{Files, IfKnown, IsThere, KnownAlike};
 ghost use Rattle.mx_outside.specs.Moments.{Moments};
-ghost use Rattle.mx_files.specs.Names.{draft_ending, counts};
+ghost use Rattle.mx_files.specs.Names.{draft_ending, counts, is_ours};
 ghost use Rattle.mx_journal.specs.declared.fault.JournalFault.TheVariants.{Failed};
 ghost use Rattle.mx_images.specs.Fair.{IsFair};
-ghost use Rattle.mx_images.specs.Changes.{IsNow, Changed, with_draft, with_appended, renamed_durably};
+ghost use Rattle.mx_images.specs.Changes.{IsNow, Changed, KeepsOthers, with_draft, with_appended, renamed_durably};
 ghost use Rattle.mx_journal.specs.Making.{AppendsSynced, CountsSame, HasMade, MayMakeFile, RenamesDurably};
 
 use crate::fault::JournalFault;
@@ -17,9 +17,6 @@ use std::alloc::Global;
 
 /// Makes a file of these bytes in the place of the one that has this name. It has a draft's name
 /// until all of it is durable.
-///
-/// # Errors
-/// A call on the directory failed, or out of memory.
 pub(crate) fn make_file<D: Dir>(
     alloc: Global,
     dir: &mut D,
@@ -32,6 +29,8 @@ pub(crate) fn make_file<D: Dir>(
         (D.states dir.old) (D.states dir.new)) }
     ensures moments { IfKnown (D.states dir.old) (λ disk past.
         Moments (MayMakeFile name.now bytes.now disk) (MayMakeFile name.now bytes.now) (D.states dir.new) disk past) }
+    ensures others { is_ours name.now ≡ true → is_ours (name.now ++ draft_ending) ≡ true
+        → IfKnown (D.states dir.old) (λ disk past. Moments (λ _. ⊤) KeepsOthers (D.states dir.new) disk past) }
     ensures there { counts name.now ≡ true → IfKnown (D.states dir.old) (λ disk past. OnOk result (IsNow (D.states dir.new) (λ now.
         (image : Files) → IsFair now image → HasMade name.now bytes.now disk image))) }
     ensures cause { HasCauseOf Failed (D.faults dir.old) (D.faults dir.new) result }
@@ -42,7 +41,6 @@ pub(crate) fn make_file<D: Dir>(
     Ok(())
 }
 
-/// Makes a file of these bytes, and syncs it. It is no journal yet.
 fn write_draft<D: Dir>(
     alloc: Global,
     dir: &mut D,
@@ -53,6 +51,7 @@ fn write_draft<D: Dir>(
     ensures told { KnownAlike (D.states dir.old) (D.states dir.new) }
     ensures made { OnOk result (Changed (with_draft name.now bytes.now) (D.states dir.old) (D.states dir.new)) }
     ensures moments { IfKnown (D.states dir.old) (λ disk past. Moments (CountsSame disk) CountsSame (D.states dir.new) disk past) }
+    ensures others { is_ours name.now ≡ true → IfKnown (D.states dir.old) (λ disk past. Moments (λ _. ⊤) KeepsOthers (D.states dir.new) disk past) }
     ensures there { OnOk result (IsThere (D.states dir.new) name.now) }
     ensures cause { HasCauseOf Failed (D.faults dir.old) (D.faults dir.new) result }
 {
@@ -61,10 +60,6 @@ fn write_draft<D: Dir>(
     Ok(())
 }
 
-/// Puts bytes at the end of a file, and syncs it.
-///
-/// # Errors
-/// A call on the directory failed, or out of memory.
 pub(crate) fn append_synced<D: Dir>(
     alloc: Global,
     dir: &mut D,
@@ -83,7 +78,6 @@ pub(crate) fn append_synced<D: Dir>(
     Ok(())
 }
 
-/// Gives a file its other name, and syncs the names.
 fn rename_durably<D: Dir>(
     alloc: Global,
     dir: &mut D,

@@ -6,10 +6,11 @@ use Rattle.mx_outside.specs.Disks.{File, Disk, IfKnown, KnownAlike, Makes, Becam
 use Rattle.mx_files.specs.Names.{is_journal, is_draft, is_numbered}
 use Rattle.mx_files.proofs.NameLaws.{one_ending, draft_is_no_journal}
 use Rattle.mx_images.specs.Changes.{IsNow}
+use Rattle.mx_images.proofs.ContentLaws.{whole}
 use Rattle.mx_recover.specs.Durability.{MadeDurable}
 use Rattle.mx_recover.specs.Turns.{after_turns, AreThere}
 use Rattle.mx_recover.proofs.PassingLaws.{Reached, where_told, at_told, at_now}
-use Rattle.mx_recover.proofs.TurnLaws.{among, among_keys, keys_apart, IsApart, are_there, at_turns, whole, whole_again, at_synced, gone, at_removed}
+use Rattle.mx_recover.proofs.TurnLaws.{among, among_keys, keys_apart, IsApart, are_there, at_turns, whole_again, at_synced, gone, at_removed}
 
 journal_is_no_draft : (name : List ℕ) → is_journal name ≡ true → is_draft name ≡ false
 journal_is_no_draft name is =
@@ -88,7 +89,7 @@ module _ (disk : Disk) (names : List (List ℕ)) (all : names ≡ finite.keys di
   drafts_there = are_there is_draft removed gone at_removed names synced apart
       (λ q is. ap is_some (in_synced q) ∙ some_still _ (finite.get disk.now q) ∙ sym (named q) ∙ is)
 
--- The same of what is told.
+-- The same of what is known.
 module _ (names : List (List ℕ)) (before : Option (List Disk)) (all : IfKnown before (λ disk past. names ≡ finite.keys disk.now)) where
   pub journals_come : IfKnown before (λ disk past. AreThere is_journal file_synced names disk)
   journals_come = where_told before (λ disk past told. journals_there disk names (at_told _ before disk past told all))

@@ -1,4 +1,4 @@
--- What one file more makes of what a directory's journals stand for.
+-- What one file more makes of what a directory's journals recover to.
 use Rattle.std.proofs.Common.{◌≡◌, ℕ, Bool, true, false, cond, List, [], ◌∷◌, ◌++◌, Option, Some, None, is_some, IsSome, Result, Ok, Err, refl, sym, ap, ◌∙◌, subst, inl, inr}
 use Rattle.std.specs.Prelude.{IfSome, OnOk}
 use Rattle.std.specs.List.{filter, last_or}
@@ -141,7 +141,7 @@ pub snapshot_damaged : (found : Files) (damage : Damage) → directory_state (fi
     → IsDirectoryState found (Err damage)
 snapshot_damaged found damage is = ([], filter is_journal (finite.keys found), record { names = refl; each = tt }, tt, sym is)
 
--- The same where the directory tells its files.
+-- The same where the directory's files are known.
 
 pub passed_by : (states : Option (List Disk)) (name : List ℕ) (before : Reached) → is_journal name ≡ false
     → IfKnown states (λ disk past. Passes disk.now name before (Ok before))
@@ -169,7 +169,7 @@ pub begins : (states : Option (List Disk)) (names : List (List ℕ)) → IfKnown
     → IfKnown states (λ disk past. IsUnderway disk.now names nothing_yet)
 begins states names all = told_weaker states (λ disk past is. at_first disk.now names is) all
 
--- the names yet to come in which the first one is told
+-- the names yet to come, whose first one is known
 module _ (states now : Option (List Disk)) (rest others : List (List ℕ)) (name called : List ℕ) (next : rest ≡ name ∷ others) (same : called ≡ name)
     (alike : now ≡ states) (before : Reached) (way : IfKnown states (λ disk past. IsUnderway disk.now rest before)) where
   way_called : IfKnown states (λ disk past. IsUnderway disk.now (called ∷ others) before)

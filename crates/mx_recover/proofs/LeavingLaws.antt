@@ -1,20 +1,27 @@
--- Which changes of a directory let a crash leave nothing new.
-use Rattle.std.proofs.Common.{◌≡◌, ℕ, zero, suc, Bool, true, false, cond, ◌||◌, List, [], ◌∷◌, ◌++◌, length, take, drop, Any, Option, Some, None, Result, Ok, Err, refl, sym, ap, subst, ◌∙◌, append_assoc, arith}
+-- Which changes of a directory add no crash image.
+use Rattle.std.proofs.Common.{◌≡◌, ℕ, zero, suc, Bool, true, false, cond, ◌||◌, List, ◌∷◌, ◌++◌, length, take, drop, Any, Option, Some, None, refl, sym, ap, subst, ◌∙◌, append_assoc, arith}
 use Rattle.std.proofs.lemmas.List.{take_all, take-append-drop}
+use Rattle.std.specs.Prelude.{⊤}
 use Rattle.std.specs.Ordering.{nat_cmp}
 use Rattle.std.specs.Cmp.Lexicographic.{slice_cmp, bytes_decides, nat_list_cmp_total}
 use Rattle.std.proofs.lemmas.Map.Text.{is_eq-slice_cmp}
+use Rattle.std.specs.Option.{option_map}
 use Rattle.std.specs.FinMap as finite
 use Rattle.std.specs.FinMap.{get-empty, get-insert}
-use Rattle.mx_outside.specs.Disks.{Disk, File, IfKnown, Leaves, Makes, MayMake, outcomes, or_none, synced_file, file_synced, removed, names_synced}
+use Rattle.mx_outside.specs.Disks.{Disk, File, IfKnown, Leaves, outcomes, or_none, synced_file, file_synced, removed, names_synced}
 use Rattle.mx_outside.specs.Moments.{Moments}
 use Rattle.mx_xlog.specs.Reading.{blocks_of}
-use Rattle.mx_files.specs.Names.{is_snapshot, is_draft, same_bytes, counts}
+use Rattle.mx_files.specs.Names.{is_journal, is_snapshot, is_draft, same_bytes, counts}
 use Rattle.mx_files.proofs.NameLaws.{draft_is_no_journal, draft_is_no_snapshot}
+use Rattle.mx_images.specs.Changes.{KeepsOthers, SameContents}
 use Rattle.mx_images.specs.Fair.{IsFairEnd, LeavesNoOther}
+use Rattle.mx_images.proofs.ContentLaws.{contents_itself, whole, whole_contents}
 use Rattle.mx_images.proofs.DiskLaws.{only_one, first_one}
-use Rattle.mx_images.proofs.MomentLaws.{joined_from, moments_may, moments_none, moments_one, no_moments}
-use Rattle.mx_recover.proofs.TurnLaws.{whole, at_synced, at_removed}
+use Rattle.mx_images.proofs.MomentLaws.{Steps, no_moments, seen_from, weaker}
+use Rattle.mx_images.proofs.OtherLaws.{counts_ours, differs_by_count, draft_ours, names_others, removed_others, synced_others}
+use Rattle.mx_images.proofs.ToldLaws.{told_weaker}
+use Rattle.mx_recover.specs.Turns.{OnlyCleans}
+use Rattle.mx_recover.proofs.TurnLaws.{at_synced, at_removed}
 
 pub leaves_itself : (disk : Disk) → LeavesNoOther disk disk
 leaves_itself disk image fair = fair
@@ -24,7 +31,7 @@ leaves_then first second third one other image fair = one image (other image fai
 
 -- ---- a file that is synced
 
--- what a crash may leave of the file when it is synced, it might have left before
+-- a crash image of the file when it is synced was one before
 still_left : (was image : Option File) → Leaves IsFairEnd (whole was) image → Leaves IsFairEnd was image
 still_left None image none = none
 still_left (Some file) image (end, fair, is) = (
@@ -86,33 +93,55 @@ removed_leaves name disk draft image fair q counted =
         ap (λ file. file ∷ or_none (finite.get (removed name disk).older q)) now
         ∙ ap (λ files. finite.get disk.now q ∷ or_none files) older
 
+-- ---- what each call makes
+
+synced_contents : (name : List ℕ) (disk : Disk) → SameContents disk.now (file_synced name disk).now
+synced_contents name disk q counted =
+    ap (option_map (λ (f : File). f.bytes)) (at_synced name q disk) ∙ by_test (same_bytes q name) (finite.get disk.now q)
+  where
+    by_test : (b : Bool) (file : Option File) → option_map (λ (f : File). f.bytes) (cond b (whole file) file) ≡ option_map (λ (f : File). f.bytes) file
+    by_test true file = whole_contents file
+    by_test false file = refl
+
+removed_contents : (name : List ℕ) (disk : Disk) → is_draft name ≡ true → SameContents disk.now (removed name disk).now
+removed_contents name disk draft q counted =
+    let differs = differs_by_count q name counted (draft_counts_not name draft) in
+    ap (option_map (λ (f : File). f.bytes)) (at_removed name q disk ∙ ap (λ b. cond b None (finite.get disk.now q)) differs)
+
+pub synced_cleans : (name : List ℕ) (disk : Disk) → is_journal name ≡ true → OnlyCleans disk (file_synced name disk)
+synced_cleans name disk is = record {
+  leaves = synced_leaves name disk;
+  reads = synced_contents name disk;
+  others = synced_others name disk (counts_ours name (ap (λ b. b || is_snapshot name) is));
+}
+
+pub removed_cleans : (name : List ℕ) (disk : Disk) → is_draft name ≡ true → OnlyCleans disk (removed name disk)
+removed_cleans name disk is = record {
+  leaves = removed_leaves name disk is;
+  reads = removed_contents name disk is;
+  others = removed_others name disk (draft_ours name is);
+}
+
+pub names_clean : (disk : Disk) → OnlyCleans disk (names_synced disk)
+names_clean disk = record { leaves = names_leave disk; reads = contents_itself disk.now; others = names_others disk }
+
 -- ---- calls
 
--- whatever a crash leaves since, it might have left before
+-- any crash image since was one before
 abbrev pub LeaveNoOther : (old new : Option (List Disk)) → Type 0
 LeaveNoOther old new = IfKnown old (λ disk past. Moments (LeavesNoOther disk) LeavesNoOther new disk past)
 
-pub nothing_left : (states : Option (List Disk)) → LeaveNoOther states states
-nothing_left states = no_moments LeavesNoOther LeavesNoOther states
-
 -- a call that changed nothing
 pub same_leaves : (old new : Option (List Disk)) → new ≡ old → LeaveNoOther old new
-same_leaves old new is = subst (λ states. LeaveNoOther old states) (sym is) (nothing_left old)
+same_leaves old new is = subst (λ states. LeaveNoOther old states) (sym is) (no_moments LeavesNoOther LeavesNoOther old)
 
--- one call, and then another one
-pub left_then : (old middle new : Option (List Disk)) → LeaveNoOther old middle → LeaveNoOther middle new → LeaveNoOther old new
-left_then old middle new = joined_from LeavesNoOther leaves_itself leaves_then old middle new
+pub clean_leaves : (old new : Option (List Disk)) → Steps OnlyCleans old new → LeaveNoOther old new
+clean_leaves old new = told_weaker old (λ disk past cleans.
+    seen_from LeavesNoOther leaves_itself leaves_then (λ state. ⊤) new disk past
+    (weaker (λ state here. here) (λ older newer here step. step.leaves) new disk past cleans))
 
-pub makes_leaves : {T E : Type 0} (change : Disk → Disk) → ((disk : Disk) → LeavesNoOther disk (change disk)) → (old new : Option (List Disk))
-    (result : Result T E) → Makes change old new result → LeaveNoOther old new
-makes_leaves change leaves None new result makes = tt
-makes_leaves change leaves (Some []) new result makes = tt
-makes_leaves change leaves (Some (disk ∷ past)) new (Ok value) became = moments_one _ _ (change disk) new disk past (leaves disk) (leaves disk) became
-makes_leaves change leaves (Some (disk ∷ past)) new (Err error) stayed = moments_none _ _ new disk past stayed
+pub clean_others : (old new : Option (List Disk)) → Steps OnlyCleans old new → Steps KeepsOthers old new
+clean_others old new = told_weaker old (λ disk past. weaker (λ state here. here) (λ older newer here step. step.others) new disk past)
 
-pub may_make_leaves : {T E : Type 0} (change : Disk → Disk) → ((disk : Disk) → LeavesNoOther disk (change disk)) → (old new : Option (List Disk))
-    (result : Result T E) → MayMake change old new result → LeaveNoOther old new
-may_make_leaves change leaves None new result makes = tt
-may_make_leaves change leaves (Some []) new result makes = tt
-may_make_leaves change leaves (Some (disk ∷ past)) new (Ok value) became = moments_one _ _ (change disk) new disk past (leaves disk) (leaves disk) became
-may_make_leaves change leaves (Some (disk ∷ past)) new (Err error) made = moments_may _ _ (change disk) new disk past (leaves disk) (leaves disk) made
+pub clean_reads : (old new : Option (List Disk)) → Steps OnlyCleans old new → Steps (λ older newer. SameContents older.now newer.now) old new
+clean_reads old new = told_weaker old (λ disk past. weaker (λ state here. here) (λ older newer here step. step.reads) new disk past)

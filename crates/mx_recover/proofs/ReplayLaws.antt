@@ -1,4 +1,4 @@
--- What a transaction, a block and a header make of what memory stands for.
+-- What a transaction, a block and a header make of what memory holds.
 use Rattle.std.proofs.Common.{◌≡◌, ◌⊎◌, inl, inr, ℕ, suc, ◌+◌, ◌-◌, ◌<◌, ◌≤◌, Bool, true, false, ◌&&◌, ◌==◌, List, [], ◌∷◌, length, take, drop, Option, Some, None, Result, Ok, Err, refl, sym, ap, subst, ◌∙◌, arith}
 use Rattle.std.specs.Prelude.{slice_index, slice_set, is_some, is_err, unwrap_or, IfOk, MatchOption, MatchResult, if◌then◌else◌, not}
 use Rattle.std.specs.Cmp.Lexicographic.{bytes_decides}
@@ -212,14 +212,14 @@ blocks_end name bytes at now block stands other =
 abbrev fails : {A : Type 0} → RecoverFault → Result A RecoverFault
 fails fault = Err fault
 
--- the fault that was told is this damage's
+-- the fault that was returned is this damage's
 pub same_damage : {A : Type 0} (fault : RecoverFault) (wanted told : Damage) → fault ≡ Damaged wanted
     → fails {A = A} fault ≡ fails {A = A} (Damaged told) → wanted ≡ told
 same_damage fault wanted told is same = cc
 
 -- ---- headers
 
--- what the files so far stand for, of a node that is known after this header
+-- what the files so far recover to, of a node that is known after this header
 abbrev pub known_by : Head → files.Reached → files.Reached
 known_by head before = record { ids = Some (ids_or (ids_in head) before.ids); state = before.state; clock = before.clock }
 
@@ -253,7 +253,7 @@ known_whose : (ids : Ids) (found : Option Ids) → ids.me < 32 → AreIds found 
 known_whose ids None few whose = few
 known_whose ids (Some found) few whose = whose
 
--- memory that knows who the node is
+-- memory that knows the node's identifiers
 pub begun : (old new : Recovered) (before : files.Reached) (head : Head) → StandsFor old before → head.replica < 32
     → new.ids ≡ Some (unwrap_or old.ids (ids_in head)) → new.state ≡ old.state → new.clock ≡ old.clock → StandsFor new (known_by head before)
 begun old new before head stands few ids state clock = record {

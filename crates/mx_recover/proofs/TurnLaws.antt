@@ -2,7 +2,6 @@
 use Rattle.std.proofs.Common.{◌≡◌, ℕ, Bool, true, false, cond, ◌&&◌, ◌||◌, T, List, [], ◌∷◌, refl, sym, ap, ◌∙◌}
 use Rattle.std.specs.Prelude.{Option, Some, None, is_some, ⊤}
 use Rattle.std.specs.List.{list_any}
-use Rattle.std.specs.Option.{option_map}
 use Rattle.std.specs.Ordering.{eq_by_cmp, is_lt, is_eq, nat_cmp}
 use Rattle.std.specs.declared.cmp.Ordering.{Ordering}
 use Rattle.std.specs.declared.cmp.Ordering.TheVariants.{Less, Equal, Greater}
@@ -13,6 +12,7 @@ use Rattle.std.specs.FinMap.{get-insert, get-remove, entries_sorted, contains_ke
 use Rattle.std.specs.FinMap.Entries.{is_sorted, below_all}
 use Rattle.mx_outside.specs.Disks.{File, Files, Disk, synced_file, file_synced, removed}
 use Rattle.mx_files.specs.Names.{same_bytes}
+use Rattle.mx_images.proofs.ContentLaws.{whole}
 use Rattle.mx_model.proofs.DirectoryLaws.{by_name, names_in, same_itself}
 use Rattle.mx_recover.specs.Turns.{after_turn, after_turns, AreThere}
 
@@ -84,7 +84,7 @@ module _ (kind : List ℕ → Bool) (change : List ℕ → Disk → Disk) (made 
       by_kind true = changes name q disk
       by_kind false = refl
 
-  -- a turn leaves the other files
+  -- a turn doesn't change the other files
   other_turn : (name q : List ℕ) (disk : Disk) → same_bytes q name ≡ false → finite.get (after_turn kind change name disk).now q ≡ finite.get disk.now q
   other_turn name q disk other =
       at_turn name q disk
@@ -131,10 +131,6 @@ module _ (kind : List ℕ → Bool) (change : List ℕ → Disk → Disk) (made 
       at_turns again names q (after_turn kind change name disk)
       ∙ ap (λ file. cond (kind q && among q names) (made file) file) (at_turn name q disk)
       ∙ joined (kind q) (kind name) (same_bytes q name) (among q names) (finite.get disk.now q) again (λ same. ap kind (same_name q name same))
-
--- the file with all its bytes durable
-abbrev pub whole : Option File → Option File
-whole file = option_map (λ f. synced_file f.bytes) file
 
 pub whole_again : (file : Option File) → whole (whole file) ≡ whole file
 whole_again None = refl

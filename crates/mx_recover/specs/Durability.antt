@@ -5,8 +5,7 @@ use Rattle.std.specs.FinMap as finite
 use Rattle.mx_outside.specs.Disks.{Disk, synced_file}
 use Rattle.mx_files.specs.Names.{is_journal, is_draft}
 
--- The journals have the bytes that they had, all of them durable; no file is left
--- that was begun and never got its name. All names are durable.
+-- The journals have the bytes that they had, all of them durable. No draft remains. All names are durable.
 pub record MadeDurable (before after : Disk) : Type 0 where
   pub journals : (name : List ℕ) → is_journal name ≡ true → finite.get after.now name ≡ option_map (λ file. synced_file file.bytes) (finite.get before.now name)
   pub drafts : (name : List ℕ) → is_draft name ≡ true → finite.get after.now name ≡ None

@@ -6,12 +6,12 @@ use Rattle.mx_model.specs.Stored.{Holds}
 use Rattle.mx_model.specs.Directories as files
 use Rattle.mx_recover.specs.declared.replay.Recovered.{Recovered}
 
--- who a node is comes from a file's header: its replica id is one of the 32
+-- a node's identifiers come from a file's header: its replica id is one of the 32
 abbrev pub AreIds : Option Ids → Type 0
 AreIds None = ⊤
 AreIds (Some ids) = ids.me < 32
 
--- the memory has what the files so far stand for; its vclock is one that has nothing of the replica id 0
+-- the memory has what the files so far recover to; its vclock is one that has nothing of the replica id 0
 pub record StandsFor (memory : Recovered) (reached : files.Reached) : Type 0 where
   pub ids : memory.ids ≡ reached.ids
   pub holds : Holds memory.state reached.state

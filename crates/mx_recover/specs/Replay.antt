@@ -28,7 +28,7 @@ pub record IsUnderway (found : Files) (left : List (List ℕ)) (reached : files.
   pub each : AllByRecursion (λ (journal : Named). IfSome (finite.get found journal.0) (λ (file : File). ReadsAs file.bytes journal.1)) journals
   pub after : after_files journals nothing_yet ≡ Ok reached
 
--- The memory has what the directory stands for, where that is told; all of its journals and names are durable.
+-- The memory has what the directory recovers to, where its files are known; all of its journals and names are durable.
 pub record IsDurableAt (memory : Recovered) (reached : files.Reached) (states : Option (List Disk)) : Type 0 where
   pub stands : StandsFor memory reached
   pub told : IfKnown states (λ disk past. IsDirectoryState disk.now (Ok reached) × AllDurable disk × (disk.older ≡ finite.empty))

@@ -2,7 +2,8 @@
 use Rattle.std.specs.Prelude.{◌≡◌, ℕ, Bool, List, [], ◌∷◌, Option, IsSome, Result, OnOk, ⊤, if◌then◌else◌}
 use Rattle.std.specs.FinMap as finite
 use Rattle.mx_outside.specs.Disks.{Disk, IfKnown}
-use Rattle.mx_images.specs.Changes.{IsNow}
+use Rattle.mx_images.specs.Fair.{LeavesNoOther}
+use Rattle.mx_images.specs.Changes.{IsNow, KeepsOthers, SameContents}
 
 -- the disk after a name's turn
 abbrev pub after_turn : (List ℕ → Bool) → (List ℕ → Disk → Disk) → List ℕ → Disk → Disk
@@ -21,3 +22,9 @@ AreThere kind change (name ∷ names) disk = IsSome (finite.get disk.now name) �
 -- at `Ok` the newest state is what this makes of the one before
 abbrev pub Reaches : {T E : Type 0} → (Disk → Disk) → (before after : Option (List Disk)) → Result T E → Type 0
 Reaches change before after result = IfKnown before (λ disk past. OnOk result (IsNow after (λ now. now ≡ change disk)))
+
+-- Any crash image now was one before; the journals and snapshots read as before, and every file that isn't ours is as it was.
+pub record OnlyCleans (older newer : Disk) : Type 0 where
+  pub leaves : LeavesNoOther older newer
+  pub reads : SameContents older.now newer.now
+  pub others : KeepsOthers older newer

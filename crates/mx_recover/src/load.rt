@@ -12,7 +12,6 @@ use std::alloc::Global;
 /// How many bytes are read at once.
 const PIECE: u64 = 65536;
 
-/// The bytes of a file.
 pub(crate) fn load<D: Dir>(alloc: Global, dir: &mut D, name: &str) -> Result<Vec<u8>, DirFault>
     requires { IsThere (D.states dir.old) name.now }
     ensures states { D.states dir.new ≡ D.states dir.old }
@@ -38,8 +37,7 @@ pub(crate) fn load<D: Dir>(alloc: Global, dir: &mut D, name: &str) -> Result<Vec
     Ok(bytes)
 }
 
-/// Reads once from a place of a file on, into these bytes from the same place on, and says how many
-/// it read.
+/// `from` is the place both in the file and in `bytes`.
 fn read_into<D: Dir>(
     alloc: Global,
     dir: &mut D,
@@ -59,6 +57,6 @@ fn read_into<D: Dir>(
     let (_, into) = bytes.split_at_mut(from);
     let room = into.len();
     let count = dir.read(alloc, name, from as u64, into)?;
-    // A directory that tells nothing of its files may answer more than there is room for.
+    // A directory whose files are unknown may return a count above the room.
     Ok(count.min(room))
 }

@@ -1,9 +1,9 @@
 //! Recovery: the state that the files of a directory recover to.
 
-ghost use Rattle.std.specs.Prelude.{◌≡◌, ◌≤◌, [], Ok, Err, IfOk, OnOk, List, map, string_bytes};
+ghost use Rattle.std.specs.Prelude.{◌≡◌, [], Ok, Err, IfOk, OnOk, List, map, string_bytes};
 ghost use Rattle.std.specs.List.{filter};
 ghost use Rattle.std.specs.FinMap as finite;
-ghost use Rattle.mx_outside.specs.Causes.{Rose};
+ghost use Rattle.mx_outside.specs.Causes.{HasCauseOf};
 ghost use Rattle.mx_outside.specs.Disks.{IfKnown, IsThere};
 ghost use Rattle.mx_files.specs.Names.{is_snapshot};
 ghost use Rattle.mx_model.specs.declared.damage.Damage.{Damage};
@@ -32,14 +32,12 @@ pub fn recover<D: Dir>(alloc: Global, dir: &mut D) -> Result<Recovered, RecoverF
         × IfKnown (D.states dir.old) (λ disk past. IsDirectoryState disk.now (Ok reached))) }
     ensures damaged { (damage : Damage) → result ≡ Err (Damaged damage)
         → IfKnown (D.states dir.old) (λ disk past. IsDirectoryState disk.now (Err damage)) }
-    ensures later { D.faults dir.old ≤ D.faults dir.new }
-    ensures fault { result ≡ Err Failed → Rose (D.faults dir.old) (D.faults dir.new) }
+    ensures cause { HasCauseOf Failed (D.faults dir.old) (D.faults dir.new) result }
 {
     let names = dir.list(alloc)?;
     replay(alloc, dir, names.as_slice())
 }
 
-/// The state that the files of a directory recover to. The names given are all that there are.
 fn replay<D: Dir>(alloc: Global, dir: &mut D, names: &[String]) -> Result<Recovered, RecoverFault>
     requires { IfKnown (D.states dir.old) (λ disk past. map string_bytes names.now ≡ finite.keys disk.now) }
     ensures states { D.states dir.new ≡ D.states dir.old }
@@ -47,8 +45,7 @@ fn replay<D: Dir>(alloc: Global, dir: &mut D, names: &[String]) -> Result<Recove
         × IfKnown (D.states dir.old) (λ disk past. IsDirectoryState disk.now (Ok reached))) }
     ensures damaged { (damage : Damage) → result ≡ Err (Damaged damage)
         → IfKnown (D.states dir.old) (λ disk past. IsDirectoryState disk.now (Err damage)) }
-    ensures later { D.faults dir.old ≤ D.faults dir.new }
-    ensures fault { result ≡ Err Failed → Rose (D.faults dir.old) (D.faults dir.new) }
+    ensures cause { HasCauseOf Failed (D.faults dir.old) (D.faults dir.new) result }
 {
     refuse_snapshot(alloc, names)?;
     let mut reached = Recovered::new(alloc)?;
@@ -60,7 +57,7 @@ fn replay<D: Dir>(alloc: Global, dir: &mut D, names: &[String]) -> Result<Recove
     Ok(reached)
 }
 
-/// Refuses a directory that has a snapshot, which can't be read yet.
+/// Snapshots can't be read yet.
 fn refuse_snapshot(alloc: Global, names: &[String]) -> Result<(), RecoverFault>
     ensures none { OnOk result (filter is_snapshot (map string_bytes names.now) ≡ []) }
     ensures damaged { (damage : Damage) (journals : List Named) → result ≡ Err (Damaged damage)
@@ -75,7 +72,6 @@ fn refuse_snapshot(alloc: Global, names: &[String]) -> Result<(), RecoverFault>
     Err(RecoverFault::Damaged(Damage { file, at: 0, kind }))
 }
 
-/// Goes on by the file of this name, if it is a journal.
 fn replay_name<D: Dir>(
     alloc: Global,
     dir: &mut D,
@@ -88,8 +84,7 @@ fn replay_name<D: Dir>(
         × IfKnown (D.states dir.old) (λ disk past. Passes disk.now name.now before (Ok after))) }
     ensures damaged { (before : files.Reached) (damage : Damage) → StandsFor reached.old before → result ≡ Err (Damaged damage)
         → IfKnown (D.states dir.old) (λ disk past. Passes disk.now name.now before (Err damage)) }
-    ensures later { D.faults dir.old ≤ D.faults dir.new }
-    ensures fault { result ≡ Err Failed → Rose (D.faults dir.old) (D.faults dir.new) }
+    ensures cause { HasCauseOf Failed (D.faults dir.old) (D.faults dir.new) result }
 {
     if !is_journal(name) {
         return Ok(());

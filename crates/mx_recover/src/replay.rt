@@ -27,14 +27,13 @@ use uuid::Uuid;
 /// The database that a directory recovers to.
 #[derive(Drop)]
 pub struct Recovered {
-    /// Who the node is; `None` where there is no file.
+    /// The identifiers of the node; `None` where there is no file.
     pub ids: Option<Ids>,
     pub state: State,
     pub clock: Vclock,
 }
 
 impl Recovered {
-    /// A new database, to which a directory without files recovers.
     pub(crate) fn new(alloc: Global) -> Result<Recovered, AllocError>
         ensures { IfOk result (λ reached. StandsFor reached nothing_yet) }
     {
@@ -45,10 +44,7 @@ impl Recovered {
         })
     }
 
-    /// Goes on by a journal file, which has to begin where the files before it end.
-    ///
-    /// # Errors
-    /// The file is damaged, or out of memory.
+    /// Continues with a journal file, which has to begin where the files before it end.
     pub(crate) fn take_file(
         &mut self,
         alloc: Global,
@@ -78,7 +74,6 @@ impl Recovered {
         self.take_blocks(alloc, name, bytes, size)
     }
 
-    /// Whether a header is a journal's, and fits its file's name and the files before it.
     fn is_followed_by(&self, alloc: Global, name: &str, head: &Head) -> Result<bool, AllocError>
         ensures { (before : files.Reached) → self.now.ids ≡ before.ids → IfOk result (λ fits. fits ≡ head_fits name.now head.now before) }
     {
@@ -86,7 +81,6 @@ impl Recovered {
         Ok(!head.snapshot && name == wanted.as_str() && are_its_ids(&self.ids, head))
     }
 
-    /// Goes on by the blocks that stand from a place of a file on, up to the first place that has none.
     fn take_blocks(
         &mut self,
         alloc: Global,
@@ -112,8 +106,7 @@ impl Recovered {
         Ok(())
     }
 
-    /// Goes on by a block's rows. Says whether they are transactions that follow; where they aren't,
-    /// some may have been taken.
+    /// At `false` some of the rows may have been applied.
     fn take_block(&mut self, alloc: Global, rows: &[u8]) -> Result<bool, AllocError>
         ensures { (before : files.Reached) → StandsFor self.old before → IfOk result (λ taken. MatchOption (after_block rows.now before)
             (taken ≡ false) (λ after. (taken ≡ true) × StandsFor self.new after)) }
@@ -131,7 +124,6 @@ impl Recovered {
         Ok(true)
     }
 
-    /// Goes on by a transaction. Says whether it follows and the state takes it.
     fn take_tx(&mut self, alloc: Global, tx: &TxRef<'_>) -> Result<bool, AllocError>
         requires { (1 ≤ tx.now.replica) × (tx.now.replica < 32) }
         ensures { (before : files.Reached) → StandsFor self.old before → IfOk result (λ taken. MatchOption (after_transaction (tx_view tx.now) before)
@@ -149,7 +141,6 @@ impl Recovered {
     }
 }
 
-/// A row that is refused isn't taken, unless it is out of memory.
 fn refused(refusal: &Refusal) -> Result<bool, AllocError>
     ensures { IfOk result (λ taken. (taken ≡ false) × (refusal.now ≡ OutOfMemory → ⊥)) }
 {
@@ -159,7 +150,6 @@ fn refused(refusal: &Refusal) -> Result<bool, AllocError>
     }
 }
 
-/// The identifiers in a header.
 fn ids_in(head: &Head) -> Ids
     ensures { result ≡ files.ids_in head.now }
 {
@@ -170,7 +160,6 @@ fn ids_in(head: &Head) -> Ids
     }
 }
 
-/// Whether a header's identifiers are those of the files before it.
 fn are_its_ids(ids: &Option<Ids>, head: &Head) -> bool
     ensures { result ≡ are_its_ids ids.now head.now }
 {
@@ -184,7 +173,6 @@ fn are_its_ids(ids: &Option<Ids>, head: &Head) -> bool
     }
 }
 
-/// Whether two identifiers have the same text.
 fn is_same_id(one: &Uuid, other: &Uuid) -> bool
     ensures { result ≡ same_id one.now other.now }
 {
@@ -193,14 +181,12 @@ fn is_same_id(one: &Uuid, other: &Uuid) -> bool
     one.hyphenated().encode_lower(&mut first) == other.hyphenated().encode_lower(&mut second)
 }
 
-/// Whether two vclocks are the same.
 fn is_same(clock: &Vclock, other: &Vclock) -> bool
     ensures { IsVclock clock.now → IsVclock other.now → result ≡ same_bytes clock.now other.now }
 {
     clock.covers(other) && other.covers(clock)
 }
 
-/// The fault of a damaged file.
 fn damage(alloc: Global, name: &str, at: u64, kind: DamageKind) -> Result<RecoverFault, AllocError>
     ensures { IfOk result (λ fault. fault ≡ Damaged (record { file = name.now; at = at; kind = kind })) }
 {

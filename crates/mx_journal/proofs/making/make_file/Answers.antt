@@ -1,7 +1,11 @@
 use Rattle.std.proofs.Common.{◌++◌, ap, ◌∙◌}
-use Rattle.mx_files.specs.Names.{draft_ending, counts}
+use Rattle.std.proofs.lemmas.Result.{err_from_is_err_and}
+use Rattle.mx_files.specs.Names.{draft_ending, counts, is_ours}
+use Rattle.mx_images.specs.Changes.{KeepsOthers}
+use Rattle.mx_images.proofs.MomentLaws.{steps_then}
+use Rattle.mx_images.proofs.OtherLaws.{rename_others}
 use Rattle.mx_journal.proofs.MakeLaws.{draft_counts, drafts_may, made_moments, failed_moments, there_now}
-use Rattle.mx_images.proofs.ToldLaws.{made_changed}
+use Rattle.mx_images.proofs.ToldLaws.{made_changed, told_nothing}
 use Rattle.mx_journal.proofs.making.make_file.Goals as goal
 
 pub returns-clause-made : goal.returns-clause-made
@@ -37,3 +41,28 @@ returns-clause-there g c = λ counting.
     (made_changed (c.args.name.now ++ draft_ending) c.as_str.result.now c.as_str-2.result.now c.args.name.now c.args.bytes.now
     (g.D.Dir.states c.args.dir.now) (g.D.Dir.states c.write_draft.new.dir) (g.D.Dir.states c.rename_durably.new.dir)
     (c.as_str.ensures.value ∙ c.in_ok-draft.ensures) (c.as_str-2.ensures.value ∙ c.in_ok-draft.ensures) c.in_ok-write_draft.ensures.made c.in_ok-rename_durably.ensures.made)
+
+pub returns-in_err-write_draft-clause-others : goal.returns-in_err-write_draft-clause-others
+returns-in_err-write_draft-clause-others g c = λ ours its. c.write_draft.ensures.others (ap is_ours (c.as_str.ensures.value ∙ c.in_ok-draft.ensures) ∙ its)
+
+pub returns-in_err-rename_durably-clause-others : goal.returns-in_err-rename_durably-clause-others
+returns-in_err-rename_durably-clause-others g c = λ ours its.
+    steps_then KeepsOthers _ _ _ (c.write_draft.ensures.others (ap is_ours (c.as_str.ensures.value ∙ c.in_ok-draft.ensures) ∙ its))
+    (rename_others c.as_str-2.result.now c.args.name.now _ _ c.rename_durably.result
+    (ap is_ours (c.as_str-2.ensures.value ∙ c.in_ok-draft.ensures) ∙ its) ours c.rename_durably.ensures.states)
+
+pub returns-clause-others : goal.returns-clause-others
+returns-clause-others g c = λ ours its.
+    steps_then KeepsOthers _ _ _ (c.write_draft.ensures.others (ap is_ours (c.as_str.ensures.value ∙ c.in_ok-draft.ensures) ∙ its))
+    (rename_others c.as_str-2.result.now c.args.name.now _ _ c.rename_durably.result
+    (ap is_ours (c.as_str-2.ensures.value ∙ c.in_ok-draft.ensures) ∙ its) ours c.rename_durably.ensures.states)
+
+pub returns-in_err-write_draft-clause-there : goal.returns-in_err-write_draft-clause-there
+returns-in_err-write_draft-clause-there g c = λ counting.
+    let failed = err_from_is_err_and c.from_residual-in_err-write_draft.result c.from_residual-in_err-write_draft.ensures.1 in
+    rw failed.1 (told_nothing (g.D.Dir.states c.args.dir.now))
+
+pub returns-in_err-rename_durably-clause-there : goal.returns-in_err-rename_durably-clause-there
+returns-in_err-rename_durably-clause-there g c = λ counting.
+    let failed = err_from_is_err_and c.from_residual-in_err-rename_durably.result c.from_residual-in_err-rename_durably.ensures.1 in
+    rw failed.1 (told_nothing (g.D.Dir.states c.args.dir.now))

@@ -3,7 +3,8 @@ use Rattle.std.specs.String.{string_bytes}
 use Rattle.mx_outside.specs.Disks.{file_synced}
 use Rattle.mx_files.specs.Names.{is_journal}
 use Rattle.mx_recover.proofs.PassingLaws.{Underway}
-use Rattle.mx_recover.proofs.LeavingLaws.{LeaveNoOther}
+use Rattle.mx_images.proofs.MomentLaws.{Steps}
+use Rattle.mx_recover.specs.Turns.{OnlyCleans}
 use Rattle.mx_recover.proofs.durability.sync_journals.Given as goal
 
 abbrev pub invariant-loop-name : goal.invariant-loop-name
@@ -11,7 +12,7 @@ invariant-loop-name g l = record {
   later : g.D.Dir.faults l.fn.dir ≤ g.D.Dir.faults l.dir;
   quiet : g.D.Dir.faults l.dir ≡ g.D.Dir.faults l.fn.dir;
   way : Underway is_journal file_synced (g.D.Dir.states l.fn.dir) (g.D.Dir.states l.dir) (map string_bytes l.names) (map string_bytes l.rest);
-  moments : LeaveNoOther (g.D.Dir.states l.fn.dir) (g.D.Dir.states l.dir);
+  moments : Steps OnlyCleans (g.D.Dir.states l.fn.dir) (g.D.Dir.states l.dir);
 }
 
 abbrev pub decreases-loop-name : goal.decreases-loop-name

@@ -14,7 +14,7 @@ returns-in_err-refuse_snapshot-clause-damaged g c = λ damage is.
     snapshot_breaks _ _ damage c.requires (c.refuse_snapshot.ensures.damaged damage [] cc)
 
 pub loop-name-init : goal.loop-name-init
-loop-name-init g c = record { states = refl; later = omega arith; way = (nothing_yet, c.in_ok-reached.ensures, begins _ _ c.requires) }
+loop-name-init g c = record { states = refl; later = omega arith; quiet = refl; way = (nothing_yet, c.in_ok-reached.ensures, begins _ _ c.requires) }
 
 pub replay_name-requires : goal.replay_name-requires
 replay_name-requires g c =
@@ -37,6 +37,7 @@ loop-name-preserved g c =
     let next = c.in_ok-replay_name.ensures.passed way.0 way.1 in record {
       states = c.replay_name.ensures.states ∙ c.loop-name.invariant.states;
       later = omega arith;
+      quiet = c.in_ok-replay_name.ensures.cause.done ∙ c.loop-name.invariant.quiet;
       way = (
         next.0,
         next.1,

@@ -9,6 +9,7 @@ abbrev pub invariant-loop-name : goal.invariant-loop-name
 invariant-loop-name g l = record {
   states : g.D.Dir.states l.dir ≡ g.D.Dir.states l.fn.dir;
   later : g.D.Dir.faults l.fn.dir ≤ g.D.Dir.faults l.dir;
+  quiet : g.D.Dir.faults l.dir ≡ g.D.Dir.faults l.fn.dir;
   way : (reached : files.Reached) × StandsFor l.reached reached
       × IfKnown (g.D.Dir.states l.fn.dir) (λ disk past. IsUnderway disk.now (map string_bytes l.rest) reached);
 }

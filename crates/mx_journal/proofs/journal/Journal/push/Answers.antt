@@ -1,4 +1,4 @@
-use Rattle.std.proofs.Common.{◌++◌, sym, ap, ◌∙◌}
+use Rattle.std.proofs.Common.{◌≡◌, ◌+◌, ◌++◌, sym, ap, ◌∙◌, arith}
 use mathlib.Core.Path.{subst}
 use Rattle.mx_xlog.specs.Blocks.{IsData, block_of}
 use Rattle.mx_row.specs.Rows.{transaction_text}
@@ -14,13 +14,11 @@ write_block-requires c =
 pub returns-clause-waits : goal.returns-clause-waits
 returns-clause-waits c = λ waits waiting.
     let rows = c.as_slice.ensures ∙ c.in_ok-write_tx.ensures ∙ ap (λ front. front ++ transaction_text c.args.tx.now) c.new-rows.ensures in
-    let others = c.in_ok-note_pushed.ensures.others in
+    let noted = c.note_pushed.ensures in
+    let more : c.note_pushed.new.self.pushed ≡ c.args.self.now.pushed + 1 = omega (arith, c.in-Some.ensures) in
     waits_pushed c.args.self.now c.note_pushed.new.self waits c.args.tx.now waiting c.requires.sound
-    (others.waiting ∙ c.in_ok-write_block.ensures ∙ ap (λ rows. c.args.self.now.waiting ++ block_of rows) rows)
-    c.in_ok-note_pushed.ensures.next c.in_ok-note_pushed.ensures.pushed others.clock others.synced
-
-pub returns-in_err-note_pushed-clause-written : goal.returns-in_err-note_pushed-clause-written
-returns-in_err-note_pushed-clause-written c = λ disk txs. pushed_written c.args.self.now c.note_pushed.new.self c.write_block.new.out disk txs c.note_pushed.ensures.others
+    (noted.others.waiting ∙ c.in_ok-write_block.ensures ∙ ap (λ rows. c.args.self.now.waiting ++ block_of rows) rows)
+    noted.next more noted.others.clock noted.others.synced
 
 pub returns-clause-written : goal.returns-clause-written
 returns-clause-written c = λ disk txs. pushed_written c.args.self.now c.note_pushed.new.self c.write_block.new.out disk txs c.note_pushed.ensures.others

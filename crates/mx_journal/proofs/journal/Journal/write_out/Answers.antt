@@ -1,6 +1,6 @@
 use Rattle.std.proofs.Common.{◌≡◌, ◌+◌, length, ap, ◌∙◌, arith}
 use Rattle.mx_journal.specs.Counting.{caught_up}
-use Rattle.mx_journal.proofs.CrashLaws.{caught_up_synced, wrote_moments, wrote_synced}
+use Rattle.mx_journal.proofs.CrashLaws.{caught_up_synced, put_others, wrote_moments, wrote_reads, wrote_synced}
 use Rattle.mx_journal.proofs.WrittenLaws.{caught_up_now, wrote_now}
 use Rattle.mx_journal.proofs.journal.Journal.write_out.Goals as goal
 
@@ -36,3 +36,21 @@ pub returns-clause-synced : goal.returns-clause-synced
 returns-clause-synced g c = λ txs waits.
     wrote_synced c.args.self.now c.as_str.result.now c.as_slice.result.now (g.D.Dir.states c.args.dir.now) (g.D.Dir.states c.append_synced.new.dir)
     c.note_written-2.result txs waits c.as_str.ensures.value c.as_slice.ensures c.note_written-2.ensures.count c.in_ok-append_synced.ensures.made
+
+pub returns-in_err-append_synced-clause-others : goal.returns-in_err-append_synced-clause-others
+returns-in_err-append_synced-clause-others g c =
+    put_others c.args.self.now c.as_str.result.now c.as_slice.result.now _ _ c.append_synced.result c.as_str.ensures.value c.requires c.append_synced.ensures.states
+
+pub returns-clause-others : goal.returns-clause-others
+returns-clause-others g c =
+    put_others c.args.self.now c.as_str.result.now c.as_slice.result.now _ _ c.append_synced.result c.as_str.ensures.value c.requires c.append_synced.ensures.states
+
+pub returns-in_err-append_synced-clause-reads : goal.returns-in_err-append_synced-clause-reads
+returns-in_err-append_synced-clause-reads g c = λ txs waits.
+    wrote_reads c.args.self.now c.as_str.result.now c.as_slice.result.now (g.D.Dir.states c.args.dir.now) (g.D.Dir.states c.append_synced.new.dir)
+    c.append_synced.result txs waits c.as_str.ensures.value c.as_slice.ensures c.append_synced.ensures.states
+
+pub returns-clause-reads : goal.returns-clause-reads
+returns-clause-reads g c = λ txs waits.
+    wrote_reads c.args.self.now c.as_str.result.now c.as_slice.result.now (g.D.Dir.states c.args.dir.now) (g.D.Dir.states c.append_synced.new.dir)
+    c.append_synced.result txs waits c.as_str.ensures.value c.as_slice.ensures c.append_synced.ensures.states
