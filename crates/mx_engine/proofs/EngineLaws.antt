@@ -1,5 +1,5 @@
--- What a step makes of an engine, and of what it stands for.
-use Rattle.std.proofs.Common.{◌≡◌, ◌⊎◌, inl, inr, ℕ, suc, ◌+◌, ◌-◌, ◌<◌, ◌≤◌, Bool, true, false, not, List, [], ◌∷◌, ◌++◌, refl, true≢false, sym, ap, ◌∙◌, subst, append-nil, arith}
+-- What a step makes of an engine, and of its history.
+use Rattle.std.proofs.Common.{◌≡◌, ◌⊎◌, inl, inr, ℕ, suc, ◌+◌, ◌-◌, ◌<◌, ◌≤◌, Bool, true, false, not, List, [], ◌∷◌, ◌++◌, length, refl, true≢false, sym, ap, ◌∙◌, subst, append-nil, arith}
 use Rattle.std.specs.FinMap.{get}
 use Rattle.std.specs.Prelude.{Ok, Err, ◌==◌, ◌&&◌, ◌||◌, Some, None, nat_lt, slice_index, slice_set, if◌then◌else◌}
 use Rattle.std.proofs.lemmas.Bool.{eqb-true, lt-ltb, le-ltb}
@@ -29,14 +29,14 @@ use Rattle.mx_model.specs.State.{State, test_space, test_parts}
 use Rattle.mx_model.specs.Stored.{Holds}
 use Rattle.mx_model.specs.Answers.{answer_to, state_after_row}
 use Rattle.mx_model.specs.statements.Replace.{replace_answer_in, replaced}
-use Rattle.mx_model.specs.statements.Select.{select_answer, iterator_of, misfit_refusal}
+use Rattle.mx_model.specs.statements.Select.{select_answer, iterator_of, misfit_refusal, stop_refusal}
 use Rattle.mx_model.specs.statements.Lookup.{schema_reads, in_space}
 use Rattle.mx_model.specs.statements.Answer.{Answer, Read, refusal_alone, refusal_after, not_built}
 use Rattle.mx_model.specs.Transactions.{state_after}
 use Rattle.mx_row.specs.Clocks.{clock_after}
 use Rattle.mx_model.specs.Histories.{Base, History, Asked, Left, node_answer, answer_in, with_lsn, commit_of, is_write, commits_of, writable_node, is_out_of_memory, ledger_of, state_of, clock_of}
 use Rattle.mx_model.proofs.AnswerLaws.{one_space, key_is_misfit, tuples_are_picked, result_is_too_long}
-use Rattle.mx_model.proofs.HistoryLaws.{select_no_row, committed-no_row, state_of-asked, clock_of-asked, untaken-asked, untaken}
+use Rattle.mx_model.proofs.HistoryLaws.{base_of_ledger, steps_of_ledger, select_no_row, committed-no_row, state_of-asked, clock_of-asked, untaken-asked, untaken}
 use Rattle.mx_engine.specs.declared.engine.Engine.{Engine}
 use Rattle.mx_engine.specs.Standing.{EngineStandsFor}
 use Rattle.mx_engine.specs.Steps.{IsReplyOf, SameNode, Stores, AnswersRequest, transaction_of, lsn_after, answer_by, commits_by, accepts}
@@ -58,14 +58,14 @@ writer false true taken write = taken
 writer false false taken write = write
 
 module _ (engine : Engine) (before : State) (asked : Request) where
-  -- what a node that is only read tells of a request that writes
+  -- what a read-only node answers to a request that writes
   pub answer_read_only : accepts engine.ids asked ≡ false → answer_by engine before asked ≡ refusal_alone (ReadOnly (record { 0 = writable_node }))
   answer_read_only other =
       ap (λ b. if b then refusal_alone (ReadOnly (record { 0 = writable_node }))
       else with_lsn (lsn_after engine) (answer_to before asked) (answer_to before asked).row)
       (neither_test (engine.ids.me == writable_node) (is_write asked) other)
 
-  -- what the node tells of a request that it accepts
+  -- what the node answers to a request that it accepts
   pub answer_taken : (answer : Answer) → accepts engine.ids asked ≡ true → answer_to before asked ≡ answer
       → answer_by engine before asked ≡ with_lsn (lsn_after engine) answer answer.row
   answer_taken answer taken is =
@@ -74,7 +74,7 @@ module _ (engine : Engine) (before : State) (asked : Request) where
       (both_tests (engine.ids.me == writable_node) (is_write asked) taken)
       ∙ ap (λ a. with_lsn (lsn_after engine) a a.row) is
 
-  -- the same of an answer that leaves no row
+  -- the same of an answer that writes no row
   pub answer_without_row : (answer : Answer) → accepts engine.ids asked ≡ true → answer_to before asked ≡ answer → answer.row ≡ None
       → answer_by engine before asked ≡ answer
   answer_without_row answer taken is none = answer_taken answer taken is ∙ ap (with_lsn (lsn_after engine) answer) none
@@ -115,7 +115,7 @@ answers_refused engine before request reads refusal is holds =
     answers_no_row engine engine before request (Refused refusal) (inl (sym (ap (λ a. a.reply) is))) (ap (λ a. a.row) is)
     (stores_nothing engine before holds) refl
 
--- a request that the node accepts, that leaves no row and needs no memory
+-- a request that the node accepts, that writes no row and needs no memory
 pub answers_told : (engine : Engine) (before : State) (asked : Request) (reply : Reply) → accepts engine.ids asked ≡ true → Holds engine.state before
     → IsReplyOf reply (answer_to before asked) → (answer_to before asked).row ≡ None → AnswersRequest engine engine before asked reply
 answers_told engine before asked reply taken holds told none =
@@ -148,7 +148,7 @@ module _ (engine : Engine) (before : State) (space : SpaceId) (tuple : List ℕ)
   abbrev asked : Request
   asked = request.Replace space tuple
 
-  -- it is refused, or memory ran out
+  -- it is refused, or out of memory
   pub answers_unchecked : (refusal : Refusal) → ((reads : List Read) × (replace_answer_in before space.0 tuple ≡ refusal_after reads refusal)) ⊎ (refusal ≡ OutOfMemory)
       → AnswersRequest engine engine before asked (Refused refusal)
   answers_unchecked refusal (inl (reads, is)) =
@@ -174,7 +174,7 @@ module _ (engine : Engine) (before : State) (space : SpaceId) (tuple : List ℕ)
         answers_refused engine before asked (schema_reads space.0) LsnsUsedUp
         (replaced_by true (ap (nat_lt max_lsn) lsn ∙ lt-ltb max_lsn _ above)) holds
 
--- memory ran out
+-- out of memory
 pub answers_no_memory : (old new : Engine) (before : State) (request : Request) → Stores old new before [] → new.clock ≡ old.clock
     → AnswersRequest old new before request (Refused OutOfMemory)
 answers_no_memory old new before request stores clock = record { told = inr refl; stores = stores; clock = clock }
@@ -205,7 +205,7 @@ answers_replaced old put before clock lsn space tuple copy tuples taken holds th
       clock = reached ∙ ap (slice_set old.clock writable_node) last ∙ ap (clock_after old.clock) commits;
     }
 
--- an engine that answered a request stands for one step more
+-- an engine that answered a request has one step more
 pub stands_answered : (old new : Engine) (base : Base) (history : History) (name : TxnName) (request : Request) (reply : Reply)
     → EngineStandsFor old base history → IsAskable request → AnswersRequest old new (state_of base history) request reply
     → new.ids ≡ old.ids → new.count ≡ old.count + 1 → new.durable ≡ old.durable
@@ -214,56 +214,68 @@ stands_answered old new base history name request reply stands can answers ids c
     let before = state_of base history in
     let memory = is_out_of_memory reply in
     let ledger = ledger_of base history in
-    let answer : answer_by old before request ≡ answer_in base ledger request =
-    ap (λ ids. node_answer ids before (suc (slice_index old.clock ids.me)) request) stands.ids
-    ∙ ap (λ clock. node_answer base.ids before (suc (slice_index clock base.ids.me)) request) stands.clock in
-    let commits : commits_by old before request reply ≡ commits_of base ledger (ask.Request request) reply =
+    let was = stands.matches in
+    let me = ledger.base.ids in
+    let answer : answer_by old before request ≡ answer_in ledger name request =
+    ap (λ ids. node_answer ids before (suc (slice_index old.clock ids.me)) request) was.ids
+    ∙ ap (λ clock. node_answer me before (suc (slice_index clock me.me)) request) was.clock in
+    let commits : commits_by old before request reply ≡ commits_of ledger name (ask.Request request) reply =
     ap (λ a. commit_of old.ids.me (lsn_after old) memory a.row) answer
-    ∙ ap (λ ids. commit_of ids.me (suc (slice_index old.clock ids.me)) memory (answer_in base ledger request).row) stands.ids
-    ∙ ap (λ clock. commit_of base.ids.me (suc (slice_index clock base.ids.me)) memory (answer_in base ledger request).row) stands.clock in
+    ∙ ap (λ ids. commit_of ids.me (suc (slice_index old.clock ids.me)) memory (answer_in ledger name request).row) was.ids
+    ∙ ap (λ clock. commit_of me.me (suc (slice_index clock me.me)) memory (answer_in ledger name request).row) was.clock in
     record {
       legal = (stands.legal, (can, subst (IsReplyOf reply) answer answers.told));
-      holds = subst (Holds new.state) (ap (state_after before) commits ∙ sym (state_of-asked base name (ask.Request request) reply history)) answers.stores.holds;
-      clock = answers.clock ∙ ap (λ c. clock_after c (commits_by old before request reply)) stands.clock ∙ ap (clock_after (clock_of base history)) commits
-          ∙ sym (clock_of-asked base name (ask.Request request) reply history);
-      ids = ids ∙ stands.ids;
-      count = omega (arith, count, stands.count);
-      durable = durable ∙ stands.durable;
-      pending = answers.stores.pending ∙ ap (λ front. front ++ commits_by old before request reply) stands.pending
-          ∙ ap (λ more. untaken ledger ++ more) commits ∙ sym (untaken-asked base name (ask.Request request) reply history);
+      matches = record {
+        holds = subst (Holds new.state) (ap (state_after before) commits ∙ sym (state_of-asked base name (ask.Request request) reply history)) answers.stores.holds;
+        clock = answers.clock ∙ ap (λ c. clock_after c (commits_by old before request reply)) was.clock ∙ ap (clock_after (clock_of base history)) commits
+            ∙ sym (clock_of-asked base name (ask.Request request) reply history);
+        ids = ids ∙ was.ids;
+        count = omega (arith, count, was.count);
+        durable = durable ∙ was.durable;
+        pending = answers.stores.pending ∙ ap (λ front. front ++ commits_by old before request reply) was.pending
+            ∙ ap (λ more. untaken ledger ++ more) commits ∙ sym (untaken-asked base name (ask.Request request) reply history);
+      };
     }
 
--- an engine that counted a request that was refused before stands for one step more
+-- an engine that counted a request that was refused before has one step more
 pub stands_refused : (engine : Engine) (base : Base) (history : History) (name : TxnName) (refusal : Refusal) → EngineStandsFor engine base history
     → EngineStandsFor (record engine { count = engine.count + 1 }) base (Asked name (ask.Refused refusal) (Refused refusal) ∷ history)
-stands_refused engine base history name refusal stands = record {
-  legal = (stands.legal, refl);
-  holds = subst (Holds engine.state) (sym (state_of-asked base name (ask.Refused refusal) (Refused refusal) history)) stands.holds;
-  clock = stands.clock ∙ sym (clock_of-asked base name (ask.Refused refusal) (Refused refusal) history);
-  ids = stands.ids;
-  count = omega (arith, stands.count);
-  durable = stands.durable;
-  pending = stands.pending ∙ sym (append-nil _) ∙ sym (untaken-asked base name (ask.Refused refusal) (Refused refusal) history);
-}
+stands_refused engine base history name refusal stands =
+    let was = stands.matches in
+    record {
+      legal = (stands.legal, refl);
+      matches = record {
+        holds = subst (Holds engine.state) (sym (state_of-asked base name (ask.Refused refusal) (Refused refusal) history)) was.holds;
+        clock = was.clock ∙ sym (clock_of-asked base name (ask.Refused refusal) (Refused refusal) history);
+        ids = was.ids;
+        count = omega (arith, was.count);
+        durable = was.durable;
+        pending = was.pending ∙ sym (append-nil _) ∙ sym (untaken-asked base name (ask.Refused refusal) (Refused refusal) history);
+      };
+    }
 
 -- the engine as it counts one step more
 abbrev pub counted : Engine → Engine
 counted engine = record engine { count = engine.count + 1 }
 
--- an engine that counted a connection that left stands for one step more
+-- an engine that counted a disconnect is the state of one step more
 pub stands_left : (engine : Engine) (base : Base) (history : History) (connection : ℕ) → EngineStandsFor engine base history
     → EngineStandsFor (counted engine) base (Left connection ∷ history)
-stands_left engine base history connection stands = record {
-  legal = (stands.legal, tt);
-  holds = stands.holds;
-  clock = stands.clock;
-  ids = stands.ids;
-  count = omega (arith, stands.count);
-  durable = stands.durable;
-  pending = stands.pending;
-}
+stands_left engine base history connection stands =
+    let was = stands.matches in
+    record {
+      legal = (stands.legal, tt);
+      matches = record {
+        holds = was.holds;
+        clock = was.clock;
+        ids = was.ids;
+        count = omega (arith, was.count);
+        durable = was.durable;
+        pending = was.pending;
+      };
+    }
 
--- an engine that counted a request and then answered it stands for one step more
+-- an engine that counted a request and then answered it has one step more
 pub stands_counted : (engine new : Engine) (base : Base) (history : History) (name : TxnName) (asked : Request) (reply : Reply)
     → EngineStandsFor engine base history → IsAskable asked → AnswersRequest (counted engine) new (state_of base history) asked reply
     → SameNode (counted engine) new → EngineStandsFor new base (Asked name (ask.Request asked) reply ∷ history)
@@ -272,15 +284,24 @@ stands_counted engine new base history name asked reply stands can answers keeps
     record { told = answers.told; stores = record { holds = answers.stores.holds; pending = answers.stores.pending }; clock = answers.clock }
     keeps.ids keeps.count keeps.durable
 
--- an engine that counted a request that it doesn't take stands for one step more
+-- an engine that counted a request that it doesn't take has one step more
 pub stands_read_only : (engine : Engine) (base : Base) (history : History) (name : TxnName) (asked : Request)
     → EngineStandsFor engine base history → IsAskable asked → accepts engine.ids asked ≡ false
     → EngineStandsFor (counted engine) base (Asked name (ask.Request asked) (Refused (ReadOnly (record { 0 = writable_node }))) ∷ history)
 stands_read_only engine base history name asked stands can other =
     let before = state_of base history in
     stands_counted engine (counted engine) base history name asked (Refused (ReadOnly (record { 0 = writable_node }))) stands can
-    (answers_refused (counted engine) before asked [] (ReadOnly (record { 0 = writable_node })) (answer_read_only (counted engine) before asked other) stands.holds)
+    (answers_refused (counted engine) before asked [] (ReadOnly (record { 0 = writable_node })) (answer_read_only (counted engine) before asked other)
+    stands.matches.holds)
     record { ids = refl; count = refl; durable = refl }
+
+-- what an engine counts is how many steps its history has
+pub count_is_length : (engine : Engine) (base : Base) (history : History) → EngineStandsFor engine base history → engine.count ≡ length history
+count_is_length engine base history stands = stands.matches.count ∙ steps_of_ledger base history
+
+-- its node is the base's
+pub ids_are_those : (engine : Engine) (base : Base) (history : History) → EngineStandsFor engine base history → engine.ids ≡ base.ids
+ids_are_those engine base history stands = stands.matches.ids ∙ ap (λ (b : Base). b.ids) (base_of_ledger base history)
 
 -- ---- a SELECT, by the first test that it fails
 
@@ -304,11 +325,12 @@ module _ (memory : coded.State) (before : State) (holds : Holds memory before) (
         ∙ sym (ap (λ a. a.reply) (tuples_are_picked before (one_space memory before holds) space.0 index.0 limit offset iterator key same first fitting gives
         (subst (λ t. total_bytes t ≤ max_result_size) is short))))
 
-    pub tells_too_long : (stop : SelectStop) → stop ≡ TooLong → ((stop ≡ TooLong) × (max_result_size < total_bytes picked)) ⊎ (stop ≡ NoRoom)
-        → IsReplyOf (Refused ResultTooLong) select
-    tells_too_long stop is (inl (same_stop, above)) =
-        inl (sym (ap (λ a. a.reply) (result_is_too_long before (one_space memory before holds) space.0 index.0 limit offset iterator key same first fitting gives above)))
-    tells_too_long stop is (inr none) = absurd cc
+    pub tells_stop : (stop : SelectStop) (refusal : Refusal) → refusal ≡ stop_refusal stop
+        → ((stop ≡ TooLong) × (max_result_size < total_bytes picked)) ⊎ (stop ≡ NoRoom) → IsReplyOf (Refused refusal) select
+    tells_stop stop refusal is (inl (long, above)) =
+        inl (ap (λ r. Refused r) (is ∙ ap stop_refusal long)
+        ∙ sym (ap (λ a. a.reply) (result_is_too_long before (one_space memory before holds) space.0 index.0 limit offset iterator key same first fitting gives above)))
+    tells_stop stop refusal is (inr none) = inr (ap (λ r. Refused r) (is ∙ ap stop_refusal none))
 
 -- a REPLACE as it was asked
 pub answers_asked : (old new : Engine) (before : State) (wanted : Request) (reply : Reply) (space : SpaceId) (tuple shown : List ℕ)

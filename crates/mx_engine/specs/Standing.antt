@@ -1,16 +1,20 @@
--- What an engine stands for.
-use Rattle.std.specs.Prelude.{◌≡◌, length, drop}
+-- Which histories an engine is the state of.
+use Rattle.std.specs.Prelude.{◌≡◌, drop}
 use Rattle.mx_model.specs.Stored.{Holds}
-use Rattle.mx_model.specs.Histories.{Base, History, IsLegal, ledger_of, state_of, clock_of}
+use Rattle.mx_model.specs.Histories.{Base, History, Ledger, IsLegal, ledger_of, ledger_state, ledger_clock}
 use Rattle.mx_engine.specs.declared.engine.Engine.{Engine}
 
--- The history is legal; the engine has the state and the vclock that it leaves, its length, what it says is durable,
--- and the transactions that no take of it has.
+-- The engine has what a ledger has: the state and the vclock, the number of steps, what is durable, and the transactions that
+-- no take has.
+pub record Matches (engine : Engine) (ledger : Ledger) : Type 0 where
+  pub holds : Holds engine.state (ledger_state ledger)
+  pub clock : engine.clock ≡ ledger_clock ledger
+  pub ids : engine.ids ≡ ledger.base.ids
+  pub count : engine.count ≡ ledger.steps
+  pub durable : engine.durable ≡ ledger.durable
+  pub pending : engine.pending ≡ drop ledger.taken ledger.journal
+
+-- the history is legal, and the engine has what it has come to
 pub record EngineStandsFor (engine : Engine) (base : Base) (history : History) : Type 0 where
   pub legal : IsLegal base history
-  pub holds : Holds engine.state (state_of base history)
-  pub clock : engine.clock ≡ clock_of base history
-  pub ids : engine.ids ≡ base.ids
-  pub count : engine.count ≡ length history
-  pub durable : engine.durable ≡ (ledger_of base history).durable
-  pub pending : engine.pending ≡ drop (ledger_of base history).taken (ledger_of base history).journal
+  pub matches : Matches engine (ledger_of base history)

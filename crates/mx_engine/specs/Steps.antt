@@ -1,4 +1,4 @@
--- Only private functions and proofs need these: what a step leaves an engine with.
+-- Only private functions and proofs need these: an engine after a step.
 use Rattle.std.specs.Prelude.{◌≡◌, ◌⊎◌, ℕ, suc, Bool, not, ◌||◌, ◌==◌, List, [], ◌∷◌, ◌++◌, slice_index}
 use Rattle.mx_base.specs.declared.refusal.Refusal.TheVariants.{OutOfMemory}
 use Rattle.mx_request.specs.declared.request.Request.{Request}
@@ -15,7 +15,7 @@ use Rattle.mx_row.specs.Clocks.{clock_after}
 use Rattle.mx_model.specs.Histories.{node_answer, commit_of, writable_node, is_out_of_memory, is_write}
 use Rattle.mx_engine.specs.declared.engine.Engine.{Engine}
 
--- the reply is this answer's, or memory ran out
+-- the reply is this answer's, or out of memory
 abbrev pub IsReplyOf : Reply → Answer → Type 0
 IsReplyOf reply answer = (reply ≡ answer.reply) ⊎ (reply ≡ Refused OutOfMemory)
 
@@ -23,7 +23,7 @@ IsReplyOf reply answer = (reply ≡ answer.reply) ⊎ (reply ≡ Refused OutOfMe
 abbrev pub accepts : Ids → Request → Bool
 accepts ids request = (ids.me == writable_node) || not (is_write request)
 
--- who the node is, how many steps there were and which of them are durable is as it was
+-- the node's identifiers, the number of steps and which of them are durable are as they were
 pub record SameNode (old new : Engine) : Type 0 where
   pub ids : new.ids ≡ old.ids
   pub count : new.count ≡ old.count
@@ -46,12 +46,12 @@ lsn_after engine = suc (slice_index engine.clock engine.ids.me)
 abbrev pub answer_by : Engine → State → Request → Answer
 answer_by engine state request = node_answer engine.ids state (lsn_after engine) request
 
--- what the engine commits on this state, where it told this
+-- what the engine commits on this state, where this is its reply
 abbrev pub commits_by : Engine → State → Request → Reply → List Tx
 commits_by engine state request reply =
     commit_of engine.ids.me (lsn_after engine) (is_out_of_memory reply) (answer_by engine state request).row
 
--- the request was told its answer, and what that commits is stored; or memory ran out, and nothing is
+-- the reply is the request's answer, and what that commits is stored; or it is out of memory, and nothing is
 pub record AnswersRequest (old new : Engine) (state : State) (request : Request) (reply : Reply) : Type 0 where
   pub told : IsReplyOf reply (answer_by old state request)
   pub stores : Stores old new state (commits_by old state request reply)

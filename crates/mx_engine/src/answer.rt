@@ -1,4 +1,4 @@
-//! What a request is answered.
+//! Answers to requests.
 
 use mx_msgpack::Tuples;
 

@@ -27,8 +27,8 @@ pub(crate) const WRITABLE_NODE: u8 = 1;
 
 /// A database in memory. Each call that changes it is one step, which the engine counts.
 ///
-/// The clauses speak of each history that the engine stands for: after a call it stands for that
-/// history and the step that the call was.
+/// The clauses speak of each history of which the engine is the state: after a call it is the state
+/// of that history and the call's step.
 #[derive(Drop)]
 pub struct Engine {
     pub(crate) alloc: Global,
@@ -85,7 +85,7 @@ impl Engine {
         ensures { (base : Base) (history : History) (name : TxnName) (refusal : Refusal) → EngineStandsFor self.old base history
             → EngineStandsFor self.new base (Asked name (ask.Refused refusal) (Refused refusal) ∷ history) }
     {
-        // The refusal itself was told elsewhere.
+        // The refusal itself was returned where the request was read.
         self.count += 1;
     }
 
@@ -113,8 +113,8 @@ impl Engine {
         }
     }
 
-    /// Takes word that all commits among the first `upto` steps are durable; that many steps
-    /// there were when some commits were taken.
+    /// Notes that all commits among the first `upto` steps are durable, where `upto` is the number of
+    /// steps when some commits were taken.
     pub fn confirm(&mut self, upto: u64)
         requires { self.old.count < 2 ^ 63 - 1 }
         ensures { (base : Base) (history : History) → EngineStandsFor self.old base history → Contains (ledger_of base history).takes upto
@@ -146,21 +146,20 @@ impl Engine {
         self.clock
     }
 
-    /// Who the node is.
+    /// The identifiers of the node.
     pub fn ids(&self) -> &Ids
         ensures { (base : Base) (history : History) → EngineStandsFor self.now base history → result.now ≡ base.ids }
     {
         &self.ids
     }
 
-    /// Whether the node takes the request: each node takes what reads, and one takes what writes.
+    /// Every node takes reads; only one takes writes.
     fn takes(&self, request: &Request) -> bool
         ensures { result ≡ steps.accepts self.now.ids request.now }
     {
         self.ids.me == WRITABLE_NODE || !is_write(request)
     }
 
-    /// Answers a request that the node takes.
     fn answer(&mut self, request: &Request) -> Result<Answer, Refusal>
         requires { steps.accepts self.old.ids request.now ≡ true }
         ensures answers { (state : plain.State) → Holds self.old.state state → AnswersRequest self.old self.new state request.now (reply_view result) }
@@ -200,7 +199,6 @@ impl Engine {
     }
 }
 
-/// Whether the request writes.
 fn is_write(request: &Request) -> bool
     ensures { result ≡ is_write request.now }
 {

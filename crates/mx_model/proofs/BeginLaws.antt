@@ -56,7 +56,7 @@ sound files reached (journals, unread, reads, enough, is) =
       on_way = way journals nothing_yet reached nothing_is_sound plain.1;
     }
 
--- what journals stand for has a vclock
+-- what journals recover to has a vclock
 pub reached_is_sound : (files : Files) (reached : Reached) → IsDirectoryState files (Ok reached) → IsVclock reached.clock
 reached_is_sound files reached is = (sound files reached is).on_way.sound
 
@@ -145,7 +145,7 @@ names_without newest (file ∷ files) = by_test (names_without newest files) (no
     by_test rest true = ap (λ names. file.0 ∷ names) rest
     by_test rest false = rest
 
--- what holds of all files holds of those that are left, none of which has the name
+-- what holds of all files holds of the remaining ones, none of which has the name
 all_without : (newest : List ℕ) (P : Named → Type 0) (files : List Named) → AllByRecursion P files
     → AllByRecursion (λ (file : Named). P file × (same_bytes file.0 newest ≡ false)) (without newest files)
 all_without newest P [] all = tt
@@ -236,7 +236,7 @@ passed_before end name whole passed differs = by_order (cases_lt passed.signatur
         let equal : same_bytes name newest ≡ true = (bytes_decides name newest).1 (passed.named ∙ ap journal_name same) in
         absurd cc
 
--- what is known of each journal that is left
+-- what is known of each remaining journal
 record IsLeft (files : Files) (end : Reached) (file : Named) : Type 0 where
   pub read : IfSome (finite.get files file.0) (λ (f : File). ReadsAs f.bytes file.1)
   pub passed : Passed end file.0
@@ -251,7 +251,7 @@ all_map : (P Q : Named → Type 0) → ((file : Named) → P file → Q file) �
 all_map P Q each [] all = tt
 all_map P Q each (file ∷ files) all = (each file all.0, all_map P Q each files all.1)
 
--- what a directory stands for is what its next journal continues
+-- what a directory recovers to is what its next journal continues
 pub begins_again : (files now : Files) (reached : Reached) (base : Base) (file : File) → IsDirectoryState files (Ok reached)
     → base.state ≡ reached.state → base.clock ≡ reached.clock → ((reached.ids ≡ None) ⊎ (reached.ids ≡ Some base.ids)) → IsVclock reached.clock
     → ((q : List ℕ) → ((is_journal q ≡ true) ⊎ (is_snapshot q ≡ true))

@@ -7,7 +7,7 @@ use Rattle.mx_row.specs.Rows.{transaction_at, only_whole, transactions_in}
 use Rattle.mx_model.specs.Directories.{Reached, after_transaction, then_all, after_transactions, after_read, after_block}
 use Rattle.mx_row.proofs.RowLaws.{transaction_at-Advances}
 
--- nothing is left
+-- no bytes remain
 pub after_block-nil : (reached : Reached) → after_block [] reached ≡ Some reached
 unfolding after_block transactions_in
 after_block-nil reached = refl

@@ -8,6 +8,7 @@ use Rattle.mx_vclock.specs.Vclocks.{max_lsn}
 use Rattle.mx_base.specs.declared.refusal.Refusal.TheVariants.{ReadOnly, LsnsUsedUp, TupleTooLong}
 use Rattle.mx_msgpack.proofs.SpellingLaws.{shortest_length}
 use Rattle.mx_msgpack.specs.Spelling.{shortest_unsigned}
+use Rattle.mx_base.specs.declared.ids.TxnName.{TxnName}
 use Rattle.mx_request.specs.declared.request.Ask.{Ask}
 use Rattle.mx_request.specs.declared.request.Ask.TheVariants as ask
 use Rattle.mx_request.specs.declared.request.Request.{Request}
@@ -30,8 +31,8 @@ use Rattle.mx_row.specs.Clocks.{clock_after, clock_after_one}
 use Rattle.mx_row.specs.Rows.{IsRow}
 use Rattle.mx_base.specs.Keys.{space_key, tuple_key}
 use Rattle.mx_model.specs.Directories.{AllFollow, takes_row}
-use Rattle.mx_model.specs.Histories.{Base, History, Asked, Left, Took, Confirmed, Ledger, IsLegal, IsReply, is_out_of_memory, writable_node, with_lsn, commit_of, commits_of, ledger_of, journal_of, ledger_state, ledger_clock, next_lsn}
-use Rattle.mx_model.proofs.HistoryLaws.{committed-no_row, select_no_row, node_no_row}
+use Rattle.mx_model.specs.Histories.{Base, History, Asked, Left, Took, Confirmed, Looked, Ledger, IsLegal, IsReply, is_out_of_memory, writable_node, with_lsn, commit_of, commits_of, ledger_of, journal_of, ledger_state, ledger_clock, next_lsn}
+use Rattle.mx_model.proofs.HistoryLaws.{base_of_ledger, committed-no_row, select_no_row, node_no_row}
 
 -- transactions that follow, and then others that follow those
 pub all_follow-append : (now : State) (clock : List ℕ) (xs ys : List Tx) → AllFollow now clock xs
@@ -119,55 +120,59 @@ module _ (now : State) (clock : List ℕ) (replica space : ℕ) (tuple : List �
   replaced_follows false (Some tuples) node there =
       replacing_follows tuples (nat_lt max_tuple_size (length tuple)) refl (writable replica node) there
 
--- a request that leaves no row commits nothing
-none_follows : (base : Base) (ledger : Ledger) (asked : Request) (reply : Reply) → (answer_to (ledger_state base ledger) asked).row ≡ None
-    → AllFollow (ledger_state base ledger) (ledger_clock base ledger) (commits_of base ledger (ask.Request asked) reply)
-none_follows base ledger asked reply none =
-    let lsn = next_lsn base ledger in
-    subst (λ row. AllFollow (ledger_state base ledger) (ledger_clock base ledger) (commit_of base.ids.me lsn (is_out_of_memory reply) row))
-    (sym (node_no_row base.ids (ledger_state base ledger) lsn asked none))
-    (no_commit (ledger_state base ledger) (ledger_clock base ledger) base.ids.me lsn (is_out_of_memory reply))
+-- a request that writes no row commits nothing
+none_follows : (ledger : Ledger) (name : TxnName) (asked : Request) (reply : Reply) → (answer_to (ledger_state ledger) asked).row ≡ None
+    → AllFollow (ledger_state ledger) (ledger_clock ledger) (commits_of ledger name (ask.Request asked) reply)
+none_follows ledger name asked reply none =
+    let lsn = next_lsn ledger in
+    subst (λ row. AllFollow (ledger_state ledger) (ledger_clock ledger) (commit_of ledger.base.ids.me lsn (is_out_of_memory reply) row))
+    (sym (node_no_row ledger.base.ids (ledger_state ledger) lsn asked none))
+    (no_commit (ledger_state ledger) (ledger_clock ledger) ledger.base.ids.me lsn (is_out_of_memory reply))
 
 -- what a request commits
-request_follows : (base : Base) (ledger : Ledger) (asked : Request) (reply : Reply) → IsAskable asked
-    → AllFollow (ledger_state base ledger) (ledger_clock base ledger) (commits_of base ledger (ask.Request asked) reply)
-request_follows base ledger (request.Select space index limit offset iterator key) reply can =
-    none_follows base ledger (request.Select space index limit offset iterator key) reply
-    (select_no_row space.0 index.0 limit offset (iterator_of iterator) key (map.get (ledger_state base ledger) space.0))
-request_follows base ledger (request.Replace space tuple) reply can =
-    replaced_follows (ledger_state base ledger) (ledger_clock base ledger) base.ids.me space.0 tuple (is_out_of_memory reply) can.0 can.1
-    (not (base.ids.me == writable_node)) (map.get (ledger_state base ledger) space.0) refl refl
-request_follows base ledger (request.Insert space tuple) reply can = none_follows base ledger (request.Insert space tuple) reply refl
-request_follows base ledger (request.Update space index first key operations) reply can =
-    none_follows base ledger (request.Update space index first key operations) reply refl
-request_follows base ledger (request.Delete space index key) reply can = none_follows base ledger (request.Delete space index key) reply refl
-request_follows base ledger (request.Upsert space first tuple operations) reply can =
-    none_follows base ledger (request.Upsert space first tuple operations) reply refl
-request_follows base ledger request.Nop reply can = none_follows base ledger request.Nop reply refl
-request_follows base ledger request.Ping reply can = none_follows base ledger request.Ping reply refl
-request_follows base ledger request.Begin reply can = none_follows base ledger request.Begin reply refl
-request_follows base ledger request.Commit reply can = none_follows base ledger request.Commit reply refl
-request_follows base ledger request.Rollback reply can = none_follows base ledger request.Rollback reply refl
-request_follows base ledger request.Id reply can = none_follows base ledger request.Id reply refl
-request_follows base ledger (request.Join instance) reply can = none_follows base ledger (request.Join instance) reply refl
-request_follows base ledger (request.Subscribe instance set clock) reply can =
-    none_follows base ledger (request.Subscribe instance set clock) reply refl
-request_follows base ledger (request.Ack clock) reply can = none_follows base ledger (request.Ack clock) reply refl
+request_follows : (ledger : Ledger) (name : TxnName) (asked : Request) (reply : Reply) → IsAskable asked
+    → AllFollow (ledger_state ledger) (ledger_clock ledger) (commits_of ledger name (ask.Request asked) reply)
+request_follows ledger name (request.Select space index limit offset iterator key) reply can =
+    none_follows ledger name (request.Select space index limit offset iterator key) reply
+    (select_no_row space.0 index.0 limit offset (iterator_of iterator) key (map.get (ledger_state ledger) space.0))
+request_follows ledger name (request.Replace space tuple) reply can =
+    replaced_follows (ledger_state ledger) (ledger_clock ledger) ledger.base.ids.me space.0 tuple (is_out_of_memory reply) can.0 can.1
+    (not (ledger.base.ids.me == writable_node)) (map.get (ledger_state ledger) space.0) refl refl
+request_follows ledger name (request.Insert space tuple) reply can = none_follows ledger name (request.Insert space tuple) reply refl
+request_follows ledger name (request.Update space index first key operations) reply can =
+    none_follows ledger name (request.Update space index first key operations) reply refl
+request_follows ledger name (request.Delete space index key) reply can = none_follows ledger name (request.Delete space index key) reply refl
+request_follows ledger name (request.Upsert space first tuple operations) reply can =
+    none_follows ledger name (request.Upsert space first tuple operations) reply refl
+request_follows ledger name request.Nop reply can = none_follows ledger name request.Nop reply refl
+request_follows ledger name request.Ping reply can = none_follows ledger name request.Ping reply refl
+request_follows ledger name request.Begin reply can = none_follows ledger name request.Begin reply refl
+request_follows ledger name request.Commit reply can = none_follows ledger name request.Commit reply refl
+request_follows ledger name request.Rollback reply can = none_follows ledger name request.Rollback reply refl
+request_follows ledger name request.Id reply can = none_follows ledger name request.Id reply refl
+request_follows ledger name (request.Join instance) reply can = none_follows ledger name (request.Join instance) reply refl
+request_follows ledger name (request.Subscribe instance set clock) reply can =
+    none_follows ledger name (request.Subscribe instance set clock) reply refl
+request_follows ledger name (request.Ack clock) reply can = none_follows ledger name (request.Ack clock) reply refl
 
 -- what an ask commits
-step_follows : (base : Base) (ledger : Ledger) (asked : Ask) (reply : Reply) → IsReply base ledger asked reply
-    → AllFollow (ledger_state base ledger) (ledger_clock base ledger) (commits_of base ledger asked reply)
-step_follows base ledger (ask.Refused refusal) reply told = tt
-step_follows base ledger ask.Leave reply told = tt
-step_follows base ledger (ask.Request asked) reply told = request_follows base ledger asked reply told.0
+step_follows : (ledger : Ledger) (name : TxnName) (asked : Ask) (reply : Reply) → IsReply ledger name asked reply
+    → AllFollow (ledger_state ledger) (ledger_clock ledger) (commits_of ledger name asked reply)
+step_follows ledger name (ask.Refused refusal) reply told = tt
+step_follows ledger name ask.Leave reply told = tt
+step_follows ledger name (ask.Request asked) reply told = request_follows ledger name asked reply told.0
 
 -- what a legal history commits follows the base
 pub commits_follow : (base : Base) (history : History) → IsLegal base history
     → AllFollow base.state base.clock (journal_of base history)
 commits_follow base [] legal = tt
 commits_follow base (Asked name ask reply ∷ earlier) legal =
-    all_follow-append base.state base.clock (journal_of base earlier) (commits_of base (ledger_of base earlier) ask reply)
-    (commits_follow base earlier legal.0) (step_follows base (ledger_of base earlier) ask reply legal.1)
+    let ledger = ledger_of base earlier in
+    let commits = commits_of ledger name ask reply in
+    all_follow-append base.state base.clock (journal_of base earlier) commits (commits_follow base earlier legal.0)
+    (subst (λ b. AllFollow (state_after b.state (journal_of base earlier)) (clock_after b.clock (journal_of base earlier)) commits)
+    (base_of_ledger base earlier) (step_follows ledger name ask reply legal.1))
 commits_follow base (Left connection ∷ earlier) legal = commits_follow base earlier legal.0
 commits_follow base (Took transactions upto ∷ earlier) legal = commits_follow base earlier legal.0
 commits_follow base (Confirmed upto ∷ earlier) legal = commits_follow base earlier legal.0
+commits_follow base (Looked ∷ earlier) legal = commits_follow base earlier legal.0

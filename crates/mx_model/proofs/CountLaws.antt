@@ -1,4 +1,4 @@
--- How many transactions a directory stands for.
+-- How many transactions a directory recovers to.
 use Rattle.std.proofs.Common.{◌≡◌, ℕ, ◌≤◌, List, length, take, sym, ap, ◌∙◌, subst, arith}
 use Rattle.std.proofs.lemmas.List.{take-append-le, length-append}
 use mathlib.Core.List.{IsPrefix}
@@ -10,14 +10,14 @@ use Rattle.mx_model.proofs.OnceLaws.{one_state, count_once}
 use Rattle.mx_model.proofs.WalkLaws.{nothing_is_sound}
 use Rattle.mx_model.specs.Survival.{StandsAfter, Survive, FollowFromNew}
 
--- a directory stands for the first ones of these in one number only
+-- a directory recovers to a prefix of these of one length only
 pub counted_once : (transactions : List Tx) (m n : ℕ) (files : Files) → FollowFromNew transactions → m ≤ length transactions → n ≤ length transactions
     → StandsAfter (take m transactions) files → StandsAfter (take n transactions) files → m ≡ n
 counted_once transactions m n files follow first second one other =
     let same = one_state files one.reached other.reached one.stands other.stands in
     count_once first_state nothing_yet.clock transactions m n nothing_is_sound follow first second (sym one.clock ∙ same.1 ∙ other.clock)
 
--- a prefix of the first ones is one of them all
+-- a prefix of a prefix is one of them all
 pub front_longer : (earlier transactions : List Tx) (count : ℕ) → IsPrefix earlier transactions → count ≤ length earlier
     → (take count earlier ≡ take count transactions) × (count ≤ length transactions)
 front_longer earlier transactions count (rest, is) few = (
@@ -25,7 +25,7 @@ front_longer earlier transactions count (rest, is) few = (
   subst (λ (txs : List Tx). count ≤ length txs) is (omega (arith, length-append earlier rest)),
 )
 
--- a bound for the first ones is one for them all
+-- a bound for a prefix is one for them all
 pub survive_longer : (earlier transactions : List Tx) (least : ℕ) (disk : Disk) → IsPrefix earlier transactions → Survive earlier least disk
     → Survive transactions least disk
 survive_longer earlier transactions least disk front survive image fair =

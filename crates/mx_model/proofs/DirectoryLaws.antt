@@ -1,4 +1,4 @@
--- Which names a directory has, and what its journals stand for when one more is begun or written.
+-- Which names a directory has, and what its journals recover to when one more is begun or written.
 use Rattle.std.proofs.Common.{◌≡◌, ℕ, Bool, true, false, cond, not, ◌&&◌, T, List, [], ◌∷◌, ◌++◌, map, sum, refl, sym, ap, ◌∙◌, subst, ◌⊎◌, inl, inr}
 use Rattle.std.specs.Prelude.{Option, Some, None, is_some, Result, Ok, Err, IfSome, if◌then◌else◌}
 use Rattle.std.specs.List.{filter, AllByRecursion}
@@ -147,7 +147,7 @@ reads_same name before after (file ∷ earlier) same others reads = (
   reads_same name before after earlier same others.1 reads.1,
 )
 
--- what is written to the newest journal leaves what it continues
+-- what is written to the newest journal doesn't change what it continues
 pub continues_same : (base : Base) (name : List ℕ) (before after : Files) → Continues base name before
     → ((other : List ℕ) → same_bytes other name ≡ false → finite.get after other ≡ finite.get before other)
     → is_some (finite.get before name) ≡ true → is_some (finite.get after name) ≡ true → Continues base name after
@@ -235,7 +235,7 @@ pub all_read : (outcome : Result Reached Damage) → IsEnough [] outcome
 all_read (Ok reached) = refl
 all_read (Err damage) = tt
 
--- the directory stands for the base and what the newest journal has
+-- the directory recovers to the base and what the newest journal has
 pub stands_after : (base : Base) (name : List ℕ) (files : Files) (file : File) (read : FileRead) (outcome : Result Reached Damage)
     → Continues base name files → finite.get files name ≡ Some file → ReadsAs file.bytes (Some read) → read.head.snapshot ≡ false
     → same_bytes name (journal_name (sum read.head.clock)) ≡ true → read.head.clock ≡ base.clock → ids_in read.head ≡ base.ids

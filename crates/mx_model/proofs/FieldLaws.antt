@@ -25,7 +25,7 @@ same_key tuple bytes seen places def items at has same =
     ∙ ap (key_of test_parts) (sym (ap (λ l. slices l places) at ∙ slices_are tuple places has))
     ∙ ap (λ d. key_of d (slices seen places)) (sym same)
 
--- a fault that was told is that of this key
+-- a fault that was returned is that of this key
 pub same_fault : (key told : Result Key KeyFault) (fault : KeyFault) → key ≡ told → (told ≡ Err fault) ⊎ (fault ≡ NoMemory) → (key ≡ Err fault) ⊎ (fault ≡ NoMemory)
 same_fault key told fault is (inl e) = inl (is ∙ e)
 same_fault key told fault is (inr e) = inr e

@@ -1,4 +1,4 @@
--- What a crash leaves of files that are durable: they read as before.
+-- Crash images of files that are durable: they read as before.
 use Rattle.std.proofs.Common.{◌≡◌, ℕ, ◌+◌, Bool, true, false, ◌||◌, List, [], ◌∷◌, ◌++◌, length, take, drop, Option, Some, None, Result, Ok, Err, refl, sym, ap, ◌∙◌, subst, arith}
 use Rattle.std.specs.Prelude.{is_some, IfSome}
 use Rattle.std.specs.List.{Any, AllByRecursion}
@@ -16,7 +16,7 @@ use Rattle.mx_images.specs.Fair.{IsFairEnd, IsFair}
 use Rattle.mx_images.proofs.DiskLaws.{only_one}
 use Rattle.mx_images.proofs.FairLaws.{front_of_blocks}
 
--- ---- a file in what a crash leaves
+-- ---- a file in a crash image
 
 -- a name that is durable is what it is now
 pub fair_now : (now : Disk) (image : Files) (name : List ℕ) → finite.get now.older name ≡ None → IsFair now image → counts name ≡ true
@@ -66,7 +66,7 @@ reads_again file read end synced (is, blocks) fair = (
   blocks ∙ sym (fair_blocks file end read.head read.size synced is fair),
 )
 
--- the bytes that a crash leaves of a file that is durable
+-- the bytes of a durable file in a crash image
 pub left_whole : (file : File) (end : List ℕ) (image : Option File) → file.synced ≡ length file.bytes
     → image ≡ Some (synced_file (take file.synced file.bytes ++ end)) → image ≡ Some (synced_file (file.bytes ++ end))
 left_whole file end image synced is =
@@ -93,7 +93,7 @@ snapshot_counts name is = ap (λ b. is_journal name || b) is ∙ either_way (is_
 abbrev pub WasRead : Named → Type 0
 WasRead file = (read : FileRead) × (file.1 ≡ Some read)
 
--- each of the files that stand for something was read
+-- each of the files that are recovered from was read
 pub all_were_read : (files : List Named) (before reached : Reached) → after_files files before ≡ Ok reached → AllByRecursion WasRead files
 all_were_read [] before reached is = tt
 all_were_read ((name, None) ∷ files) before reached is = absurd cc

@@ -15,4 +15,8 @@ pub mod WindowLaws
 pub mod PickLaws
 pub mod SlowLaws
 pub mod CountLaws
+pub mod DamageLaws
 pub mod ImageLaws
+pub mod OrderLaws
+pub mod GateLaws
+pub mod ReadLaws

@@ -1,4 +1,4 @@
--- A directory stands for one thing only, and a vclock tells how many transactions came.
+-- A directory recovers to one state only, and its vclock gives the number of transactions.
 use Rattle.std.proofs.Common.{◌≡◌, ℕ, zero, suc, ◌+◌, ◌-◌, ◌≤◌, Bool, true, false, not, cond, ◌&&◌, List, [], ◌∷◌, ◌++◌, length, sum, take, drop, refl, sym, ap, ◌∙◌, subst, arith}
 use Rattle.std.specs.Prelude.{⊤, slice_index, ◌==◌, Option, Some, None, is_some, Result, Ok, Err, IfSome, if◌then◌else◌}
 use Rattle.std.specs.List.{filter, last_or, AllByRecursion}
@@ -11,7 +11,6 @@ use Rattle.std.proofs.lemmas.Bool.{eqb-true, leb-true, and_parts}
 use Rattle.std.proofs.Math.ListN.{length-set}
 use Rattle.std.proofs.lemmas.List.Sums.{sum_by-set}
 use Rattle.std.proofs.lemmas.List.Elements.{All-set}
-use Rattle.uuid.specs.Text.{hyphenated_text, lower}
 use Rattle.mx_vclock.specs.Vclocks.{IsVclock, max_lsn}
 use Rattle.mx_xlog.specs.declared.head.Head.{Head}
 use Rattle.mx_xlog.specs.Reading.{blocks_of}
@@ -26,21 +25,12 @@ use Rattle.mx_model.specs.State.{State}
 use Rattle.mx_model.specs.Answers.{state_after_rows}
 use Rattle.mx_row.specs.Clocks.{last_lsn, clock_after_one, clock_after, follows}
 use Rattle.mx_row.specs.Rows.{IsTransaction, transactions_in}
-use Rattle.mx_model.specs.Directories.{Named, Reached, IsDirectoryState, IsEnough, SameOutcome, AllFollow, are_its_ids, ids_in, ids_or, head_fits, nothing_yet, takes_rows, after_transaction, then_all, after_transactions, after_read, after_block, block_reached, after_blocks, after_head, after_file, and_then, after_files, without_snapshot, directory_state}
+use Rattle.mx_model.specs.Directories.{Named, Reached, IsDirectoryState, IsEnough, SameIds, SameOutcome, SameText, AllFollow, are_its_ids, ids_in, ids_or, head_fits, nothing_yet, takes_rows, after_transaction, then_all, after_transactions, after_read, after_block, block_reached, after_blocks, after_head, after_file, and_then, after_files, without_snapshot, directory_state}
 use Rattle.mx_xlog.specs.Files.{FileRead, ReadsAs}
 use Rattle.mx_files.specs.Names.{is_journal, is_snapshot, journal_name, same_bytes}
 use Rattle.mx_model.proofs.DirectoryLaws.{by_name, names_in, names_of, same_itself, ReadAll}
 
 -- ---- what is alike but for the bytes of identifiers
-
-abbrev SameText : List ℕ → List ℕ → Type 0
-SameText id other = hyphenated_text lower id ≡ hyphenated_text lower other
-
-abbrev SameIds : Option Ids → Option Ids → Type 0
-SameIds None None = ⊤
-SameIds None (Some ids) = ⊥
-SameIds (Some ids) None = ⊥
-SameIds (Some one) (Some other) = (one.me ≡ other.me) × SameText one.instance other.instance × SameText one.set other.set
 
 record SameHead (one other : Head) : Type 0 where
   snapshot : one.snapshot ≡ other.snapshot
@@ -269,7 +259,7 @@ same_parts x y xs ys is = (cc, cc)
 not_none : (name : List ℕ) (names unread : List (List ℕ)) → unread ≡ name ∷ names → unread ≡ [] → ⊥
 not_none name names unread is none = cc
 
--- journals that were read from the same files, as many as tell the outcome
+-- journals that were read from the same files, as many as decide the outcome
 journals_alike : (files : Files) (journals others : List Named) (unread beyond : List (List ℕ)) (one other : Reached)
     → names_of journals ++ unread ≡ names_of others ++ beyond → AllByRecursion (IsThere files) (names_of journals ++ unread)
     → ReadAll files journals → ReadAll files others → IsEnough unread (after_files journals one) → IsEnough beyond (after_files others other) → Alike one other
@@ -299,12 +289,12 @@ journals_alike files ((name, read) ∷ journals) ((again, same) ∷ others) unre
     by_first rest (Err damage) (Err same) first enough its_enough = first
 
 same_outcome : (one other : Result Reached Damage) → SameEnd one other → SameOutcome one other
-same_outcome (Ok one) (Ok other) same = (same.state, same.clock)
+same_outcome (Ok one) (Ok other) same = (same.ids, same.state, same.clock)
 same_outcome (Ok one) (Err damage) same = same
 same_outcome (Err damage) (Ok other) same = same
 same_outcome (Err damage) (Err other) same = same
 
--- a directory stands for one thing only
+-- a directory recovers to one state only
 pub stands_once : (files : Files) (one other : Result Reached Damage) → IsDirectoryState files one → IsDirectoryState files other → SameOutcome one other
 stands_once files one other (journals, unread, reads, enough, is) (others, beyond, its_reads, its_enough, its) =
     let ends = by_snapshot (last_or None (filter is_snapshot (finite.keys files))) (subst (IsEnough unread) is enough) (subst (IsEnough beyond) its its_enough) in
@@ -318,10 +308,12 @@ stands_once files one other (journals, unread, reads, enough, is) (others, beyon
         reads.each its_reads.each enough its_enough (record { ids = tt; state = refl; clock = refl })
     by_snapshot (Some name) enough its_enough = refl
 
--- where it stands for a state and a vclock, they are the only ones
+-- where it recovers to a state and a vclock, they are the only ones
 pub one_state : (files : Files) (one other : Reached) → IsDirectoryState files (Ok one) → IsDirectoryState files (Ok other)
     → (one.state ≡ other.state) × (one.clock ≡ other.clock)
-one_state files one other first second = stands_once files (Ok one) (Ok other) first second
+one_state files one other first second =
+    let (ids, state, clock) = stands_once files (Ok one) (Ok other) first second in
+    (state, clock)
 
 -- ---- how many transactions came
 
@@ -353,7 +345,7 @@ so_many_came now clock (transaction ∷ others) (suc count) sound all enough =
     let rest = so_many_came (state_after_rows now transaction.rows) (clock_after_one clock transaction) others count one.0 all.3 (omega arith) in
     rest ∙ omega (arith, one.1)
 
--- the vclock tells how many transactions came
+-- the vclock gives the number of transactions
 pub count_once : (now : State) (clock : List ℕ) (transactions : List Tx) (m n : ℕ) → IsVclock clock → AllFollow now clock transactions
     → m ≤ length transactions → n ≤ length transactions
     → clock_after clock (take m transactions) ≡ clock_after clock (take n transactions) → m ≡ n

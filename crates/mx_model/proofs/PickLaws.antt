@@ -157,7 +157,7 @@ module _ (iterator : IterKind) (key : Key) (law : HoldsItsKeys (range_of iterato
   found_between between is =
       ap (λ l. window offset limit (directed (descends iterator) l)) (is ∙ entries_held (edges_of (range_of iterator key)) kept)
 
-  -- and of what is left of them once the first ones were passed over
+  -- and of the rest once a prefix was skipped
   pub found_past : (down : Bool) → down ≡ descends iterator → (between rest : List StoredTuple)
       → between ≡ entries_between (slice_cmp nat_cmp) (bound_of (edges_of (range_of iterator key)).low) (bound_of (edges_of (range_of iterator key)).high) kept
       → directed down rest ≡ drop offset (directed down between)

@@ -83,12 +83,12 @@ module _ (slow : Slow) (before : State) (is : IsSlow slow before) (space index l
       (answers.result_is_too_long before (one_space (stored_list slow.kept.items) before is.keeps) space index limit offset iterator key same first fitting fits
       (subst (λ t. max_result_size < total_bytes t) (lent_is ∙ found_is) above)))
 
--- an answer that leaves no row leaves the program as it was
+-- an answer that writes no row doesn't change the program
 pub keeps_without_row : (slow : Slow) (before : State) (answer : Answer) → IsSlow slow before → answer.row ≡ None
     → IsSlow slow (state_after_rows before (option_to_list answer.row))
 keeps_without_row slow before answer is none = subst (λ row. IsSlow slow (state_after_rows before (option_to_list row))) (sym none) is
 
--- the answer that was told, and what it leaves
+-- the answer that was returned, and what it writes
 pub told_and_kept : (slow : Slow) (before : State) (reply : Reply) (answer : Answer) → IsSlow slow before → reply ≡ answer.reply → answer.row ≡ None
     → (reply ≡ answer.reply) × IsSlow slow (state_after_rows before (option_to_list answer.row))
 told_and_kept slow before reply answer is told none = (told, keeps_without_row slow before answer is none)
@@ -143,7 +143,7 @@ module _ (slow : Slow) (before : State) (is : IsSlow slow before) (space : ℕ) 
                 },
           )
 
--- a request whose answer leaves no row
+-- a request whose answer writes no row
 pub slow_is_told : (slow : Slow) (before : State) → IsSlow slow before → (asked : Request) (answer : Answer) (reply : Reply) → answer_to before asked ≡ answer
     → reply ≡ answer.reply → answer.row ≡ None
     → (reply ≡ (answer_to before asked).reply) × IsSlow slow (state_after_rows before (option_to_list (answer_to before asked).row))

@@ -1,4 +1,4 @@
--- What is kept in memory and the state that it stands for.
+-- What is stored in memory and the state that it holds.
 use Rattle.std.proofs.Common.{◌≡◌, ℕ, cond, List, [], map, sym, ap, ◌∙◌, subst}
 use Rattle.std.specs.Prelude.{Some, None, Ok}
 use Rattle.std.specs.List.{AllByRecursion}

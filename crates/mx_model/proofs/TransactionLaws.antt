@@ -9,9 +9,9 @@ use Rattle.mx_row.specs.Clocks.{clock_after_one, clock_after, follows}
 use Rattle.mx_model.specs.Directories.{Reached, takes_rows, after_transaction, after_transactions, after_read, then_all, after_block, block_reached, after_blocks, AllFollow}
 use Rattle.mx_row.proofs.RowLaws.{transactions_again}
 
--- ---- what a file's blocks stand for
+-- ---- what a file's blocks recover to
 
--- what a transaction leaves
+-- after a transaction
 abbrev pub reached_after : Reached → Tx → Reached
 reached_after reached transaction =
     record reached { state = state_after_rows reached.state transaction.rows; clock = clock_after_one reached.clock transaction }

@@ -1,4 +1,4 @@
--- What passing over entries and taking them makes of a list of them, step by step.
+-- What skipping entries and taking them makes of a list of them, step by step.
 use Rattle.std.proofs.Common.{◌≡◌, ℕ, zero, suc, ◌+◌, ◌-◌, ◌<◌, ◌≤◌, Bool, true, false, cond, List, [], ◌∷◌, ◌++◌, map, reverse, take, drop, length, filter, sum, Option, Some, None, refl, sym, ap, ◌∙◌, subst, append-nil, append_assoc, arith, slice_index_or, slice_get, slice_set, insert, All, IfSome}
 use mathlib.Core.Bool.{true≢false}
 use Rattle.std.specs.declared.cmp.Ordering.{Ordering}
@@ -131,7 +131,7 @@ module _ (p : StoredTuple → Bool) (down : Bool) (next : StoredTuple) (entries 
       ∙ ap (λ l. next ∷ l) (sym (filter-directed p down others))
 
   module _ (all tuples : List (List ℕ)) (offset left : ℕ) (before : all ≡ tuples ++ tuples_of (window offset left (directed down (filter p entries)))) where
-    -- an entry that the filter leaves out
+    -- an entry that the filter omits
     pub went_outside : p next ≡ false → all ≡ tuples ++ tuples_of (window offset left (directed down (filter p others)))
     went_outside missed = before ∙ ap (λ l. tuples ++ tuples_of (window offset left l)) (filtered_out missed)
 

@@ -38,6 +38,10 @@ nothing_yet = record { ids = None; state = first_state; clock = replicate replic
 abbrev pub ids_in : Head → Ids
 ids_in head = record { me = head.replica; instance = head.instance; set = head.set }
 
+-- the text of an identifier is this one's
+abbrev pub SameText : List ℕ → List ℕ → Type 0
+SameText id other = hyphenated_text lower id ≡ hyphenated_text lower other
+
 -- two identifiers have the same text
 abbrev pub same_id : List ℕ → List ℕ → Bool
 same_id id other = same_bytes (hyphenated_text lower id) (hyphenated_text lower other)
@@ -54,7 +58,7 @@ ids_or ids (Some found) = found
 abbrev pub head_fits : List ℕ → Head → Reached → Bool
 head_fits name head reached = not head.snapshot && same_bytes name (journal_name (sum head.clock)) && are_its_ids reached.ids head
 
--- the state takes the row: the statement that leaves it is no error
+-- the state takes the row: the statement that writes it is no error
 abbrev pub takes_row : State → Row → Bool
 takes_row state (Replaced space tuple) = is_some (replace_answer_in state space tuple).row
 
@@ -140,7 +144,7 @@ IsDirectoryState files outcome =
     (journals : List Named) × (unread : List (List ℕ)) × Reads files journals unread × IsEnough unread outcome
     × (outcome ≡ directory_state (filter is_snapshot (finite.keys files)) journals)
 
--- The journals but the one of this name, which comes after them all, stand for the base; they are its node's, where there
+-- The journals but the one of this name, which comes after them all, recover to the base; they are its node's, where there
 -- are any. There is no snapshot.
 pub record Continues (base : Base) (name : List ℕ) (files : Files) : Type 0 where
   pub earlier : List Named
@@ -161,9 +165,15 @@ AllFollow state clock (tx ∷ txs) =
     IsTransaction tx × (follows clock tx ≡ true) × (takes_rows state tx.rows ≡ true)
     × AllFollow (state_after_rows state tx.rows) (clock_after_one clock tx) txs
 
--- the same state and vclock, or the same damage
+-- no identifiers, or those of the same texts
+abbrev pub SameIds : Option Ids → Option Ids → Type 0
+SameIds (Some one) (Some other) = (one.me ≡ other.me) × SameText one.instance other.instance × SameText one.set other.set
+SameIds None None = ⊤
+SameIds _ _ = ⊥
+
+-- the same identifiers, state and vclock, or the same damage
 abbrev pub SameOutcome : Result Reached Damage → Result Reached Damage → Type 0
-SameOutcome (Ok one) (Ok other) = (one.state ≡ other.state) × (one.clock ≡ other.clock)
+SameOutcome (Ok one) (Ok other) = SameIds one.ids other.ids × (one.state ≡ other.state) × (one.clock ≡ other.clock)
 SameOutcome (Ok one) (Err damage) = ⊥
 SameOutcome (Err damage) (Ok other) = ⊥
 SameOutcome (Err damage) (Err other) = damage ≡ other

@@ -21,19 +21,20 @@ use Rattle.mx_model.specs.statements.Answer.{Answer, refusal_alone, refusal_afte
 use Rattle.mx_model.specs.Transactions.{state_after}
 use Rattle.mx_row.specs.Clocks.{clock_after}
 
--- what a database was when it was opened: its state, its vclock, and who it is
+-- what a database was when it was opened: its state, its vclock and its identifiers
 pub record Base : Type 0 where
   pub state : State
   pub clock : List ℕ
   pub ids : Ids
 
--- One step: who asked what, and what the reply was; a connection that left; transactions that were taken to be written,
--- with the number of steps before; and word that all commits among so many steps are durable.
+-- One step: a request with its name and reply; a disconnect; transactions that were taken to be written, with the number of
+-- steps before; the confirmation that all commits among so many steps are durable; and a look, which changes nothing.
 pub data Entry : Type 0 where
   Asked : TxnName → Ask → Reply → Entry
   Left : (connection : ℕ) → Entry
   Took : (transactions : List Tx) (upto : ℕ) → Entry
   Confirmed : (upto : ℕ) → Entry
+  Looked : Entry
 
 -- the newest entry first
 abbrev pub History : Type 0
@@ -41,6 +42,10 @@ History = List Entry
 
 -- what a history has come to
 pub record Ledger : Type 0 where
+  -- what the database was when it was opened
+  pub base : Base
+  -- how many steps there were
+  pub steps : ℕ
   -- the transactions that were committed, the first of them first
   pub journal : List Tx
   -- how many of them were taken to be written
@@ -49,8 +54,10 @@ pub record Ledger : Type 0 where
   pub takes : List ℕ
   -- among how many steps all commits are durable
   pub durable : ℕ
+  -- the transactions that are open: no request opens one yet
+  pub active : List TxnName
 
--- the reply is that memory ran out; such a step counts as not asked
+-- the reply is out of memory; such a step counts as not asked
 abbrev pub is_out_of_memory : Reply → Bool
 is_out_of_memory (Refused refusal) = code_of refusal == code_of OutOfMemory
 is_out_of_memory _ = false
@@ -68,7 +75,7 @@ is_write (request.Delete space index key) = true
 is_write (request.Upsert space base tuple ops) = true
 is_write _ = false
 
--- an answer that leaves a row needs an lsn for it
+-- an answer that writes a row needs an lsn for it
 abbrev pub with_lsn : (lsn : ℕ) → Answer → Option Row → Answer
 with_lsn lsn answer None = answer
 with_lsn lsn answer (Some row) = if nat_lt max_lsn lsn then refusal_after answer.reads LsnsUsedUp else answer
@@ -79,136 +86,139 @@ node_answer ids before lsn request =
     if is_write request && not (ids.me == writable_node) then refusal_alone (ReadOnly (record { 0 = writable_node }))
     else with_lsn lsn (answer_to before request) (answer_to before request).row
 
--- the state and the vclock that a ledger leaves, and the node's next lsn
-abbrev pub ledger_state : Base → Ledger → State
-ledger_state base ledger = state_after base.state ledger.journal
+-- the state and the vclock after a ledger, and the node's next lsn
+abbrev pub ledger_state : Ledger → State
+ledger_state ledger = state_after ledger.base.state ledger.journal
 
-abbrev pub ledger_clock : Base → Ledger → List ℕ
-ledger_clock base ledger = clock_after base.clock ledger.journal
+abbrev pub ledger_clock : Ledger → List ℕ
+ledger_clock ledger = clock_after ledger.base.clock ledger.journal
 
-abbrev pub next_lsn : Base → Ledger → ℕ
-next_lsn base ledger = suc (slice_index (ledger_clock base ledger) base.ids.me)
+abbrev pub next_lsn : Ledger → ℕ
+next_lsn ledger = suc (slice_index (ledger_clock ledger) ledger.base.ids.me)
 
--- what a request is answered after this ledger
-abbrev pub answer_in : Base → Ledger → Request → Answer
-answer_in base ledger request = node_answer base.ids (ledger_state base ledger) (next_lsn base ledger) request
+-- what a request under this name is answered after this ledger
+abbrev pub answer_in : Ledger → TxnName → Request → Answer
+answer_in ledger name request = node_answer ledger.base.ids (ledger_state ledger) (next_lsn ledger) request
 
--- a commit of one row, where the statement left one and memory was there
+-- a commit of one row, where the statement wrote one and didn't run out of memory
 abbrev pub commit_of : (replica lsn : ℕ) → Bool → Option Row → List Tx
 commit_of replica lsn true row = []
 commit_of replica lsn false None = []
 commit_of replica lsn false (Some row) = record { replica = replica; first = lsn; rows = row ∷ [] } ∷ []
 
 -- the journal's part of one step
-abbrev pub commits_of : Base → Ledger → Ask → Reply → List Tx
-commits_of base ledger (ask.Refused refusal) reply = []
-commits_of base ledger ask.Leave reply = []
-commits_of base ledger (ask.Request request) reply =
-    commit_of base.ids.me (next_lsn base ledger) (is_out_of_memory reply) (answer_in base ledger request).row
+abbrev pub commits_of : Ledger → TxnName → Ask → Reply → List Tx
+commits_of ledger name (ask.Request request) reply =
+    commit_of ledger.base.ids.me (next_lsn ledger) (is_out_of_memory reply) (answer_in ledger name request).row
+commits_of ledger name _ reply = []
 
-abbrev pub ledger_after : Base → Ledger → Entry → Ledger
-ledger_after base ledger (Asked name ask reply) = record ledger { journal = ledger.journal ++ commits_of base ledger ask reply }
-ledger_after base ledger (Left connection) = ledger
-ledger_after base ledger (Took transactions upto) = record ledger { taken = length ledger.journal; takes = upto ∷ ledger.takes }
-ledger_after base ledger (Confirmed upto) = record ledger { durable = max ledger.durable upto }
+-- the ledger with what one step changes of it, but for the number of steps
+abbrev pub ledger_with : Ledger → Entry → Ledger
+ledger_with ledger (Asked name ask reply) = record ledger { journal = ledger.journal ++ commits_of ledger name ask reply }
+ledger_with ledger (Took transactions upto) = record ledger { taken = length ledger.journal; takes = upto ∷ ledger.takes }
+ledger_with ledger (Confirmed upto) = record ledger { durable = max ledger.durable upto }
+ledger_with ledger _ = ledger
+
+abbrev pub ledger_after : Ledger → Entry → Ledger
+ledger_after ledger entry = record (ledger_with ledger entry) { steps = suc ledger.steps }
 
 -- what a history has come to, from the base
 abbrev pub ledger_of : Base → History → Ledger
-ledger_of base [] = record { journal = []; taken = 0; takes = []; durable = 0 }
-ledger_of base (entry ∷ earlier) = ledger_after base (ledger_of base earlier) entry
+ledger_of base [] = record { base = base; steps = 0; journal = []; taken = 0; takes = []; durable = 0; active = [] }
+ledger_of base (entry ∷ earlier) = ledger_after (ledger_of base earlier) entry
 
 -- the transactions that a history committed
 abbrev pub journal_of : Base → History → List Tx
 journal_of base history = (ledger_of base history).journal
 
--- the state that a history leaves, and its vclock
+-- the state after a history, and its vclock
 abbrev pub state_of : Base → History → State
-state_of base history = ledger_state base (ledger_of base history)
+state_of base history = ledger_state (ledger_of base history)
 
 abbrev pub clock_of : Base → History → List ℕ
-clock_of base history = ledger_clock base (ledger_of base history)
+clock_of base history = ledger_clock (ledger_of base history)
 
--- the reply that the ledger demands; a request that was refused beforehand is told so
-abbrev pub reply_to : Base → Ledger → Ask → Reply
-reply_to base ledger (ask.Refused refusal) = Refused refusal
-reply_to base ledger ask.Leave = Empty
-reply_to base ledger (ask.Request request) = (answer_in base ledger request).reply
+-- the reply that the ledger demands; to a request that was refused beforehand, its refusal
+abbrev pub reply_to : Ledger → TxnName → Ask → Reply
+reply_to ledger name (ask.Refused refusal) = Refused refusal
+reply_to ledger name ask.Leave = Empty
+reply_to ledger name (ask.Request request) = (answer_in ledger name request).reply
 
--- the request can be asked, and the reply is the one that the ledger demands, or to a request that memory ran out; who
--- leaves is told nothing
-abbrev pub IsReply : Base → Ledger → Ask → Reply → Type 0
-IsReply base ledger (ask.Refused refusal) reply = reply ≡ Refused refusal
-IsReply base ledger ask.Leave reply = ⊥
-IsReply base ledger (ask.Request request) reply =
-    IsAskable request × ((reply ≡ (answer_in base ledger request).reply) ⊎ (reply ≡ Refused OutOfMemory))
+-- the request can be asked, and the reply is the one that the ledger demands, or out of memory; a disconnect has no reply
+abbrev pub IsReply : Ledger → TxnName → Ask → Reply → Type 0
+IsReply ledger name (ask.Refused refusal) reply = reply ≡ Refused refusal
+IsReply ledger name ask.Leave reply = ⊥
+IsReply ledger name (ask.Request request) reply =
+    IsAskable request × ((reply ≡ (answer_in ledger name request).reply) ⊎ (reply ≡ Refused OutOfMemory))
 
--- The entry is what the history before it, of so many steps, demands: a take has what no earlier one took, and a
--- confirmation names an earlier take.
-abbrev pub Follows : Base → Ledger → (steps : ℕ) → Entry → Type 0
-Follows base ledger steps (Asked name ask reply) = IsReply base ledger ask reply
-Follows base ledger steps (Left connection) = ⊤
-Follows base ledger steps (Took transactions upto) = (transactions ≡ drop ledger.taken ledger.journal) × (upto ≡ steps)
-Follows base ledger steps (Confirmed upto) = Contains ledger.takes upto
+-- The entry is what the history before it demands: a take has what no earlier one took, and a confirmation names an earlier
+-- take.
+abbrev pub Follows : Ledger → Entry → Type 0
+Follows ledger (Asked name ask reply) = IsReply ledger name ask reply
+Follows ledger (Took transactions upto) = (transactions ≡ drop ledger.taken ledger.journal) × (upto ≡ ledger.steps)
+Follows ledger (Confirmed upto) = Contains ledger.takes upto
+Follows ledger _ = ⊤
 
 -- each entry is what the entries before it demand
 abbrev pub IsLegal : Base → History → Type 0
 IsLegal base [] = Unit {0}
-IsLegal base (entry ∷ earlier) = IsLegal base earlier × Follows base (ledger_of base earlier) (length earlier) entry
+IsLegal base (entry ∷ earlier) = IsLegal base earlier × Follows (ledger_of base earlier) entry
 
--- a connection asks to leave
+-- a connection disconnects
 abbrev pub leaving : (connection : ℕ) → TxnName × Ask
 leaving connection = (record { conn = record { 0 = connection }; stream = record { 0 = 0 } }, ask.Leave)
 
 abbrev pub entry_asks : Entry → List (TxnName × Ask)
 entry_asks (Asked name ask reply) = (name, ask) ∷ []
 entry_asks (Left connection) = leaving connection ∷ []
-entry_asks (Took transactions upto) = []
-entry_asks (Confirmed upto) = []
+entry_asks _ = []
 
--- who asked what, or left, the first of it first
+-- the requests and the disconnects, oldest first
 abbrev pub asks_in : History → List (TxnName × Ask)
 asks_in [] = []
 asks_in (entry ∷ earlier) = asks_in earlier ++ entry_asks entry
 
--- the step wasn't answered that memory ran out
+-- the step didn't run out of memory
 abbrev pub HadMemory : Entry → Type 0
 HadMemory (Asked name ask reply) = is_out_of_memory reply ≡ false
-HadMemory (Left connection) = ⊤
-HadMemory (Took transactions upto) = ⊤
-HadMemory (Confirmed upto) = ⊤
+HadMemory _ = ⊤
 
--- no step was answered that memory ran out
+-- no step ran out of memory
 abbrev pub HasMemory : History → Type 0
 HasMemory [] = Unit {0}
 HasMemory (entry ∷ earlier) = HasMemory earlier × HadMemory entry
 
+-- the history as if requests that were answered out of memory hadn't been asked
+abbrev pub remembered : History → History
+remembered [] = []
+remembered (Asked name ask reply ∷ earlier) =
+    if is_out_of_memory reply then remembered earlier else Asked name ask reply ∷ remembered earlier
+remembered (entry ∷ earlier) = entry ∷ remembered earlier
+
 abbrev pub asking_in : Entry → List Entry
 asking_in (Asked name ask reply) = Asked name ask reply ∷ []
 asking_in (Left connection) = Left connection ∷ []
-asking_in (Took transactions upto) = []
-asking_in (Confirmed upto) = []
+asking_in _ = []
 
 -- the steps that were asked for
 abbrev pub asking : History → History
 asking [] = []
 asking (entry ∷ earlier) = asking_in entry ++ asking earlier
 
--- the step that is asked for, told what the ledger demands
-abbrev pub step_for : Base → Ledger → TxnName × Ask → Entry
-step_for base ledger (name, ask.Request request) = Asked name (ask.Request request) (reply_to base ledger (ask.Request request))
-step_for base ledger (name, ask.Refused refusal) = Asked name (ask.Refused refusal) (Refused refusal)
-step_for base ledger (name, ask.Leave) = Left name.conn.0
+-- the step that is asked for, with the reply that the ledger demands
+abbrev pub step_for : Ledger → TxnName × Ask → Entry
+step_for ledger (name, ask.Request request) = Asked name (ask.Request request) (reply_to ledger name (ask.Request request))
+step_for ledger (name, ask.Refused refusal) = Asked name (ask.Refused refusal) (Refused refusal)
+step_for ledger (name, ask.Leave) = Left name.conn.0
 
--- the history of these asks, each told what the ones before it demand
+-- the history of these asks, each with the reply that those before it demand
 abbrev pub history_from : Base → History → List (TxnName × Ask) → History
 history_from base earlier [] = earlier
-history_from base earlier (asked ∷ others) = history_from base (step_for base (ledger_of base earlier) asked ∷ earlier) others
+history_from base earlier (asked ∷ others) = history_from base (step_for (ledger_of base earlier) asked ∷ earlier) others
 
 abbrev pub entry_replies : Entry → List Reply
 entry_replies (Asked name ask reply) = reply ∷ []
-entry_replies (Left connection) = []
-entry_replies (Took transactions upto) = []
-entry_replies (Confirmed upto) = []
+entry_replies _ = []
 
 -- the replies of a history, the first of them first
 abbrev pub replies_in : History → List Reply

@@ -4,9 +4,12 @@ pub mod statements
 pub mod Answers
 pub mod Transactions
 pub mod Directories
+pub mod DamageText
 pub mod Stored
 pub mod Selecting
 pub mod Histories
+pub mod Order
+pub mod Gate
 pub mod ReplyStream
 pub mod Slow
 pub mod Survival

@@ -20,11 +20,11 @@ abbrev pub directed : {X : Type 0} → (down : Bool) → List X → List X
 directed true xs = reverse xs
 directed false xs = xs
 
--- without the first ones, and of the rest so many at most
+-- without the first `offset` entries, and at most `limit` of the rest
 abbrev pub window : {X : Type 0} → (offset limit : ℕ) → List X → List X
 window offset limit xs = take limit (drop offset xs)
 
--- the entries in an iterator's range, in its direction, without those that the offset passes over, as many as the limit allows
+-- the entries in an iterator's range, in its direction, without those that the offset skips, as many as the limit allows
 abbrev pub picked : IterKind → Key → (offset limit : ℕ) → List Indexed → List Indexed
 picked iterator key offset limit all =
     window offset limit (directed (descends iterator) (filter (λ entry. lies_in (range_of iterator key) entry.0) all))

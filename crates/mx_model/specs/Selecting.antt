@@ -1,4 +1,4 @@
--- Only private functions and proofs need these: the last of the entries that were gone through.
+-- Only private functions and proofs need these: the last of the entries that were scanned.
 use Rattle.std.specs.Prelude.{ℕ, List, [], ◌∷◌, Option, Some, None}
 use Rattle.mx_model.specs.Stored.{StoredTuple}
 

@@ -1,4 +1,4 @@
--- What a state in memory stands for: each tuple is kept under the comparable bytes of its primary key.
+-- The state that memory holds: each tuple is kept under the comparable bytes of its primary key.
 use Rattle.std.specs.Prelude.{◌≡◌, ℕ, false, ◌==◌, List, map, Some, None}
 use Rattle.std.specs.List.{AllByRecursion}
 use Rattle.std.specs.FinMap as finite

@@ -1,5 +1,9 @@
 //! What is damaged in a directory.
 
+ghost use Rattle.std.specs.Prelude.{◌≡◌, Some};
+ghost use Rattle.std.specs.Fmt.{DisplaysOnOk};
+ghost use Rattle.mx_model.specs.DamageText.{clock_text, damage_text, kind_text, name_text};
+
 use mx_msgpack::Bytes;
 use mx_vclock::Vclock;
 use std::fmt;
@@ -28,10 +32,19 @@ pub enum DamageKind {
 }
 
 impl Display for Damage {
+    ghost output = { λ damage. Some (damage_text damage) };
+
     fn fmt<W: Write>(&self, f: &mut Formatter<W>) -> fmt::Result {
-        let name = std::str::from_utf8(self.file.as_slice()).unwrap_or("");
-        write!(f, "{name} {} ", self.at)?;
-        match &self.kind {
+        let name = name_text(self.file.as_slice());
+        write!(f, "{name} {} {}", self.at, self.kind)
+    }
+}
+
+impl Display for DamageKind {
+    ghost output = { λ kind. Some (kind_text kind) };
+
+    fn fmt<W: Write>(&self, f: &mut Formatter<W>) -> fmt::Result {
+        match self {
             DamageKind::Head => write!(f, "head"),
             DamageKind::Gap { reached, begins } => {
                 write!(f, "gap ")?;
@@ -44,8 +57,15 @@ impl Display for Damage {
     }
 }
 
-/// Writes a vclock as `{1: 5, 2: 7}`.
-fn write_clock<W: Write>(f: &mut Formatter<W>, clock: &Vclock) -> fmt::Result {
+fn name_text(name: &[u8]) -> &str
+    ensures { result.now ≡ name_text name.now }
+{
+    std::str::from_utf8(name).unwrap_or("")
+}
+
+fn write_clock<W: Write>(f: &mut Formatter<W>, clock: &Vclock) -> fmt::Result
+    ensures { DisplaysOnOk W.write_str_gives f.old result (Some (clock_text clock.now)) f.new }
+{
     let mut between = "";
     write!(f, "{{")?;
     for id in 0..32 {

@@ -1,4 +1,4 @@
-//! Who a node is.
+//! The identifiers of a node.
 
 use uuid::Uuid;
 

@@ -4,7 +4,7 @@ ghost use Rattle.std.specs.Prelude.{◌≡◌, ◌⊎◌, Ok, Err, MatchResult};
 ghost use Rattle.mx_key.specs.declared.fault.KeyFault.TheVariants.{NoMemory};
 ghost use Rattle.mx_key.specs.Comparable.{comparable_of};
 ghost use Rattle.mx_key.specs.Keys.{Key, AreFit};
-ghost use Rattle.mx_model.specs.State.{key_in, test_parts};
+ghost use Rattle.mx_model.specs.State.{key_fault_of, key_in, test_parts};
 
 use mx_key::{FieldSlices, KeyDef, KeyFault, key_of};
 use mx_msgpack::Bytes;
@@ -18,10 +18,6 @@ pub struct Keyed {
     pub tuple: Bytes,
 }
 
-/// A copy of a tuple, with its primary key in the one space.
-///
-/// # Errors
-/// The field of the key that is missing or of another type; memory ran out.
 pub(crate) fn key_tuple(alloc: Global, parts: &KeyDef, tuple: &[u8]) -> Result<Keyed, KeyFault>
     ensures { parts.now ≡ test_parts → MatchResult result
         (λ keyed. (key : Key) × (key_in test_parts tuple.now ≡ Ok key) × AreFit key × (keyed.key ≡ comparable_of key) × (keyed.tuple ≡ tuple.now))
@@ -29,9 +25,7 @@ pub(crate) fn key_tuple(alloc: Global, parts: &KeyDef, tuple: &[u8]) -> Result<K
 {
     let tuple = match from_bytes(alloc, tuple) {
         Ok(tuple) => tuple,
-        // What is no array has no field.
-        Err(TupleBad::Bad) => return Err(KeyFault::Missing { field: 0 }),
-        Err(TupleBad::NoMemory) => return Err(KeyFault::NoMemory),
+        Err(bad) => return Err(key_fault_of(bad)),
     };
     let fields = FieldSlices {
         bytes: tuple.bytes(),
@@ -40,4 +34,13 @@ pub(crate) fn key_tuple(alloc: Global, parts: &KeyDef, tuple: &[u8]) -> Result<K
     let key = key_of(alloc, parts, &fields)?;
     let tuple = tuple.into_bytes();
     Ok(Keyed { key, tuple })
+}
+
+fn key_fault_of(bad: TupleBad) -> KeyFault
+    ensures { result ≡ key_fault_of bad }
+{
+    match bad {
+        TupleBad::Bad => KeyFault::Missing { field: 0 },
+        TupleBad::NoMemory => KeyFault::NoMemory,
+    }
 }

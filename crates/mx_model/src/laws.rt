@@ -4,13 +4,13 @@ ghost use Rattle.std.specs.Prelude.{◌≡◌, [], Result};
 ghost use Rattle.mx_outside.specs.Disks.{Files};
 ghost use Rattle.mx_model.specs.declared.damage.Damage.{Damage};
 ghost use Rattle.mx_model.specs.Directories.{AllFollow, IsDirectoryState, Reached, SameOutcome};
-ghost use Rattle.mx_model.specs.Histories.{Base, History, IsLegal, HasMemory, asks_in, asking, history_from, journal_of};
+ghost use Rattle.mx_model.specs.Histories.{Base, History, IsLegal, asks_in, asking, history_from, journal_of, remembered};
 
-/// A theorem, which does nothing when it is called: the asks of a legal history determine its steps and replies,
-/// where no step was out of memory.
+/// A theorem, which does nothing when it is called: the asks of a legal history determine its steps and
+/// replies, but for the requests that were answered out of memory; it is as if these hadn't been asked.
 pub fn replies_are_determined()
-    ensures { (base : Base) (history : History) → IsLegal base history → HasMemory history
-        → asking history ≡ history_from base [] (asks_in history) }
+    ensures { (base : Base) (history : History) → IsLegal base history
+        → asking (remembered history) ≡ history_from base [] (asks_in (remembered history)) }
 {}
 
 /// A theorem, which does nothing when it is called: what a legal history commits can be written, each
@@ -20,8 +20,8 @@ pub fn commits_are_sound()
         → AllFollow base.state base.clock (journal_of base history) }
 {}
 
-/// A theorem, which does nothing when it is called: a directory recovers to one state only, or has
-/// one damage only.
+/// A theorem, which does nothing when it is called: a directory recovers to one state only, with one
+/// vclock and one node's identifiers, or has one first damage.
 pub fn a_directory_stands_once()
     ensures { (files : Files) (one other : Result Reached Damage) → IsDirectoryState files one
         → IsDirectoryState files other → SameOutcome one other }

@@ -24,5 +24,5 @@ pub use slow::Slow;
 pub use state::{State, bootstrap};
 pub use statements::lookup::{TEST_SPACE, index_missing, not_built};
 pub use statements::replace::{MAX_TUPLE_SIZE, fault_refusal};
-pub use statements::select::{iterator_of, misfit_refusal};
+pub use statements::select::{iterator_of, misfit_refusal, stop_refusal};
 pub use txs::Txs;

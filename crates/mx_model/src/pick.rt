@@ -1,6 +1,6 @@
 //! Range scans: what a SELECT picks of an index's entries.
 
-ghost use Rattle.std.specs.Prelude.{◌≡◌, ◌⊎◌, ◌<◌, ◌≤◌, ◌++◌, ◌∷◌, [], ℕ, List, map, take, drop, length, MatchOption, MatchResult};
+ghost use Rattle.std.specs.Prelude.{◌≡◌, ◌⊎◌, ◌<◌, ◌≤◌, ◌+◌, ◌++◌, ◌∷◌, [], ℕ, List, map, take, drop, length, MatchOption, MatchResult};
 ghost use Rattle.std.specs.Option.{option_map};
 ghost use Rattle.mx_model.specs.declared.pick.SelectStop.TheVariants.{TooLong, NoMemory};
 ghost use Rattle.mx_model.specs.Picks.{directed, total_bytes, max_result_size};
@@ -20,13 +20,13 @@ pub struct Pick<'a> {
     pub iterator: IterKind,
     /// An array of the key's parts.
     pub key: &'a [u8],
-    /// How many tuples are passed over.
+    /// How many tuples are skipped.
     pub offset: u32,
-    /// How many tuples there are to be at most.
+    /// The maximum number of tuples.
     pub limit: u32,
 }
 
-/// The tuples that were picked.
+/// The tuples that a SELECT picks.
 #[derive(Debug, Drop)]
 pub struct Selected {
     pub tuples: Tuples,
@@ -35,7 +35,7 @@ pub struct Selected {
     pub read: Option<KeyRange>,
 }
 
-/// Why no tuples are given.
+/// Why a SELECT returns no tuples.
 #[derive(Clone, Copy, Debug, Drop, PartialEq, Eq)]
 pub enum SelectStop {
     /// They have more than 16,777,216 bytes together.
@@ -59,7 +59,6 @@ pub(crate) struct Collected<'a> {
     pub(crate) last: Option<&'a Bytes>,
 }
 
-/// The next entry in a direction.
 fn next_in<'a>(entries: &mut Range<'a, Bytes, Bytes>, down: bool) -> Option<(&'a Bytes, &'a Bytes)>
     ensures { MatchOption result
         ((directed down entries.old ≡ []) × (directed down entries.new ≡ []))
@@ -72,7 +71,6 @@ fn next_in<'a>(entries: &mut Range<'a, Bytes, Bytes>, down: bool) -> Option<(&'a
     }
 }
 
-/// Passes over so many entries, or all where there are fewer.
 pub(crate) fn pass_over(entries: &mut Range<'_, Bytes, Bytes>, down: bool, count: u32)
     ensures { directed down entries.new ≡ drop count (directed down entries.old) }
 {
@@ -85,10 +83,6 @@ pub(crate) fn pass_over(entries: &mut Range<'_, Bytes, Bytes>, down: bool, count
     }
 }
 
-/// Copies so many tuples, or all where there are fewer.
-///
-/// # Errors
-/// They have too many bytes together; memory ran out.
 pub(crate) fn collect<'a>(
     alloc: Global,
     entries: &mut Range<'a, Bytes, Bytes>,
@@ -109,13 +103,22 @@ pub(crate) fn collect<'a>(
         let Some((key, tuple)) = next_in(entries, down) else {
             return Ok(Collected { tuples, last });
         };
-        if tuple.len() > MAX_RESULT_SIZE - bytes {
-            return Err(SelectStop::TooLong);
-        }
-        bytes += tuple.len();
+        bytes = result_size(bytes, tuple.len())?;
         tuples.push(Bytes::from_slice(alloc, tuple.as_slice())?)?;
         last = Some(key);
         left -= 1;
     }
     Ok(Collected { tuples, last })
+}
+
+fn result_size(bytes: usize, more: usize) -> Result<usize, SelectStop>
+    requires { bytes ≤ max_result_size }
+    ensures { MatchResult result
+        (λ size. (size ≡ bytes + more) × (size ≤ max_result_size))
+        (λ stop. (stop ≡ TooLong) × (max_result_size < bytes + more)) }
+{
+    if more > MAX_RESULT_SIZE - bytes {
+        return Err(SelectStop::TooLong);
+    }
+    Ok(bytes + more)
 }

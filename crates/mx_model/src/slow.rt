@@ -100,7 +100,6 @@ impl Slow {
         }
     }
 
-    /// The tuples that an iterator picks.
     fn select(&self, space: SpaceId, index: IndexId, pick: &Pick<'_>) -> Result<Reply, AllocError>
         ensures { (state : plain.State) → IsSlow self.now state → IfOk result (λ reply. reply
             ≡ (in_space space.0 (get state space.0) (select_answer space.0 index.0 pick.now.limit pick.now.offset pick.now.iterator pick.now.key.now)).reply) }
@@ -122,7 +121,6 @@ impl Slow {
         }
     }
 
-    /// Puts the tuple in the place of the one that has its key, and shows it.
     fn replace(&mut self, space: SpaceId, tuple: &[u8]) -> Result<Reply, AllocError>
         ensures { (state : plain.State) → IsSlow self.old state → MatchResult result
             (λ reply. (reply ≡ (in_space space.0 (get state space.0) (λ _. replace_answer space.0 tuple.now)).reply)
@@ -147,10 +145,7 @@ impl Slow {
     }
 }
 
-/// The refusal of a tuple that has no primary key.
-///
-/// # Errors
-/// Memory ran out, which is no refusal here.
+/// Out of memory is an error of this call, and no refusal.
 fn refusal_of(fault: KeyFault) -> Result<Refusal, AllocError>
     ensures { IfOk result (λ refusal. (refusal ≡ fault_refusal fault) × (fault ≢ NoKeyMemory)) }
 {
@@ -161,7 +156,6 @@ fn refusal_of(fault: KeyFault) -> Result<Refusal, AllocError>
     }
 }
 
-/// Puts a tuple in the place of the one that has its key, or after those whose keys are below.
 fn put(kept: &mut Vec<Keyed>, keyed: Keyed) -> Result<(), AllocError>
     ensures { MatchResult result
         (λ _. stored_list kept.new.items ≡ insert_entry (slice_cmp nat_cmp) (stored_list kept.old.items) keyed.key keyed.tuple)
@@ -177,7 +171,6 @@ fn put(kept: &mut Vec<Keyed>, keyed: Keyed) -> Result<(), AllocError>
     }
 }
 
-/// How many of the first ones have keys below this one.
 fn place_of(kept: &[Keyed], key: &Bytes) -> usize
     ensures within { result ≤ length kept.now }
     ensures below { All (λ one. is_lt (slice_cmp nat_cmp one.key key.now) ≡ true) (take result kept.now) }
@@ -193,11 +186,6 @@ fn place_of(kept: &[Keyed], key: &Bytes) -> usize
     place
 }
 
-/// The tuples whose keys a range holds, in the iterator's direction, without those that the offset
-/// passes over, as many as the limit allows.
-///
-/// # Errors
-/// They have too many bytes together; memory ran out.
 fn gather(
     alloc: Global,
     kept: &[Keyed],
@@ -239,7 +227,6 @@ fn gather(
     Ok(tuples)
 }
 
-/// The next one in a direction, and the others.
 fn next_of(kept: &[Keyed], down: bool) -> Option<(&Keyed, &[Keyed])>
     ensures { MatchOption result
         (kept.now ≡ [])

@@ -68,7 +68,7 @@ impl State {
     /// The tuples that an iterator picks by a key that fits the one index.
     ///
     /// # Errors
-    /// They have more than 16,777,216 bytes together; memory ran out.
+    /// They have more than 16,777,216 bytes together, or out of memory.
     pub fn select(&self, alloc: Global, wanted: &Pick<'_>) -> Result<Selected, SelectStop>
         ensures { (state : plain.State) (holds : Holds self.now state) (key : Key) → key_of_array test_parts wanted.now.key.now ≡ Ok key → AreFit key → MatchResult result
             (λ selected. (selected.tuples ≡ (pick (entries_of holds.keeps.tuples) wanted.now.iterator key wanted.now.offset wanted.now.limit).tuples)

@@ -57,7 +57,7 @@ impl Txs {
         self.items.pop()
     }
 
-    /// Takes all transactions out, and leaves none.
+    /// Takes all transactions out.
     pub fn take(&mut self) -> Txs
         ensures taken { result ≡ self.old }
         ensures left { self.new ≡ [] }

@@ -22,7 +22,6 @@ use mx_vclock::Vclock;
 use std::alloc::{AllocError, Global};
 
 impl Engine {
-    /// Puts the tuple in its place, as a commit, and shows it.
     pub(crate) fn replace(&mut self, space: SpaceId, tuple: &[u8]) -> Result<Answer, Refusal>
         requires { steps.accepts self.old.ids (Replace space tuple.now) ≡ true }
         ensures answers { (state : plain.State) → Holds self.old.state state → AnswersRequest self.old self.new state (Replace space tuple.now) (reply_view result) }
@@ -42,10 +41,6 @@ impl Engine {
         }
     }
 
-    /// Puts the tuple in its place, and a transaction of it after those that wait, and shows it.
-    ///
-    /// # Errors
-    /// Out of memory. Nothing changed then.
     fn commit(&mut self, lsn: u64, keyed: Keyed) -> Result<Tuples, AllocError>
         ensures shown { IfOk result (λ tuples. tuples ≡ keyed.tuple ∷ []) }
         ensures stores { (state : plain.State) (key : Key) → Holds self.old.state state → key_in test_parts keyed.tuple ≡ Ok key → AreFit key → keyed.key ≡ comparable_of key
@@ -66,7 +61,6 @@ impl Engine {
     }
 }
 
-/// Goes on to the writable node's next lsn, where there is one.
 fn go_on(clock: &mut Vclock) -> Option<u64>
     ensures { MatchOption result
         (max_lsn < suc (slice_index clock.old 1))
@@ -79,7 +73,6 @@ fn go_on(clock: &mut Vclock) -> Option<u64>
     }
 }
 
-/// The tuple by itself.
 fn shown(alloc: Global, tuple: &[u8]) -> Result<Tuples, AllocError>
     ensures { IfOk result (λ tuples. tuples ≡ tuple.now ∷ []) }
 {
@@ -88,7 +81,6 @@ fn shown(alloc: Global, tuple: &[u8]) -> Result<Tuples, AllocError>
     Ok(tuples)
 }
 
-/// The transaction that puts the tuple in its place.
 fn transaction_of(alloc: Global, lsn: u64, tuple: &[u8]) -> Result<Tx, AllocError>
     ensures { IfOk result (λ transaction. transaction ≡ steps.transaction_of lsn tuple.now) }
 {

@@ -14,11 +14,10 @@ ghost use Rattle.mx_engine.specs.Views.{reply_view};
 use crate::answer::Answer;
 use crate::engine::Engine;
 use mx_base::{IndexId, Refusal, SpaceId};
-use mx_model::{Pick, SelectStop, TEST_SPACE, index_missing, misfit_refusal};
+use mx_model::{Pick, TEST_SPACE, index_missing, misfit_refusal, stop_refusal};
 use std::alloc::Global;
 
 impl Engine {
-    /// The tuples that an iterator picks.
     pub(crate) fn select(
         &self,
         space: SpaceId,
@@ -39,13 +38,11 @@ impl Engine {
         }
         match self.state.select(self.alloc, pick) {
             Ok(selected) => Ok(Answer::Tuples(selected.tuples)),
-            Err(SelectStop::TooLong) => Err(Refusal::ResultTooLong),
-            Err(SelectStop::NoMemory) => Err(Refusal::OutOfMemory),
+            Err(stop) => Err(stop_refusal(stop)),
         }
     }
 }
 
-/// The refusal of an index that isn't there.
 fn missing_index(alloc: Global, index: IndexId) -> Refusal
     ensures { (result ≡ IndexMissing index test_name) ⊎ (result ≡ OutOfMemory) }
 {

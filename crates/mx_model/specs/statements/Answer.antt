@@ -1,4 +1,4 @@
--- What a statement answers: a reply, what it leaves in the journal, and what it read.
+-- What a statement answers: a reply, what it writes to the journal, and what it read.
 use Rattle.std.specs.Prelude.{ℕ, List, [], Option, None}
 use Rattle.mx_base.specs.declared.refusal.Refusal.{Refusal}
 use Rattle.mx_base.specs.declared.refusal.Refusal.TheVariants.{UnknownRequestType}
@@ -15,13 +15,13 @@ pub record Read : Type 0 where
   pub index : ℕ
   pub range : Range
 
--- a reply, what the statement leaves in the journal, and what it read, the first of it first
+-- a reply, what the statement writes to the journal, and what it read, in order
 pub record Answer : Type 0 where
   pub reply : Reply
   pub row : Option Row
   pub reads : List Read
 
--- a reply that leaves nothing and read nothing
+-- a reply that writes nothing and read nothing
 abbrev pub reply_alone : Reply → Answer
 reply_alone reply = record { reply = reply; row = None; reads = [] }
 

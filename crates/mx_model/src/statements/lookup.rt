@@ -34,7 +34,6 @@ pub fn index_missing(alloc: Global, index: IndexId) -> Result<Refusal, AllocErro
     Ok(Refusal::IndexMissing { index, space })
 }
 
-/// The name of a key part's type.
 pub(crate) fn type_of(kind: PartKind) -> TypeName
     ensures { result ≡ lookup.type_of kind }
 {

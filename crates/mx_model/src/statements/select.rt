@@ -3,6 +3,7 @@
 ghost use Rattle.std.specs.Prelude.{◌≡◌};
 ghost use Rattle.mx_model.specs.statements.Select as spec;
 
+use crate::pick::SelectStop;
 use crate::statements::lookup::type_of;
 use mx_base::Refusal;
 use mx_key::{IterKind, Misfit};
@@ -17,6 +18,16 @@ pub fn misfit_refusal(misfit: Misfit) -> Refusal
             part,
             expected: type_of(expected),
         },
+    }
+}
+
+/// The refusal of a SELECT that gives no tuples.
+pub fn stop_refusal(stop: SelectStop) -> Refusal
+    ensures { result ≡ spec.stop_refusal stop }
+{
+    match stop {
+        SelectStop::TooLong => Refusal::ResultTooLong,
+        SelectStop::NoMemory => Refusal::OutOfMemory,
     }
 }
 

@@ -1,5 +1,5 @@
-use Rattle.mx_model.proofs.HistoryLaws.{history_of_asks}
+use Rattle.mx_model.proofs.HistoryLaws.{remembered_of_asks}
 use Rattle.mx_model.proofs.laws.replies_are_determined.Goals as goal
 
 pub returns : goal.returns
-returns c = history_of_asks
+returns c = remembered_of_asks

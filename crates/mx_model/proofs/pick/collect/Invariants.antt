@@ -4,7 +4,7 @@ use Rattle.mx_model.specs.Selecting.{last_key_of}
 use Rattle.mx_model.proofs.WindowLaws.{tuples_of, last_after}
 use Rattle.mx_model.proofs.pick.collect.Given as goal
 
--- what was taken and what is left to be taken are the whole together
+-- what was taken and what remains are the whole together
 abbrev pub invariant-loop-left : goal.invariant-loop-left
 invariant-loop-left l =
     (tuples_of (take l.fn.limit (directed l.fn.down l.fn.entries)) ≡ l.tuples ++ tuples_of (take l.left (directed l.fn.down l.entries)))

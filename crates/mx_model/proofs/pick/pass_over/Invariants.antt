@@ -2,7 +2,7 @@ use Rattle.std.proofs.Common.{◌≡◌, drop}
 use Rattle.mx_model.specs.Picks.{directed}
 use Rattle.mx_model.proofs.pick.pass_over.Given as goal
 
--- passing over what is left to be passed over leads where the whole does
+-- skipping what remains to be skipped leads where the whole does
 abbrev pub invariant-loop-left : goal.invariant-loop-left
 invariant-loop-left l = drop l.left (directed l.fn.down l.entries) ≡ drop l.fn.count (directed l.fn.down l.fn.entries)
 

@@ -6,7 +6,7 @@ use Rattle.mx_model.specs.Slow.{stored_list}
 use Rattle.mx_model.proofs.WindowLaws.{tuples_of}
 use Rattle.mx_model.proofs.slow.gather.Given as goal
 
--- what was taken and what is left to be taken are the whole together
+-- what was taken and what remains are the whole together
 abbrev pub invariant-loop-left : goal.invariant-loop-left
 invariant-loop-left l =
     (tuples_of (window l.fn.pick.offset l.fn.pick.limit (directed (descends l.fn.pick.iterator) (filter (λ entry. holds l.fn.range entry.0) (stored_list l.fn.kept))))

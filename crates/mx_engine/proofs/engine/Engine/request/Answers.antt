@@ -11,4 +11,4 @@ returns-then-not-takes c = λ base history stands can.
 pub returns : goal.returns
 returns c = λ base history stands can.
     stands_counted c.args.self.now c.answer.new.self base history c.args._name c.args.request.now (reply_view c.answer.result)
-    stands can (c.answer.ensures.answers (state_of base history) stands.holds) c.answer.ensures.keeps
+    stands can (c.answer.ensures.answers (state_of base history) stands.matches.holds) c.answer.ensures.keeps

@@ -1,4 +1,4 @@
-use Rattle.mx_engine.proofs.EngineLaws.{tells_misfit, tells_tuples, tells_too_long}
+use Rattle.mx_engine.proofs.EngineLaws.{tells_misfit, tells_tuples, tells_stop}
 use Rattle.mx_engine.proofs.engine.Engine.select.Goals as goal
 
 pub returns-in-Some : goal.returns-in-Some
@@ -15,10 +15,10 @@ returns-in-Ok c = λ state holds.
     tells_tuples c.args.self.now.state state holds c.args.space c.args.index pick.limit pick.offset pick.iterator pick.key.now
     c.if-space-ne-TEST_SPACE.false c.if-index-ne0.false fitting gives _ found.0 found.1
 
-pub returns-in-Err-TooLong : goal.returns-in-Err-TooLong
-returns-in-Err-TooLong c = λ state holds.
+pub returns-in-Err : goal.returns-in-Err
+returns-in-Err c = λ state holds.
     let pick = c.args.pick.now in
     let (fitting, gives, fit) = c.in_default.ensures state holds in
-    tells_too_long c.args.self.now.state state holds c.args.space c.args.index pick.limit pick.offset pick.iterator pick.key.now
-    c.if-space-ne-TEST_SPACE.false c.if-index-ne0.false fitting gives c.in-Err-TooLong.field-0 c.in-Err-TooLong.field-0-is
-    (c.in-Err-TooLong.ensures state holds fitting gives fit)
+    tells_stop c.args.self.now.state state holds c.args.space c.args.index pick.limit pick.offset pick.iterator pick.key.now
+    c.if-space-ne-TEST_SPACE.false c.if-index-ne0.false fitting gives c.in-Err.stop c.stop_refusal.result
+    c.stop_refusal.ensures (c.in-Err.ensures state holds fitting gives fit)
