@@ -1,11 +1,11 @@
--- What recovers again: a directory all of which is durable, as a new one, or one that a crash left.
+-- What recovers again: a directory all of which is durable, as a new one, or one after a crash; and one after a kill.
 use Rattle.std.proofs.Common.{◌≡◌, ℕ, ◌≤◌, List, [], ◌∷◌, ◌++◌, length, map, take, Option, Some, None, refl, sym, ap, ◌∙◌, subst, arith}
 use Rattle.std.specs.Ordering.{nat_cmp}
 use Rattle.std.specs.Cmp.Lexicographic.{slice_cmp}
 use Rattle.std.specs.FinMap as finite
 use Rattle.std.specs.FinMap.{get-empty, len-empty, len-entries}
 use Rattle.std.specs.List.{filter}
-use Rattle.std.proofs.lemmas.List.{nil_from_length}
+use Rattle.std.proofs.lemmas.List.{length-take, nil_from_length, take-take}
 use Rattle.mx_msgpack.proofs.Options.{same_some}
 use Rattle.mx_outside.specs.Disks.{Disk, File, Leaves, IsImage, synced_file}
 use Rattle.mx_row.specs.declared.tx.Tx.{Tx}
@@ -13,12 +13,13 @@ use Rattle.mx_model.specs.State.{first_state}
 use Rattle.mx_model.specs.Directories.{directory_state, nothing_yet}
 use Rattle.mx_files.specs.Names.{is_journal, is_snapshot}
 use Rattle.mx_images.specs.Fair.{IsFairEnd, AllDurable}
-use Rattle.mx_model.specs.Survival.{FollowFromNew, Recovers, StandsAfter, Survive}
+use Rattle.mx_model.specs.Survival.{FollowFromNew, ReadsMost, Recovers, StandsAfter, Survive}
+use Rattle.mx_model.proofs.ReadLaws.{least_read}
 use Rattle.mx_node.proofs.OpenLaws.{none_older}
 use Rattle.mx_node.proofs.RecoveryLaws.{all_taken, found_again}
 use Rattle.mx_node.proofs.ServingLaws.{all_follow-take}
 
--- a directory all of which is durable recovers the transactions that it stands for
+-- a directory all of which is durable recovers all of its transactions
 recovers_all : (transactions : List Tx) (disk : Disk) → FollowFromNew transactions → AllDurable disk → disk.older ≡ finite.empty
     → StandsAfter transactions disk.now → Recovers transactions (Some (disk ∷ []))
 recovers_all transactions disk follow whole no_older after = record {
@@ -66,9 +67,9 @@ none_recovers = recovers_all [] no_files tt none_on_disk refl (record {
   clock = refl;
 })
 
--- ---- what a crash left
+-- ---- after a crash
 
--- a file that a crash left has all its bytes durable
+-- after a crash all bytes of a file are durable
 left_synced : (was found : Option File) (file : File) → Leaves IsFairEnd was found → found ≡ Some file → file.synced ≡ length file.bytes
 left_synced None found file is there = absurd cc
 left_synced (Some old) found file (end, fair, is) there =
@@ -91,3 +92,27 @@ left_recovers transactions least disk image follow survive left =
       recovers_all (take count transactions) image (all_follow-take first_state nothing_yet.clock transactions count follow)
           (left_on_disk disk image left) left.durable after,
     )
+
+-- ---- after a kill
+
+pub read_recovers : (transactions : List Tx) (least : ℕ) (disk : Disk) (past : List Disk) → FollowFromNew transactions → Survive transactions least disk
+    → ReadsMost transactions disk
+    → (count : ℕ) × (least ≤ count) × (count ≤ length transactions) × Recovers (take count transactions) (Some (disk ∷ past))
+read_recovers transactions least disk past follow survive m = (
+  m.count,
+  least_read transactions least disk follow survive m,
+  m.within,
+  record {
+    follow = all_follow-take first_state nothing_yet.clock transactions m.count follow;
+    told = (
+      m.reads,
+      λ image fair.
+          let (fewer, few, after) = m.most image fair in (
+            fewer,
+            omega arith,
+            omega (arith, few, m.within, length-take m.count transactions),
+            subst (λ txs. StandsAfter txs image) (sym (take-take fewer m.count transactions few)) after,
+          ),
+    );
+  },
+)

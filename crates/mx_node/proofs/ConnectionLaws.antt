@@ -1,13 +1,10 @@
--- What one unit more brings to its connection: bytes, jobs, asks and perhaps the end.
+-- What one unit more brings to its connection: bytes, jobs, and perhaps the end.
 use Rattle.std.proofs.Common.{◌≡◌, ℕ, Bool, true, false, cond, List, [], ◌∷◌, ◌++◌, length, map, Option, Some, None, Result, Ok, Err, refl, sym, ap, ◌∙◌, subst, inl, inr, ◌⊎◌, arith}
 use Rattle.std.specs.Prelude.{not, ◌&&◌, if◌then◌else◌}
 use Rattle.std.proofs.lemmas.List.{append-nil, append_assoc, drop_at, drop_all, map-append}
-use mathlib.Core.List.{IsPrefix}
 use Rattle.mx_base.specs.declared.refusal.Refusal.{Refusal}
-use Rattle.mx_base.specs.declared.ids.TxnName.{TxnName}
 use Rattle.mx_frame.specs.Packets.{First, Packet, NeedMore, Broken, size_at, first_frame, packets_of, rest_of, is_broken, breaks_off}
 use Rattle.mx_frame.proofs.FrameLaws.{packets_of-append, rest_of-append, broken_stays}
-use Rattle.mx_request.specs.declared.request.Ask.{Ask}
 use Rattle.mx_request.specs.declared.request.Head3.{Head3}
 use Rattle.mx_request.specs.declared.request.Request.{Request}
 use Rattle.mx_msgpack.specs.Maps.{pairs_in}
@@ -17,9 +14,8 @@ use Rattle.mx_session.specs.declared.job.Job.{Job}
 use Rattle.mx_session.specs.Jobs.{maps_in, asked_job, job_by, job_in, broken_job, jobs_of, some_ends, ends}
 use Rattle.mx_session.specs.Sessions.{JobSeen, next_by}
 use Rattle.mx_session.proofs.JobLaws.{nothing_after_the_end, in_pieces}
-use Rattle.mx_model.specs.Histories.{leaving}
 use Rattle.mx_node.specs.Inputs.{InputUnit, Bytes, Close}
-use Rattle.mx_node.specs.Connections.{came_after, came_from, came_on, is_open, gained, jobs_by, is_ended_by, IsJob, asked_by, asks_by, asks_from, asks_of, leaves_of, all_asks_of, jobs_from}
+use Rattle.mx_node.specs.Connections.{came_after, came_from, came_on, is_open, gained, jobs_by, is_ended_by, IsJob, jobs_from}
 
 -- ---- one unit more
 
@@ -32,15 +28,6 @@ pub came_on-push : (connection : ℕ) (units : List InputUnit) (unit : InputUnit
     → came_on connection (units ++ unit ∷ []) ≡ came_after connection (came_on connection units) unit
 came_on-push connection units unit = came_from-push connection [] units unit
 
-pub asks_from-append : (earlier units more : List InputUnit)
-    → asks_from earlier (units ++ more) ≡ asks_from earlier units ++ asks_from (earlier ++ units) more
-asks_from-append earlier [] more = ap (λ (l : List InputUnit). asks_from l more) (sym (append-nil earlier))
-asks_from-append earlier (unit ∷ units) more =
-    let later = earlier ++ unit ∷ [] in
-    ap (λ (l : List (TxnName × Ask)). asks_by earlier unit ++ l) (asks_from-append later units more)
-    ∙ sym (append_assoc (asks_by earlier unit) (asks_from later units) (asks_from (later ++ units) more))
-    ∙ ap (λ (l : List InputUnit). (asks_by earlier unit ++ asks_from later units) ++ asks_from l more) (append_assoc earlier (unit ∷ []) units)
-
 pub jobs_from-append : (earlier units more : List InputUnit)
     → jobs_from earlier (units ++ more) ≡ jobs_from earlier units ++ jobs_from (earlier ++ units) more
 jobs_from-append earlier [] more = ap (λ (l : List InputUnit). jobs_from l more) (sym (append-nil earlier))
@@ -50,29 +37,9 @@ jobs_from-append earlier (unit ∷ units) more =
     ∙ sym (append_assoc (jobs_by earlier unit) (jobs_from later units) (jobs_from (later ++ units) more))
     ∙ ap (λ (l : List InputUnit). (jobs_by earlier unit ++ jobs_from later units) ++ jobs_from l more) (append_assoc earlier (unit ∷ []) units)
 
-pub asks_of-push : (units : List InputUnit) (unit : InputUnit) → asks_of (units ++ unit ∷ []) ≡ asks_of units ++ asks_by units unit
-asks_of-push units unit =
-    asks_from-append [] units (unit ∷ []) ∙ ap (λ (l : List (TxnName × Ask)). asks_of units ++ l) (append-nil (asks_by units unit))
-
 pub jobs_from-push : (units : List InputUnit) (unit : InputUnit) → jobs_from [] (units ++ unit ∷ []) ≡ jobs_from [] units ++ jobs_by units unit
 jobs_from-push units unit =
     jobs_from-append [] units (unit ∷ []) ∙ ap (λ (l : List Job). jobs_from [] units ++ l) (append-nil (jobs_by units unit))
-
--- the asks of units that begin others begin theirs
-pub asks_of-prefix : (one other : List InputUnit) → IsPrefix one other → IsPrefix (asks_of one) (asks_of other)
-asks_of-prefix one other (rest, is) = (asks_from one rest, sym (asks_from-append [] one rest) ∙ ap asks_of is)
-
-pub all_asks-prefix : (one other : List InputUnit) → IsPrefix one other → IsPrefix (asks_of one) (all_asks_of other)
-all_asks-prefix one other (rest, is) = (
-  asks_from one rest ++ leaves_of other,
-  sym (append_assoc (asks_of one) (asks_from one rest) (leaves_of other))
-      ∙ ap (λ (l : List (TxnName × Ask)). l ++ leaves_of other) (sym (asks_from-append [] one rest) ∙ ap asks_of is),
-)
-
-pub asks_of-more : (units : List InputUnit) (unit : InputUnit) (all : List InputUnit) → IsPrefix (units ++ unit ∷ []) all
-    → IsPrefix (asks_of units ++ asks_by units unit) (all_asks_of all)
-asks_of-more units unit all begun =
-    subst (λ (l : List (TxnName × Ask)). IsPrefix l (all_asks_of all)) (asks_of-push units unit) (all_asks-prefix (units ++ unit ∷ []) all begun)
 
 -- ---- pieces of a connection's bytes
 
@@ -170,19 +137,6 @@ module _ (earlier : List InputUnit) (on : ℕ) (came bytes : List ℕ) (same : c
   pub is_ended_by-ended : ends on came ≡ true → is_ended_by earlier (Bytes on bytes) ≡ false
   is_ended_by-ended ended = ends_so ∙ ap (λ (b : Bool). not b && ends on (came ++ bytes)) ended
 
-  abbrev all_by : List Job → Bool → List (TxnName × Ask)
-  all_by jobs ended = map asked_by jobs ++ (if ended then leaving on ∷ [] else [])
-
-  pub asks_by-open : ends on came ≡ false → asks_by earlier (Bytes on bytes)
-      ≡ map asked_by (jobs_of on (rest_of came ++ bytes)) ++ (if ends on (rest_of came ++ bytes) then leaving on ∷ [] else [])
-  asks_by-open goes_on =
-      ap (λ (jobs : List Job). all_by jobs (is_ended_by earlier (Bytes on bytes))) (jobs_by-open goes_on)
-      ∙ ap (all_by (jobs_of on (rest_of came ++ bytes))) (is_ended_by-open goes_on)
-
-  pub asks_by-ended : ends on came ≡ true → asks_by earlier (Bytes on bytes) ≡ []
-  asks_by-ended ended =
-      ap (λ (jobs : List Job). all_by jobs (is_ended_by earlier (Bytes on bytes))) (jobs_by-ended ended) ∙ ap (all_by []) (is_ended_by-ended ended)
-
 -- a unit without bytes brings nothing
 pub jobs_by-nothing : (earlier : List InputUnit) (on : ℕ) → jobs_by earlier (Bytes on []) ≡ []
 jobs_by-nothing earlier on =
@@ -193,16 +147,6 @@ pub is_ended_by-nothing : (earlier : List InputUnit) (on : ℕ) → is_ended_by 
 is_ended_by-nothing earlier on =
     let came = came_on on earlier in
     ap (λ (l : List ℕ). not (ends on came) && ends on l) (append-nil came) ∙ test_same (ends on came)
-
-pub asks_by-nothing : (earlier : List InputUnit) (on : ℕ) → asks_by earlier (Bytes on []) ≡ []
-asks_by-nothing earlier on =
-    ap (λ (jobs : List Job). map asked_by jobs ++ (if is_ended_by earlier (Bytes on []) then leaving on ∷ [] else [])) (jobs_by-nothing earlier on)
-    ∙ ap (λ (b : Bool). cond b (leaving on ∷ []) []) (is_ended_by-nothing earlier on)
-
--- a close brings that the connection leaves, where it is there
-pub asks_by-close : (earlier : List InputUnit) (on : ℕ)
-    → asks_by earlier (Close on) ≡ (if is_open on (came_on on earlier) then leaving on ∷ [] else [])
-asks_by-close earlier on = refl
 
 -- ---- jobs can be asked
 

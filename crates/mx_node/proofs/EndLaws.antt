@@ -1,6 +1,6 @@
--- What a directory stands for whose journal was ended in order.
+-- What a directory recovers to whose journal was ended in order.
 use Rattle.std.proofs.Common.{◌≡◌, ℕ, Bool, true, false, List, [], ◌∷◌, ◌++◌, length, map, take, drop, Option, Some, None, Ok, refl, sym, ap, ◌∙◌, subst, arith}
-use Rattle.std.specs.Prelude.{is_some}
+use Rattle.std.specs.Prelude.{is_some, sum}
 use Rattle.std.specs.List.{AllByRecursion}
 use Rattle.std.specs.Cmp.Lexicographic.{bytes_decides}
 use Rattle.std.specs.FinMap as finite
@@ -19,8 +19,9 @@ use Rattle.mx_row.specs.Clocks.{clock_after, clock_after_one}
 use Rattle.mx_row.specs.Rows.{IsTransaction, transaction_text}
 use Rattle.mx_model.specs.Directories.{Reached, AllFollow}
 use Rattle.mx_xlog.specs.Files.{FileRead}
-use Rattle.mx_files.specs.Names.{same_bytes}
-use Rattle.mx_model.specs.Histories.{Base, History, journal_of, state_of, clock_of}
+use Rattle.mx_files.specs.Names.{journal_name, same_bytes}
+use Rattle.mx_model.specs.Histories.{Base, History, journal_of}
+use Rattle.mx_model.proofs.HistoryLaws.{base_of_ledger}
 use Rattle.mx_model.proofs.DirectoryLaws.{continues_same, stands_after, same_itself}
 use Rattle.mx_model.proofs.TransactionLaws.{after_blocks_again}
 use Rattle.mx_journal.proofs.BlockLaws.{blocks_again}
@@ -80,7 +81,7 @@ all_on_disk journal transactions before now written ended all name file kind the
         let was = all name file kind (sym (ended.1.files name other) ∙ there) in
         (was.0, ap (λ o. finite.get o name) ended.1.older ∙ was.1)
 
--- the directory stands for the history
+-- the directory recovers to what the history has come to
 ended_keeps : (base : Base) (history : History) (engine : Engine) (journal : Journal) (states : Option (List Disk)) (before now : Disk)
     → AllFollow base.state base.clock (journal_of base history) → Ready base history engine journal states
     → IsOnDisk base journal (taken_of base history) before → IsEnded journal (taken_of base history) before now → DirectoryHolds base history now
@@ -97,7 +98,12 @@ ended_keeps base history engine journal states before now follow ready (written,
     let split : text ≡ header_of journal.head ++ rest = append_assoc (header_of journal.head) (blocks_text taken) end_marker in
     let goes_on = continues_same base name before.now now.now continues ended.1.files (ap is_some written.file) (ap is_some ended.0) in
     let begun : Reached = record { ids = Some base.ids; state = base.state; clock = base.clock } in
-    let reached : Reached = record { ids = Some base.ids; state = state_of base history; clock = clock_of base history } in
+    let reached : Reached = record {
+      ids = Some base.ids;
+      state = state_after base.state (journal_of base history);
+      clock = clock_after base.clock (journal_of base history);
+    } in
+    let same = sym (base_of_ledger base history) in
     let each = each_is_transaction base.state base.clock taken follows in
     record {
       reached = reached;
@@ -107,12 +113,16 @@ ended_keeps base history engine journal states before now follow ready (written,
           (after_blocks_again name size taken begun follows
           ∙ ap (λ txs. Ok (record { ids = Some base.ids; state = state_after base.state txs; clock = clock_after base.clock txs })) all_taken);
       ids = refl;
-      state = refl;
-      clock = refl;
+      state = ap (λ (b : Base). state_after b.state (journal_of base history)) same;
+      clock = ap (λ (b : Base). clock_after b.clock (journal_of base history)) same;
       synced = all_on_disk journal taken before now written ended synced;
+      marker = (
+        file_text journal.head taken,
+        ap (λ (clock : List ℕ). finite.get now.now (journal_name (sum clock))) (sym behind.begins) ∙ ended.0,
+      );
     }
 
--- ending the journal of a server that is ready leaves a directory that stands for the history
+-- so it does once the journal of a server that is ready was ended
 pub end_keeps : (base : Base) (history : History) (engine : Engine) (journal : Journal) (states after : Option (List Disk))
     → AllFollow base.state base.clock (journal_of base history) → Ready base history engine journal states → KnownAlike states after
     → ((transactions : List Tx) → IfKnown states (λ disk past. IsWritten journal disk transactions → IsNow after (IsEnded journal transactions disk)))

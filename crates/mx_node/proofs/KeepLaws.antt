@@ -3,7 +3,7 @@ use Rattle.std.proofs.Common.{◌≡◌, ◌≤◌, List, [], ◌∷◌, ◌++�
 use Rattle.std.specs.Prelude.{Option}
 use Rattle.std.proofs.lemmas.List.{take_all}
 use Rattle.mx_outside.specs.Disks.{Disk, IfKnown}
-use Rattle.mx_model.specs.Histories.{Base, History, Asked, Left, Took, Confirmed, entry_replies, replies_in, journal_of}
+use Rattle.mx_model.specs.Histories.{Base, History, Asked, Left, Took, Confirmed, Looked, entry_replies, replies_in, journal_of}
 use Rattle.mx_engine.specs.declared.engine.Engine.{Engine}
 use Rattle.mx_journal.specs.declared.journal.Journal.{Journal}
 use Rattle.mx_node.specs.Interrupted.{StepsSurvive}
@@ -45,6 +45,9 @@ no_reply_no_commit base (Took transactions upto ∷ more) history few =
     let parts = length-append (replies_in (more ++ history)) [] in
     no_reply_no_commit base more history (omega arith)
 no_reply_no_commit base (Confirmed upto ∷ more) history few =
+    let parts = length-append (replies_in (more ++ history)) [] in
+    no_reply_no_commit base more history (omega arith)
+no_reply_no_commit base (Looked ∷ more) history few =
     let parts = length-append (replies_in (more ++ history)) [] in
     no_reply_no_commit base more history (omega arith)
 

@@ -1,8 +1,9 @@
 -- What survives a crash while steps are made, one after the other.
-use Rattle.std.proofs.Common.{◌≡◌, ℕ, zero, suc, ◌≤◌, List, [], ◌∷◌, ◌++◌, length, refl, sym, ap, ◌∙◌, subst, arith}
-use Rattle.std.specs.Prelude.{Option, Result, Ok, Err, OnErr}
+use Rattle.std.proofs.Common.{◌≡◌, ℕ, zero, suc, ◌+◌, ◌-◌, ◌≤◌, List, [], ◌∷◌, ◌++◌, length, take, drop, refl, sym, ap, ◌∙◌, subst, arith, length-append}
+use Rattle.std.specs.Prelude.{⊤, Option, Result, Ok, Err, OnErr}
 use Rattle.std.specs.List.{Contains}
-use Rattle.std.proofs.lemmas.List.{append-nil, append_assoc}
+use Rattle.std.proofs.lemmas.List.{append-nil, append_assoc, take-append-drop}
+use Rattle.std.proofs.Math.Seq.{drop-append-add}
 use mathlib.Core.List.{IsPrefix}
 use Rattle.mx_outside.specs.Disks.{Disk, IfKnown, KnownAlike}
 use Rattle.mx_outside.specs.Moments.{Moments}
@@ -10,11 +11,14 @@ use Rattle.mx_row.specs.declared.tx.Tx.{Tx}
 use Rattle.mx_base.specs.declared.ids.TxnName.{TxnName}
 use Rattle.mx_request.specs.declared.request.Ask.{Ask}
 use Rattle.mx_model.specs.declared.reply.Reply.{Reply}
-use Rattle.mx_model.specs.Histories.{Base, History, Asked, Left, Took, Confirmed, IsLegal, asks_in, commits_of, journal_of, ledger_of}
+use Rattle.mx_model.specs.Histories.{Base, History, Asked, Left, Took, Confirmed, Looked, IsLegal, commits_of, journal_of, ledger_of}
+use Rattle.mx_model.proofs.HistoryLaws.{steps_of_ledger}
+use Rattle.mx_model.specs.Order.{Step, RequestStep, TakeStep, ConfirmStep, order_in}
+use Rattle.mx_model.specs.Gate.{confirmed_part}
 use Rattle.mx_images.proofs.MomentLaws.{no_moments, joined, kept}
-use Rattle.mx_images.proofs.ToldLaws.{told_both, told_then}
+use Rattle.mx_images.proofs.ToldLaws.{told_both, told_then, told_weaker}
 use Rattle.mx_node.specs.Interrupted.{StepsSurvive, IsInterrupted}
-use Rattle.mx_model.specs.Survival.{Survive, NoFewerSurvive, Extend, Lasts}
+use Rattle.mx_model.specs.Survival.{Survive, NoFewerSurvive, ReadsMost, Extend, Lasts}
 use Rattle.mx_row.specs.Clocks.{follows}
 
 pub prefix_on : {X : Type 0} (xs ys zs : List X) → IsPrefix xs ys → IsPrefix ys zs → IsPrefix xs zs
@@ -26,11 +30,12 @@ journal_grows : (base : Base) (more history : History) → (others : List Tx) ×
 journal_grows base [] history = ([], sym (append-nil (journal_of base history)))
 journal_grows base (Asked name ask reply ∷ more) history =
     let (others, is) = journal_grows base more history in
-    let new = commits_of base (ledger_of base (more ++ history)) ask reply in
+    let new = commits_of (ledger_of base (more ++ history)) name ask reply in
     (others ++ new, ap (λ l. l ++ new) is ∙ append_assoc (journal_of base history) others new)
 journal_grows base (Left connection ∷ more) history = journal_grows base more history
 journal_grows base (Took transactions upto ∷ more) history = journal_grows base more history
 journal_grows base (Confirmed upto ∷ more) history = journal_grows base more history
+journal_grows base (Looked ∷ more) history = journal_grows base more history
 
 -- transactions that extend a history extend its earlier part
 pub extend_earlier : (base : Base) (more history : History) (transactions : List Tx) → Extend base (more ++ history) transactions
@@ -56,12 +61,14 @@ pub lasts_none : (base : Base) (history : History) (states : Option (List Disk))
 lasts_none base history states = record {
   told = (λ told. told, λ told. told);
   moments = λ transactions all. no_moments (λ disk. Survive transactions 0) (NoFewerSurvive transactions) states;
+  reads = λ transactions all. no_moments (λ disk. ReadsMost transactions) (λ older newer. ⊤) states;
 }
 
 pub lasts_longer : (base : Base) (more history : History) (old new : Option (List Disk)) → Lasts base history old new → Lasts base (more ++ history) old new
 lasts_longer base more history old new lasts = record {
   told = lasts.told;
   moments = λ transactions all. lasts.moments transactions (extend_earlier base more history transactions all);
+  reads = λ transactions all. lasts.reads transactions (extend_earlier base more history transactions all);
 }
 
 pub lasts_on : (base : Base) (more history : History) (old middle new : Option (List Disk)) → Lasts base history old middle
@@ -70,6 +77,8 @@ lasts_on base more history old middle new one two = record {
   told = (λ told. two.told.0 (one.told.0 told), λ told. one.told.1 (two.told.1 told));
   moments = λ transactions all. joined (Survive transactions 0) (NoFewerSurvive transactions) old middle new
       (one.moments transactions (extend_earlier base more history transactions all)) (two.moments transactions all);
+  reads = λ transactions all. joined (ReadsMost transactions) (λ older newer. ⊤) old middle new
+      (one.reads transactions (extend_earlier base more history transactions all)) (two.reads transactions all);
 }
 
 told_kept : (P Q : Disk → Type 0) (R : Disk → Disk → Type 0) → ((older newer : Disk) → R older newer → Q older → Q newer)
@@ -99,92 +108,141 @@ steps_within base [] legal upto (place, inside, is) = absurd (omega (arith, insi
 steps_within base (Asked name ask reply ∷ earlier) legal upto is = let l = steps_within base earlier legal.0 upto is in omega (arith, l)
 steps_within base (Left connection ∷ earlier) legal upto is = let l = steps_within base earlier legal.0 upto is in omega (arith, l)
 steps_within base (Took transactions steps ∷ earlier) (legal, follows) upto (zero, inside, is) =
-    let named : steps ≡ length earlier = follows.1 in
+    let named : steps ≡ length earlier = follows.1 ∙ steps_of_ledger base earlier in
     let same : steps ≡ upto = is in
     omega (arith, named, same)
 steps_within base (Took transactions steps ∷ earlier) (legal, follows) upto (suc place, inside, is) =
     let l = steps_within base earlier legal upto (place, omega (arith, inside), is) in omega (arith, l)
 steps_within base (Confirmed steps ∷ earlier) legal upto is = let l = steps_within base earlier legal.0 upto is in omega (arith, l)
+steps_within base (Looked ∷ earlier) legal upto is = let l = steps_within base earlier legal.0 upto is in omega (arith, l)
 
 pub durable_within : (base : Base) (history : History) → IsLegal base history → (ledger_of base history).durable ≤ length history
 durable_within base [] legal = omega arith
 durable_within base (Asked name ask reply ∷ earlier) legal = let l = durable_within base earlier legal.0 in omega (arith, l)
 durable_within base (Left connection ∷ earlier) legal = let l = durable_within base earlier legal.0 in omega (arith, l)
 durable_within base (Took transactions upto ∷ earlier) legal = let l = durable_within base earlier legal.0 in omega (arith, l)
+durable_within base (Looked ∷ earlier) legal = let l = durable_within base earlier legal.0 in omega (arith, l)
 durable_within base (Confirmed upto ∷ earlier) legal =
     let l = durable_within base earlier legal.0 in
     let s = steps_within base earlier legal.0 upto legal.1 in
     omega (arith, l, s)
 
--- ---- how a run breaks off
+-- ---- where a call stops
 
 pub where_err : {T E P : Type 0} (result : Result T E) → P → OnErr result P
 where_err (Ok value) shown = tt
 where_err (Err error) shown = shown
 
+-- the steps among which all commits are durable still are, where fewer of them are meant
+fewer_steps : (base : Base) (whole first fewer : History) (states : Option (List Disk)) → length (journal_of base fewer) ≤ length (journal_of base first)
+    → StepsSurvive base whole first states → StepsSurvive base whole fewer states
+fewer_steps base whole first fewer states shorter keep = λ transactions all.
+    told_weaker states
+    (λ disk past survive. λ image fair.
+    let (count, enough, short, after) = survive image fair in
+    (count, omega (arith, shorter, enough, length-append all.earlier (journal_of base first), length-append all.earlier (journal_of base fewer)), short, after))
+    (keep transactions all)
+
+-- an earlier part of a history committed no more
+part_commits : (base : Base) (count : ℕ) (history : History) → length (journal_of base (drop count history)) ≤ length (journal_of base history)
+part_commits base count history =
+    let (others, is) = journal_grows base (take count history) (drop count history) in
+    let whole : journal_of base history ≡ journal_of base (drop count history) ++ others =
+    ap (journal_of base) (sym (take-append-drop count history)) ∙ is in
+    omega (arith, ap length whole, length-append (journal_of base (drop count history)) others)
+
+-- what is confirmed is among the first steps, where no more of them are
+confirmed_commits : (base : Base) (later first : History) → (ledger_of base (later ++ first)).durable ≤ length first
+    → length (journal_of base (confirmed_part base (later ++ first))) ≤ length (journal_of base first)
+confirmed_commits base later first within =
+    let history = later ++ first in
+    let left = length history - (ledger_of base history).durable in
+    let parts = length-append later first in
+    let past : length later ≤ left = omega (arith, within, parts) in
+    let split : left ≡ length later + (left - length later) = omega (arith, past) in
+    let same : drop left history ≡ drop (left - length later) first =
+    ap (λ (n : ℕ). drop n history) split ∙ drop-append-add later first (left - length later) in
+    let fewer = part_commits base (left - length later) first in
+    omega (arith, ap (λ (h : History). length (journal_of base h)) same, fewer)
+
+-- all that these first steps committed is durable, and no later step is confirmed
+breaks_at_first : (base : Base) (later first history : History) (order : List Step) (old new : Option (List Disk)) → IsLegal base (later ++ first)
+    → IsPrefix (order_in (later ++ first)) order → (ledger_of base (later ++ first)).durable ≤ length first → Lasts base (later ++ first) old new
+    → StepsSurvive base (later ++ first) first new → (more : History) → first ≡ more ++ history → IsInterrupted base history order old new
+breaks_at_first base later first history order old new legal ordered within lasts keep more is =
+    let all : later ++ first ≡ (later ++ more) ++ history = ap (λ (h : History). later ++ h) is ∙ sym (append_assoc later more history) in
+    let (others, grows) = journal_grows base more history in
+    let shorter : length (journal_of base history) ≤ length (journal_of base first) =
+    omega (arith, ap (λ (h : History). length (journal_of base h)) is, ap length grows, length-append (journal_of base history) others) in
+    record {
+      later = later ++ more;
+      legal = subst (λ (h : History). IsLegal base h) all legal;
+      ordered = subst (λ (h : History). IsPrefix (order_in h) order) all ordered;
+      lasts = subst (λ (h : History). Lasts base h old new) all lasts;
+      keep = subst (λ (h : History). StepsSurvive base h history new) all
+          (fewer_steps base (later ++ first) first history new shorter keep);
+      confirmed = subst (λ (h : History). StepsSurvive base h (confirmed_part base h) new) all
+          (fewer_steps base (later ++ first) first (confirmed_part base (later ++ first)) new (confirmed_commits base later first within) keep);
+    }
+
 -- all that was committed is durable
-pub breaks_now : (base : Base) (more history : History) (asks : List (TxnName × Ask)) (old new : Option (List Disk)) → IsLegal base (more ++ history)
-    → IsPrefix (asks_in (more ++ history)) asks → Lasts base (more ++ history) old new → StepsSurvive base (more ++ history) (more ++ history) new
-    → IsInterrupted base history asks old new
-breaks_now base more history asks old new legal asked lasts keep = record {
-  more = more;
-  later = [];
-  legal = legal;
-  asked = asked;
-  confirmed = durable_within base (more ++ history) legal;
-  lasts = lasts;
-  keep = keep;
-}
+pub breaks_now : (base : Base) (more history : History) (order : List Step) (old new : Option (List Disk)) → IsLegal base (more ++ history)
+    → IsPrefix (order_in (more ++ history)) order → Lasts base (more ++ history) old new → StepsSurvive base (more ++ history) (more ++ history) new
+    → IsInterrupted base history order old new
+breaks_now base more history order old new legal ordered lasts keep =
+    breaks_at_first base [] (more ++ history) history order old new legal ordered (durable_within base (more ++ history) legal) lasts keep more refl
+
+-- the same, with the steps that were made after the history
+pub breaks_after : (base : Base) (more history : History) (order : List Step) (old new : Option (List Disk)) → IsLegal base (more ++ history)
+    → IsPrefix (order_in (more ++ history)) order → Lasts base (more ++ history) old new → StepsSurvive base (more ++ history) (more ++ history) new
+    → (stopped : IsInterrupted base history order old new) × (stopped.later ≡ more)
+unfolding breaks_at_first breaks_now
+breaks_after base more history order old new legal ordered lasts keep = (breaks_now base more history order old new legal ordered lasts keep, refl)
 
 -- nothing was done
-pub breaks_none : (base : Base) (history : History) (asks : List (TxnName × Ask)) (states : Option (List Disk)) → IsLegal base history
-    → StepsSurvive base history history states → IsInterrupted base history (asks_in history ++ asks) states states
-breaks_none base history asks states legal keep =
-    breaks_now base [] history (asks_in history ++ asks) states states legal (asks, refl) (lasts_none base history states) keep
+pub breaks_none : (base : Base) (history : History) (order : List Step) (states : Option (List Disk)) → IsLegal base history
+    → StepsSurvive base history history states → IsInterrupted base history (order_in history ++ order) states states
+breaks_none base history order states legal keep =
+    breaks_now base [] history (order_in history ++ order) states states legal (order, refl) (lasts_none base history states) keep
 
 -- what the last request committed may not be durable
 pub breaks_in : (base : Base) (name : TxnName) (ask : Ask) (reply : Reply) (history : History) (old new : Option (List Disk))
     → IsLegal base (Asked name ask reply ∷ history) → Lasts base (Asked name ask reply ∷ history) old new → StepsSurvive base history history old
-    → IsInterrupted base history (asks_in history ++ (name, ask) ∷ []) old new
+    → IsInterrupted base history (order_in history ++ RequestStep name ask ∷ TakeStep ∷ ConfirmStep ∷ []) old new
 breaks_in base name ask reply history old new legal lasts keep =
     let step : History = Asked name ask reply ∷ [] in
-    record {
-      more = [];
-      later = step;
-      legal = legal;
-      asked = ([], append-nil (asks_in history ++ (name, ask) ∷ []));
-      confirmed = durable_within base history legal.0;
-      lasts = lasts;
-      keep = keep_on base (step ++ history) history old new (keep_longer base step history history old keep) lasts;
-    }
+    breaks_at_first base step history history (order_in history ++ RequestStep name ask ∷ TakeStep ∷ ConfirmStep ∷ []) old new legal
+    (TakeStep ∷ ConfirmStep ∷ [], append_assoc (order_in history) (RequestStep name ask ∷ []) (TakeStep ∷ ConfirmStep ∷ []))
+    (durable_within base history legal.0) lasts
+    (keep_on base (step ++ history) history old new (keep_longer base step history history old keep) lasts) [] refl
 
--- steps were made before those at which the run broke off
-pub breaks_on : (base : Base) (more history : History) (asks : List (TxnName × Ask)) (old middle new : Option (List Disk))
-    → Lasts base (more ++ history) old middle → IsInterrupted base (more ++ history) asks middle new → IsInterrupted base history asks old new
-breaks_on base more history asks old middle new lasts b =
+-- steps were made before those at which the call stopped
+pub breaks_on : (base : Base) (more history : History) (order : List Step) (old middle new : Option (List Disk))
+    → Lasts base (more ++ history) old middle → IsInterrupted base (more ++ history) order middle new → IsInterrupted base history order old new
+breaks_on base more history order old middle new lasts b =
     let first = more ++ history in
-    let all : b.more ++ first ≡ (b.more ++ more) ++ history = sym (append_assoc b.more more history) in
-    let steps = b.later ++ (b.more ++ first) in
-    let on : Lasts base steps old new = lasts_on base [] steps old middle new
-    (lasts_longer base b.later (b.more ++ first) old middle (lasts_longer base b.more first old middle lasts)) b.lasts in
+    let steps = b.later ++ first in
+    let all : steps ≡ (b.later ++ more) ++ history = sym (append_assoc b.later more history) in
+    let on : Lasts base steps old new = lasts_on base [] steps old middle new (lasts_longer base b.later first old middle lasts) b.lasts in
+    let (others, grows) = journal_grows base more history in
+    let shorter : length (journal_of base history) ≤ length (journal_of base first) =
+    omega (arith, ap length grows, length-append (journal_of base history) others) in
     record {
-      more = b.more ++ more;
-      later = b.later;
-      legal = subst (λ h. IsLegal base (b.later ++ h)) all b.legal;
-      asked = subst (λ h. IsPrefix (asks_in (b.later ++ h)) asks) all b.asked;
-      confirmed = subst (λ (h : History). (ledger_of base (b.later ++ h)).durable ≤ length h) all b.confirmed;
-      lasts = subst (λ h. Lasts base (b.later ++ h) old new) all on;
-      keep = subst (λ h. StepsSurvive base (b.later ++ h) h new) all b.keep;
+      later = b.later ++ more;
+      legal = subst (λ (h : History). IsLegal base h) all b.legal;
+      ordered = subst (λ (h : History). IsPrefix (order_in h) order) all b.ordered;
+      lasts = subst (λ (h : History). Lasts base h old new) all on;
+      keep = subst (λ (h : History). StepsSurvive base h history new) all (fewer_steps base steps first history new shorter b.keep);
+      confirmed = subst (λ (h : History). StepsSurvive base h (confirmed_part base h) new) all b.confirmed;
     }
 
-pub breaks_among : (base : Base) (history : History) (asks others : List (TxnName × Ask)) (old new : Option (List Disk)) → IsPrefix asks others
-    → IsInterrupted base history asks old new → IsInterrupted base history others old new
-breaks_among base history asks others old new among b = record {
-  more = b.more;
+pub breaks_among : (base : Base) (history : History) (order others : List Step) (old new : Option (List Disk)) → IsPrefix order others
+    → IsInterrupted base history order old new → IsInterrupted base history others old new
+breaks_among base history order others old new among b = record {
   later = b.later;
   legal = b.legal;
-  asked = prefix_on _ asks others b.asked among;
-  confirmed = b.confirmed;
+  ordered = prefix_on _ order others b.ordered among;
   lasts = b.lasts;
   keep = b.keep;
+  confirmed = b.confirmed;
 }

@@ -5,6 +5,7 @@ pub mod ServerLaws
 pub mod BreakLaws
 pub mod ClosingLaws
 pub mod ConnectionLaws
+pub mod OrderLaws
 pub mod OutputLaws
 pub mod SessionLaws
 pub mod EndLaws

@@ -67,7 +67,7 @@ snapshot_same before after durable q snapshot = by_draft (is_draft q) refl
     by_draft true is = let other = draft_is_no_snapshot q is in absurd cc
     by_draft false is = durable.others q (snapshot_is_no_journal q snapshot) is
 
--- it stands for what it stood for
+-- it recovers to what it did before
 pub durable_stands : (before after : Disk) (reached : Reached) → MadeDurable before after → IsDirectoryState before.now (Ok reached)
     → IsDirectoryState after.now (Ok reached)
 durable_stands before after reached durable (journals, unread, reads, enough, is) =
@@ -207,6 +207,7 @@ ready whose memory found before after engine journal head s stands alike made it
             s.told made);
       };
       taken = refl;
+      gate = tt;
     }
 
 pub opens : {E : Type 0} (result : Result Opened E) (ids : Ids) (salt : List ℕ) (found : Reached) (before read after : Option (List Disk)) → read ≡ before

@@ -6,7 +6,7 @@ use Rattle.mx_frame.specs.Packets.{rest_of}
 use Rattle.mx_session.specs.declared.job.Job.{Job}
 use Rattle.mx_session.specs.Jobs.{jobs_of, ends}
 use Rattle.mx_model.specs.declared.reply.Reply.{Reply}
-use Rattle.mx_model.specs.Histories.{History, Asked, Left, Took, Confirmed, asking, replies_in}
+use Rattle.mx_model.specs.Histories.{History, Asked, Left, Took, Confirmed, Looked, asking, entry_replies, replies_in}
 use Rattle.mx_model.specs.ReplyStream.{packet_of_reply, packets_of_replies}
 use Rattle.mx_node.specs.Inputs.{InputUnit, Bytes, Close}
 use Rattle.mx_node.specs.Connections.{came_on, jobs_by, jobs_from}
@@ -70,6 +70,35 @@ output_from-push start earlier (first ∷ units) unit replies more each =
     ∙ ap (λ (l : List OutUnit). output ++ l) (output_from-push start later units unit (drop (length jobs) replies) more each')
     ∙ sym (append_assoc output rest (output_for start (later ++ units) unit more))
     ∙ ap (λ (l : List InputUnit). (output ++ rest) ++ output_for start l unit more) (append_assoc earlier (first ∷ []) units)
+
+-- more replies than units have jobs change nothing of their output
+pub output_from-enough : (start : Start) (earlier units : List InputUnit) (replies others : List Reply) → length (jobs_from earlier units) ≤ length replies
+    → output_from start earlier units (replies ++ others) ≡ output_from start earlier units replies
+output_from-enough start earlier [] replies others enough = refl
+output_from-enough start earlier (unit ∷ units) replies others enough =
+    let jobs = jobs_by earlier unit in
+    let later = earlier ++ unit ∷ [] in
+    let parts = length-append jobs (jobs_from later units) in
+    let some : length jobs ≤ length replies = omega arith in
+    let gone = length-drop (length jobs) replies in
+    let rest : length (jobs_from later units) ≤ length (drop (length jobs) replies) = omega arith in
+    ap (λ (l : List OutUnit). l ++ output_from start later units (drop (length jobs) (replies ++ others))) (output_for-enough start earlier unit replies others some)
+    ∙ ap (λ (l : List Reply). output_for start earlier unit replies ++ output_from start later units l) (drop-append-le (length jobs) replies others some)
+    ∙ ap (λ (l : List OutUnit). output_for start earlier unit replies ++ l) (output_from-enough start later units (drop (length jobs) replies) others rest)
+
+-- what a longer history replied after the others
+replies_since : (more history : History) → (others : List Reply) × (replies_in (more ++ history) ≡ replies_in history ++ others)
+replies_since [] history = ([], sym (append-nil (replies_in history)))
+replies_since (entry ∷ more) history =
+    let (others, is) = replies_since more history in
+    (others ++ entry_replies entry, ap (λ (l : List Reply). l ++ entry_replies entry) is ∙ append_assoc (replies_in history) others (entry_replies entry))
+
+-- the output for units stays as the history goes on
+pub output_of-stays : (start : Start) (units : List InputUnit) (more history : History) → length (replies_in history) ≡ length (jobs_from [] units)
+    → output_of start units (more ++ history) ≡ output_of start units history
+output_of-stays start units more history each =
+    let (others, is) = replies_since more history in
+    ap (output_from start [] units) is ∙ output_from-enough start [] units (replies_in history) others (omega (arith, each))
 
 -- the output grows by that for the unit, with the replies that the history has gained
 pub output_of-push : (start : Start) (units : List InputUnit) (unit : InputUnit) (earlier history : History) (replies : List Reply)
@@ -136,3 +165,4 @@ replies_in-asking (Asked name ask reply ∷ earlier) = ap (λ (l : List Reply). 
 replies_in-asking (Left connection ∷ earlier) = ap (λ (l : List Reply). l ++ []) (replies_in-asking earlier)
 replies_in-asking (Took transactions upto ∷ earlier) = replies_in-asking earlier ∙ sym (append-nil (replies_in earlier))
 replies_in-asking (Confirmed upto ∷ earlier) = replies_in-asking earlier ∙ sym (append-nil (replies_in earlier))
+replies_in-asking (Looked ∷ earlier) = replies_in-asking earlier ∙ sym (append-nil (replies_in earlier))

@@ -1,4 +1,4 @@
--- How engine, journal and directory stand together while a request is answered, and what it commits is written.
+-- How engine, journal and directory agree while a request is answered, and what it commits is written.
 use Rattle.std.proofs.Common.{◌≡◌, ℕ, zero, suc, ◌+◌, ◌<◌, Bool, true, false, List, [], ◌∷◌, ◌++◌, length, get_or, take, drop, refl, sym, ap, ◌∙◌, subst, arith}
 use Rattle.std.specs.Prelude.{Option, Some, None, is_some}
 use Rattle.std.specs.FinMap as finite
@@ -17,7 +17,8 @@ use Rattle.mx_row.specs.Clocks.{clock_after, clock_after_one}
 use Rattle.mx_model.specs.Directories.{AllFollow, Continues, ids_in}
 use Rattle.mx_files.specs.Names.{same_bytes}
 use Rattle.mx_model.specs.Histories.{Base, History, Asked, Took, Confirmed, IsLegal, commits_of, ledger_of, journal_of}
-use Rattle.mx_model.proofs.HistoryLaws.{taken_within}
+use Rattle.mx_model.proofs.HistoryLaws.{steps_of_ledger, taken_within}
+use Rattle.mx_model.proofs.GateLaws.{may_leave_once_confirmed}
 use Rattle.mx_row.proofs.ClockLaws.{clock_after-append}
 use Rattle.mx_model.proofs.CommitLaws.{commits_follow}
 use Rattle.mx_model.proofs.DirectoryLaws.{continues_same}
@@ -30,7 +31,7 @@ use Rattle.mx_images.proofs.ToldLaws.{told_both, told_now}
 use Rattle.mx_images.specs.Fair.{AllDurable}
 use Rattle.mx_node.specs.Ready.{Behind, Ready, Replied, AllComeNext, step_of, taken_of}
 
--- a journal's file has these transactions, after the files that stand for the base; all journals and names are durable
+-- a journal's file has these transactions, after the files that recover to the base; all journals and names are durable
 abbrev pub IsOnDisk : Base → Journal → List Tx → Disk → Type 0
 IsOnDisk base journal txs disk =
     IsWritten journal disk txs × Continues base (name_of journal.head) disk.now × AllDurable disk × (disk.older ≡ finite.empty)
@@ -66,7 +67,7 @@ waiting_more waits txs index tx within is =
 taken_of-asked : (base : Base) (name : TxnName) (ask : Ask) (reply : Reply) (history : History)
     → taken_of base (Asked name ask reply ∷ history) ≡ taken_of base history
 taken_of-asked base name ask reply history =
-    take-append-le (ledger_of base history).taken (journal_of base history) (commits_of base (ledger_of base history) ask reply)
+    take-append-le (ledger_of base history).taken (journal_of base history) (commits_of (ledger_of base history) name ask reply)
     (taken_within base history)
 
 -- a request that was answered changes nothing of what is written
@@ -196,4 +197,5 @@ ready_again base history engine confirmed old pushed written before after txs up
             (wrote_told base old pushed written before after done txs wrote_out behind.written);
       };
       taken = refl;
+      gate = may_leave_once_confirmed base txs upto history (omega (arith, stands.legal.0.1.1, steps_of_ledger base history));
     }

@@ -1,6 +1,6 @@
 -- What a crash leaves of a directory that was made durable, and of one in which a journal is being begun.
 use Rattle.std.proofs.Common.{◌≡◌, ℕ, ◌≤◌, Bool, true, false, List, [], ◌∷◌, length, sum, take, Option, Some, None, Ok, refl, sym, ap, ◌∙◌, subst, ◌⊎◌, inl, inr, arith}
-use Rattle.std.specs.Prelude.{IfSome, if◌then◌else◌}
+use Rattle.std.specs.Prelude.{⊤, IfSome, if◌then◌else◌}
 use Rattle.std.specs.List.{filter, AllByRecursion}
 use Rattle.std.proofs.lemmas.List.{append-nil, take_all}
 use Rattle.std.specs.Option.{unwrap_or}
@@ -28,21 +28,22 @@ use Rattle.mx_model.proofs.BeginLaws.{sound, begins_again, reached_is_sound}
 use Rattle.mx_model.proofs.OnceLaws.{one_state}
 use Rattle.mx_images.specs.Fair.{IsFair, IsFairEnd, AllDurable, LeavesNoOther}
 use Rattle.mx_journal.specs.Crashes.{HasBegun, MayBegin}
-use Rattle.mx_images.specs.Changes.{SameBut}
+use Rattle.mx_images.specs.Changes.{SameBut, SameContents}
 use Rattle.mx_journal.specs.Written.{name_of}
 use Rattle.mx_images.proofs.ToldLaws.{told_both, told_then, told_weaker, where_told}
-use Rattle.mx_images.proofs.MomentLaws.{no_moments, weaker, weaker_from}
+use Rattle.mx_images.proofs.MomentLaws.{Steps, no_moments, weaker, weaker_from}
 use Rattle.mx_recover.specs.declared.replay.Recovered as memory
 use Rattle.mx_recover.specs.Replay.{IsDurableAt}
-use Rattle.mx_model.specs.Survival.{StandsAfter, Survive, NoFewerSurvive, FollowFromNew, Recovers}
+use Rattle.mx_model.specs.Survival.{StandsAfter, Survive, NoFewerSurvive, ReadsMost, FollowFromNew, Recovers}
 use Rattle.mx_model.proofs.CountLaws.{counted_once, front_longer, survive_longer}
 use Rattle.mx_model.proofs.ImageLaws.{fair_now, leaves_some, read_in_image, journal_counts, snapshot_counts, WasRead, all_were_read}
+use Rattle.mx_model.proofs.ReadLaws.{ReadMost, clean_reads_most}
 use Rattle.mx_recover.proofs.LeavingLaws.{LeaveNoOther}
 use Rattle.mx_node.proofs.OpenLaws.{kept_ids}
 
 -- ---- the files of a durable directory
 
--- whatever a crash leaves of the directory stands for these transactions
+-- after any crash the directory recovers these transactions
 abbrev AllStand : List Tx → Disk → Type 0
 AllStand earlier disk = (image : Files) → IsFair disk image → StandsAfter earlier image
 
@@ -199,7 +200,7 @@ told_across : (X : Type 0) (before after : Option (List Disk)) → KnownAlike be
 told_across X before after alike known = told_then before after (λ disk past. X) alike
     (told_weaker before (λ disk past is. where_told after (λ disk past. X) (λ disk past told. is)) known)
 
--- the directory stands for the same transactions when it is made durable
+-- the directory recovers the same transactions when it is made durable
 pub made_durable_after : (earlier : List Tx) (memory : memory.Recovered) (found : Reached) (old read middle after : Option (List Disk)) → read ≡ old → middle ≡ read
     → KnownAlike middle after → Recovers earlier old → IfKnown read (λ disk past. IsDirectoryState disk.now (Ok found)) → IsDurableAt memory found after
     → IfKnown after (λ disk past. StandsAfter earlier disk.now)
@@ -249,3 +250,17 @@ left_survive earlier transactions old middle new front same recovers leave =
         let before = survive_longer earlier transactions 0 disk front known.1 in
         weaker (λ next leaves image fair. before image (leaves image fair)) (λ older newer leaves step least survive image fair. survive image (step image fair))
         new disk past
+
+-- ---- what the directory reads as while it is opened
+
+-- a call that changed nothing
+pub unchanged_reads : (transactions : List Tx) (old new : Option (List Disk)) → new ≡ old → ReadMost transactions old new
+unchanged_reads transactions old new same =
+    subst (ReadMost transactions old) (sym same) (no_moments (λ start. ReadsMost transactions) (λ older newer. ⊤) old)
+
+-- calls that clean it
+pub durable_reads : (earlier transactions : List Tx) (old middle new : Option (List Disk)) → IsPrefix earlier transactions → middle ≡ old
+    → Recovers earlier old → LeaveNoOther middle new → Steps (λ older newer. SameContents older.now newer.now) middle new → ReadMost transactions old new
+durable_reads earlier transactions old middle new front same recovers leave reads =
+    clean_reads_most earlier transactions old new front recovers.told (subst (λ states. LeaveNoOther states new) same leave)
+    (subst (λ states. Steps (λ older newer. SameContents older.now newer.now) states new) same reads)

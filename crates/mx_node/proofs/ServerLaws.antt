@@ -4,32 +4,33 @@ use Rattle.std.specs.Prelude.{Option, IfSome, unwrap_or, ◌==◌, if◌then◌e
 use Rattle.std.proofs.lemmas.Bool.{cases_lt, eqb-true, eq-eqb, ne_eqb, eqb-false}
 use Rattle.std.proofs.lemmas.List.{append-nil, append_assoc, length-append, length-set, get_or-set_same, get_or-set_other, set-get_or, get_or_past}
 use Rattle.mx_outside.specs.Disks.{Disk}
-use Rattle.mx_base.specs.declared.ids.TxnName.{TxnName}
-use Rattle.mx_request.specs.declared.request.Ask.{Ask}
 use Rattle.mx_frame.specs.Packets.{rest_of}
 use Rattle.mx_frame.proofs.FrameLaws.{rest_of-append}
 use Rattle.mx_session.specs.declared.job.Job.{Job}
 use Rattle.mx_session.specs.Jobs.{ends, jobs_of}
 use Rattle.mx_session.specs.Sessions.{SessionState}
 use Rattle.mx_model.specs.declared.reply.Reply.{Reply}
-use Rattle.mx_model.specs.Histories.{Base, History, Left, asks_in, replies_in}
+use Rattle.mx_model.specs.Histories.{Base, History, Left, replies_in}
+use Rattle.mx_model.specs.Order.{Step, order_in}
 use Rattle.mx_model.specs.ReplyStream.{packets_of_replies}
 use Rattle.mx_engine.specs.declared.engine.Engine.{Engine}
 use Rattle.mx_engine.specs.Standing.{EngineStandsFor}
 use Rattle.mx_journal.specs.declared.journal.Journal.{Journal}
 use Rattle.mx_node.specs.declared.single.Single.{Single}
 use Rattle.mx_node.specs.Inputs.{InputUnit, Bytes, Close, connection_of, max_connection}
-use Rattle.mx_node.specs.Connections.{came_after, came_on, is_open, asked_by, asks_by, jobs_by, jobs_from}
+use Rattle.mx_node.specs.Connections.{came_after, came_on, is_open, jobs_by, jobs_from}
+use Rattle.mx_node.specs.Order.{departure_where, order_by, written_out}
 use Rattle.mx_node.specs.Starts.{Start, start_greeting}
 use Rattle.mx_node.specs.Outputs.{schema_version, sync_of, opening, sent_on, closed_on, output_for, output_of}
 use Rattle.mx_model.specs.declared.out_units.OutUnit.{OutUnit}
 use Rattle.mx_node.specs.Ready.{Ready, IsReady, AnswersJobs, TakenAll}
 use Rattle.mx_model.specs.Survival.{Lasts}
 use Rattle.mx_node.specs.Serving.{Attends, CanServe, HasSession, IsIdle, IsTable, Serves, AnswersUnit, goes_on, opened, session_at}
-use Rattle.mx_node.proofs.ConnectionLaws.{asks_by-ended, asks_by-nothing, asks_by-open, asks_of-push, came_on-push, ends-nothing, ends-piece, ends-stays, jobs_by-ended, jobs_by-nothing, jobs_by-open, jobs_from-push, rest_of-nothing}
+use Rattle.mx_node.proofs.ConnectionLaws.{came_on-push, ends-nothing, ends-piece, ends-stays, jobs_by-ended, jobs_by-nothing, jobs_by-open, jobs_from-push, rest_of-nothing}
 use Rattle.mx_node.proofs.LastingLaws.{lasts_longer, lasts_none}
+use Rattle.mx_node.proofs.OrderLaws.{order_by-ended, order_by-nothing, order_by-open, order_of-push}
 use Rattle.mx_node.proofs.OutputLaws.{opening-ended, output_for-ended, output_for-nothing, output_for-open, output_of-push}
-use Rattle.mx_node.proofs.TableLaws.{leaves_where, left_by, left_by-asks, left_by-replies, left_by-since, there_where}
+use Rattle.mx_node.proofs.TableLaws.{left_by, left_by-order, left_by-replies, left_by-since, there_where}
 
 -- ---- a table in which one place changed
 
@@ -101,6 +102,7 @@ ready_left base history old new journal states on ready stands = record {
     written = ready.behind.written;
   };
   taken = ready.taken;
+  gate = ready.gate;
 }
 
 -- the same where it perhaps left
@@ -118,6 +120,7 @@ ready_told base history old new journal states on false ready stands = record {
     written = ready.behind.written;
   };
   taken = ready.taken;
+  gate = ready.gate;
 }
 
 pub is_ready_told : (old new : Engine) (journal : Journal) (states : Option (List Disk)) (on : ℕ) (ended : Bool) → IsReady old journal states
@@ -140,7 +143,7 @@ pub record Gave (start : Start) (old new : Single) (units : List InputUnit) (ear
   pub since : (more : History) × (history ≡ more ++ earlier)
   pub lasts : Lasts start.base history before after
   pub ready : Ready start.base history new.engine new.journal after
-  pub asks : asks_in history ≡ asks_in earlier ++ asks_by units unit
+  pub order : order_in history ≡ order_in earlier ++ order_by units unit
   pub told : replies_in history ≡ replies_in earlier ++ replies
   pub each : length replies ≡ length (jobs_by units unit)
   pub writes : output ≡ output_for start units unit replies
@@ -178,7 +181,7 @@ module _ (start : Start) (old new : Single) (units : List InputUnit) (earlier : 
   serves_now = record {
     greeting = gave.greeting ∙ serves.greeting;
     ready = gave.ready;
-    asks = gave.asks ∙ ap (λ (l : List (TxnName × Ask)). l ++ asks_by units unit) serves.asks ∙ sym (asks_of-push units unit);
+    order = gave.order ∙ ap (λ (l : List Step). l ++ order_by units unit) serves.order ∙ sym (order_of-push units unit);
     told = ap length gave.told ∙ length-append (replies_in earlier) gave.replies
         ∙ ap (λ (n : ℕ). n + length gave.replies) serves.told ∙ ap (λ (n : ℕ). length (jobs_from [] units) + n) gave.each
         ∙ sym (length-append (jobs_from [] units) (jobs_by units unit)) ∙ ap length (sym (jobs_from-push units unit));
@@ -209,7 +212,7 @@ gave_nothing start server units history on states serves known =
       since = ([], refl);
       lasts = lasts_none start.base history states;
       ready = serves.ready;
-      asks = sym (append-nil (asks_in history)) ∙ ap (λ (l : List (TxnName × Ask)). asks_in history ++ l) (sym (asks_by-nothing units on));
+      order = sym (append-nil (order_in history)) ∙ ap (λ (l : List Step). order_in history ++ l) (sym (order_by-nothing units on));
       told = sym (append-nil (replies_in history));
       each = ap length (sym (jobs_by-nothing units on));
       writes = sym (output_for-nothing start units on []);
@@ -251,7 +254,7 @@ module _ (start : Start) (old new : Single) (units : List InputUnit) (earlier : 
     since = left_by-since on stays earlier (left_by on stays earlier) ([], refl);
     lasts = lasts_none start.base (left_by on stays earlier) states;
     ready = ready;
-    asks = left_by-asks on stays (is_open on (came_on on units)) earlier there;
+    order = left_by-order on stays (is_open on (came_on on units)) earlier there;
     told = left_by-replies on stays earlier ∙ sym (append-nil (replies_in earlier));
     each = refl;
     writes = refl;
@@ -328,7 +331,7 @@ pub record Did (start : Start) (units : List InputUnit) (earlier : History) (on 
   pub since : (more : History) × (history ≡ more ++ earlier)
   pub lasts : Lasts start.base history before after
   pub ready : Ready start.base history engine journal after
-  pub asks : asks_in history ++ leaves_where on ended ≡ asks_in earlier ++ asks_by units (Bytes on bytes)
+  pub order : order_in history ++ departure_where on ended ≡ order_in earlier ++ order_by units (Bytes on bytes)
   pub told : replies_in history ≡ replies_in earlier ++ replies
   pub each : length replies ≡ length (jobs_by units (Bytes on bytes))
   pub writes : sent_on on later.out ++ closing_for on ended ≡ output_for start units (Bytes on bytes) replies
@@ -351,8 +354,8 @@ module _ (start : Start) (units : List InputUnit) (earlier : History) (on : ℕ)
         lasts = subst (Lasts start.base earlier before) (sym same_states) (lasts_none start.base earlier before);
         ready = subst (λ (e : Engine). Ready start.base earlier e new after) (sym same_engine)
             (subst (λ (j : Journal). Ready start.base earlier was j after) (sym same_journal) (subst (Ready start.base earlier was old) (sym same_states) ready));
-        asks = ap (λ (b : Bool). asks_in earlier ++ leaves_where on b) goes_on
-            ∙ ap (λ (l : List (TxnName × Ask)). asks_in earlier ++ l) (sym (asks_by-ended units on (came_on on units) bytes refl is_over));
+        order = ap (λ (b : Bool). order_in earlier ++ departure_where on b) goes_on
+            ∙ ap (λ (l : List Step). order_in earlier ++ l) (sym (order_by-ended units on (came_on on units) bytes refl is_over));
         told = sym (append-nil (replies_in earlier));
         each = ap length (sym (jobs_by-ended units on (came_on on units) bytes refl is_over));
         writes = ap (λ (l : List ℕ). sent_on on l ++ closing_for on ended) nothing ∙ ap (closing_for on) goes_on
@@ -405,11 +408,11 @@ module _ (start : Start) (units : List InputUnit) (earlier : History) (on : ℕ)
         since = answers.since;
         lasts = answers.lasts;
         ready = answers.ready;
-        asks = ap (λ (l : List (TxnName × Ask)). l ++ leaves_where on ended)
-            (answers.asks ∙ ap (λ (l : List Job). asks_in earlier ++ map asked_by l) same_jobs)
-            ∙ append_assoc (asks_in earlier) (map asked_by jobs) (leaves_where on ended)
-            ∙ ap (λ (b : Bool). asks_in earlier ++ (map asked_by jobs ++ leaves_where on b)) same_end
-            ∙ ap (λ (l : List (TxnName × Ask)). asks_in earlier ++ l) (sym (asks_by-open units on (came_on on units) bytes refl open_before));
+        order = ap (λ (l : List Step). l ++ departure_where on ended)
+            (answers.order ∙ ap (λ (l : List Job). order_in earlier ++ written_out l) same_jobs)
+            ∙ append_assoc (order_in earlier) (written_out jobs) (departure_where on ended)
+            ∙ ap (λ (b : Bool). order_in earlier ++ (written_out jobs ++ departure_where on b)) same_end
+            ∙ ap (λ (l : List Step). order_in earlier ++ l) (sym (order_by-open units on (came_on on units) bytes refl open_before));
         told = answers.told;
         each = answers.each ∙ ap length (same_jobs ∙ sym (jobs_by-open units on (came_on on units) bytes refl open_before));
         writes = ap (λ (l : List ℕ). sent_on on l ++ closing_for on ended) output
@@ -463,7 +466,7 @@ module _ (start : Start) (old new : Single) (units : List InputUnit) (earlier : 
         since = since_both done.history earlier all done.since last;
         lasts = lasts_since start.base done.history all before after last done.lasts;
         ready = ready;
-        asks = left_by-asks on (not ended) ended done.history (same_twice ended) ∙ done.asks;
+        order = left_by-order on (not ended) ended done.history (same_twice ended) ∙ done.order;
         told = left_by-replies on (not ended) done.history ∙ done.told;
         each = done.each;
         writes = writes ∙ done.writes;

@@ -1,6 +1,6 @@
 -- What a crash leaves of a database whose journal is written to.
 use Rattle.std.proofs.Common.{◌≡◌, ℕ, zero, suc, ◌+◌, ◌-◌, ◌≤◌, Bool, true, false, cond, List, [], ◌∷◌, ◌++◌, length, map, sum, take, drop, Option, Some, None, Ok, refl, sym, ap, ◌∙◌, subst, arith}
-use Rattle.std.specs.Prelude.{is_some, IfSome}
+use Rattle.std.specs.Prelude.{⊤, is_some, IfSome}
 use Rattle.std.specs.List.{filter, AllByRecursion}
 use Rattle.std.specs.FinMap as finite
 use Rattle.std.specs.FinMap.{get-empty}
@@ -28,19 +28,19 @@ use Rattle.mx_files.proofs.NameLaws.{journal_name-is_journal}
 use Rattle.mx_model.proofs.HistoryLaws.{state_after-append}
 use Rattle.mx_row.proofs.ClockLaws.{clock_after-append}
 use Rattle.mx_model.proofs.CommitLaws.{commits_follow}
-use Rattle.mx_model.proofs.DirectoryLaws.{ReadAll, names_of, names_same, stands_after, same_itself}
+use Rattle.mx_model.proofs.DirectoryLaws.{ReadAll, continues_same, names_of, names_same, stands_after, same_itself}
 use Rattle.mx_model.proofs.TransactionLaws.{after_blocks_again}
 use Rattle.mx_journal.proofs.BlockLaws.{blocks_again}
 use Rattle.mx_engine.specs.declared.engine.Engine.{Engine}
 use Rattle.mx_journal.specs.declared.journal.Journal.{Journal}
 use Rattle.mx_images.specs.Fair.{IsFairEnd, IsFair, AllDurable}
-use Rattle.mx_journal.specs.Crashes.{HasFile, HasAtLeast, NoFewer, read_of}
+use Rattle.mx_journal.specs.Crashes.{HasFile, HasAtLeast, HasMost, NoFewer, read_of}
 use Rattle.mx_journal.specs.Written.{IsWritten, Waits, blocks_text, file_text, name_of}
 use Rattle.mx_images.specs.Changes.{SameOthers}
-use Rattle.mx_images.proofs.MomentLaws.{weaker_from}
+use Rattle.mx_images.proofs.MomentLaws.{both_moments, weaker, weaker_from}
 use Rattle.mx_images.proofs.ToldLaws.{told_weaker, told_both}
 use Rattle.mx_node.specs.Ready.{Behind, Ready, taken_of}
-use Rattle.mx_model.specs.Survival.{StandsAfter, Survive, NoFewerSurvive, FollowFromNew, ComeTo, Extend, Lasts}
+use Rattle.mx_model.specs.Survival.{StandsAfter, Survive, NoFewerSurvive, ReadsMost, FollowFromNew, ComeTo, Extend, Lasts}
 use Rattle.mx_model.proofs.CountLaws.{counted_once}
 use Rattle.mx_model.proofs.ImageLaws.{fair_now, leaves_some, reads_again, left_whole, read_in_image, journal_counts, snapshot_counts, WasRead, all_were_read}
 use Rattle.mx_node.proofs.ReadyLaws.{IsOnDisk}
@@ -125,7 +125,7 @@ module _ (name : List ℕ) (disk now : Disk) (image : Files) (synced : AllDurabl
 
 -- ---- the journal's own file
 
--- a file whose transactions are durable has them whatever a crash leaves
+-- a file whose transactions are durable has them after any crash
 pub has_written : (journal : Journal) (disk : Disk) (txs waits : List Tx) → IsWritten journal disk txs
     → HasAtLeast journal.head (txs ++ waits) (length txs) disk
 has_written journal disk txs waits written image fair =
@@ -151,7 +151,7 @@ has_written journal disk txs waits written image fair =
       ),
     )
 
--- ---- what the directory stands for
+-- ---- what the directory recovers to
 
 pub all_follow-take : (now : State) (clock : List ℕ) (txs : List Tx) (count : ℕ) → AllFollow now clock txs → AllFollow now clock (take count txs)
 all_follow-take now clock txs zero all = tt
@@ -180,9 +180,14 @@ pub record Served (base : Base) (head : Head) (txs earlier transactions : List T
   pub front : IsPrefix (earlier ++ txs) transactions
   pub from_new : FollowFromNew transactions
 
--- no other file changed, and whatever a crash leaves the journal's file has so many transactions at least
+-- no other file changed, and after any crash the journal's file has so many transactions at least
 abbrev pub IsMoment : Head → List Tx → ℕ → Disk → Disk → Type 0
 IsMoment head txs least disk now = SameOthers (name_of head) disk now × HasAtLeast head txs least now
+
+-- at each moment of a call of the journal; the file as it reads has at least what a crash leaves of it
+abbrev pub Writes : Head → List Tx → ℕ → Disk → Option (List Disk) → List Disk → Type 0
+Writes head txs least disk new past =
+    Moments (IsMoment head txs least disk) (NoFewer head txs) new disk past × Moments (HasMost head txs) (λ older newer. ⊤) new disk past
 
 as_it_was : (name : List ℕ) (disk : Disk) → SameOthers name disk disk
 as_it_was name disk = record { files = λ other differs. refl; older = refl }
@@ -255,6 +260,20 @@ module _ (base : Base) (head : Head) (txs earlier transactions : List Tx) (disk 
       let file = keeps (bound - length earlier) (bound_of_file older least bound before survive) in
       survive_less newer (length earlier + (bound - length earlier)) bound (omega arith) (survives newer (bound - length earlier) (after.0, file))
 
+  -- the directory reads as the earlier ones, and what the journal's file has
+  moment_reads : (now : Disk) → SameOthers (name_of head) disk now → HasMost head txs now → ReadsMost transactions now
+  moment_reads now same has =
+      let front = front_of_all has.count has.within in
+      let goes_on = continues_same base (name_of head) disk.now now.now served.continues same.files served.there (ap is_some has.has.1) in
+      record {
+        count = length earlier + has.count;
+        within = front.1;
+        reads = image_stands now.now has.count goes_on has.within has.has;
+        most = λ image fair.
+            let (fewer, few, file) = has.most image fair in
+            (length earlier + fewer, omega (arith, few), moment_stands now image fewer same fair (omega (arith, few, has.within)) file);
+      }
+
   -- what the journal's calls leave meanwhile
   pub lasting : (least : ℕ) (new : Option (List Disk)) (past : List Disk) → HasAtLeast head txs least disk
       → Moments (IsMoment head txs least disk) (NoFewer head txs) new disk past
@@ -262,6 +281,12 @@ module _ (base : Base) (head : Head) (txs earlier transactions : List Tx) (disk 
   lasting least new past has =
       weaker_from (λ now moment. (moment, survive_less now (length earlier + least) 0 (omega arith) (survives now least moment)))
       (λ older newer before after. no_fewer_survive older newer least before after) new disk past (as_it_was (name_of head) disk, has)
+
+  pub reading : (least : ℕ) (new : Option (List Disk)) (past : List Disk) → Writes head txs least disk new past
+      → Moments (ReadsMost transactions) (λ older newer. ⊤) new disk past
+  reading least new past (moments, reads) =
+      weaker (λ now here. moment_reads now here.0.0 here.1) (λ older newer here step. tt) new disk past
+      (both_moments (IsMoment head txs least disk) (HasMost head txs) (NoFewer head txs) (λ older newer. ⊤) new disk past moments reads)
 
 -- ---- a server
 
@@ -307,16 +332,22 @@ behind_keeps base history engine journal states behind transactions all =
 pub call_lasts : (base : Base) (history : History) (engine : Engine) (journal : Journal) (old new : Option (List Disk))
     → Behind base history engine journal old → KnownAlike old new
     → IfKnown old (λ disk past. IsWritten journal disk (taken_of base history)
-    → Moments (IsMoment journal.head (journal_of base history) (length (taken_of base history)) disk) (NoFewer journal.head (journal_of base history)) new disk past)
+    → Writes journal.head (journal_of base history) (length (taken_of base history)) disk new past)
     → Lasts base history old new
-call_lasts base history engine journal old new behind alike moments = record {
+call_lasts base history engine journal old new behind alike writes = record {
   told = alike;
   moments = λ transactions all.
       told_both old (λ disk past synced_file shown.
       lasting base journal.head (journal_of base history) all.earlier transactions disk
       (served_by base history engine journal old disk behind synced_file transactions all) (length (taken_of base history)) new past
-      (has_taken base history journal disk synced_file.0) (shown synced_file.0))
-      behind.written moments;
+      (has_taken base history journal disk synced_file.0) (shown synced_file.0).0)
+      behind.written writes;
+  reads = λ transactions all.
+      told_both old (λ disk past synced_file shown.
+      reading base journal.head (journal_of base history) all.earlier transactions disk
+      (served_by base history engine journal old disk behind synced_file transactions all) (length (taken_of base history)) new past
+      (shown synced_file.0))
+      behind.written writes;
 }
 
 -- writing out what the engine handed out, in a journal that it was pushed to
@@ -325,29 +356,32 @@ pub write_out_lasts : (base : Base) (history : History) (engine : Engine) (journ
     → ((disk : Disk) (done : List Tx) → IsWritten journal disk done → IsWritten pushed disk done) → pushed.head ≡ journal.head
     → ((done waits : List Tx) → IfKnown old (λ disk past. IsWritten pushed disk done → Waits pushed waits
     → Moments (IsMoment pushed.head (done ++ waits) (length done) disk) (NoFewer pushed.head (done ++ waits)) new disk past))
+    → ((done waits : List Tx) → IfKnown old (λ disk past. IsWritten pushed disk done → Waits pushed waits
+    → Moments (HasMost pushed.head (done ++ waits)) (λ older newer. ⊤) new disk past))
     → Lasts base history old new
-write_out_lasts base history engine journal pushed old new txs upto behind alike legal waits keeps head moments =
+write_out_lasts base history engine journal pushed old new txs upto behind alike legal waits keeps head moments reads =
     let taken = taken_of base history in
     let all : taken ++ txs ≡ journal_of base history =
     ap (λ rest. taken ++ rest) legal.1.0 ∙ take-append-drop (ledger_of base history).taken (journal_of base history) in
     call_lasts base history engine journal old new behind alike
-    (told_weaker old (λ disk past shown written.
-    subst (λ l. Moments (IsMoment journal.head l (length taken) disk) (NoFewer journal.head l) new disk past) all
-    (subst (λ h. Moments (IsMoment h (taken ++ txs) (length taken) disk) (NoFewer h (taken ++ txs)) new disk past) head
-    (shown (keeps disk taken written) waits)))
-    (moments taken txs))
+    (told_both old (λ disk past shown most written.
+    subst (λ l. Writes journal.head l (length taken) disk new past) all
+    (subst (λ h. Writes h (taken ++ txs) (length taken) disk new past) head
+    (shown (keeps disk taken written) waits, most (keeps disk taken written) waits)))
+    (moments taken txs) (reads taken txs))
 
 -- ending the journal
 pub end_lasts : (base : Base) (history : History) (engine : Engine) (journal : Journal) (old new : Option (List Disk))
     → Ready base history engine journal old → KnownAlike old new
     → ((txs : List Tx) → IfKnown old (λ disk past. IsWritten journal disk txs
     → Moments (IsMoment journal.head txs (length txs) disk) (NoFewer journal.head txs) new disk past))
+    → ((txs : List Tx) → IfKnown old (λ disk past. IsWritten journal disk txs → Moments (HasMost journal.head txs) (λ older newer. ⊤) new disk past))
     → Lasts base history old new
-end_lasts base history engine journal old new ready alike moments =
+end_lasts base history engine journal old new ready alike moments reads =
     let taken = taken_of base history in
     let all : taken ≡ journal_of base history =
     ap (λ n. take n (journal_of base history)) ready.taken ∙ take_all (length (journal_of base history)) (journal_of base history) (omega arith) in
     call_lasts base history engine journal old new ready.behind alike
-    (told_weaker old (λ disk past shown written.
-    subst (λ l. Moments (IsMoment journal.head l (length taken) disk) (NoFewer journal.head l) new disk past) all (shown written))
-    (moments taken))
+    (told_both old (λ disk past shown most written.
+    subst (λ l. Writes journal.head l (length taken) disk new past) all (shown written, most written))
+    (moments taken) (reads taken))

@@ -2,25 +2,27 @@
 use Rattle.std.proofs.Common.{◌≡◌, ℕ, ◌+◌, ◌≤◌, List, [], ◌∷◌, ◌++◌, length, map, refl, sym, ap, ◌∙◌, subst, arith, length-append}
 use Rattle.std.specs.Prelude.{Option}
 use Rattle.std.proofs.lemmas.Bool.{le-leb}
-use Rattle.std.proofs.lemmas.List.{append-nil, append_assoc, map_push, map-append, length-map}
+use Rattle.std.proofs.lemmas.List.{append-nil, append_assoc, map_push, length-map}
 use mathlib.Core.List.{IsPrefix}
-use Rattle.mx_base.specs.declared.ids.TxnName.{TxnName}
 use Rattle.mx_outside.specs.Disks.{Disk}
 use Rattle.mx_request.specs.declared.request.Ask.{Ask}
 use Rattle.mx_session.specs.declared.job.Job.{Job}
 use Rattle.mx_session.specs.Sessions.{SessionState, Waiting, released}
 use Rattle.mx_model.specs.declared.reply.Reply.{Reply}
 use Rattle.mx_row.specs.declared.tx.Tx.{Tx}
-use Rattle.mx_model.specs.Histories.{Base, History, Took, Confirmed, IsLegal, asks_in, replies_in, ledger_of}
+use Rattle.mx_model.specs.Histories.{Base, History, Took, Confirmed, IsLegal, replies_in, ledger_of}
+use Rattle.mx_model.specs.Order.{Step, RequestStep, TakeStep, ConfirmStep, order_in}
 use Rattle.mx_model.specs.ReplyStream.{packet_of_reply, packets_of_replies}
 use Rattle.mx_engine.specs.declared.engine.Engine.{Engine}
 use Rattle.mx_engine.specs.Standing.{EngineStandsFor}
 use Rattle.mx_journal.specs.declared.journal.Journal.{Journal}
-use Rattle.mx_node.specs.Connections.{asked_by}
+use Rattle.mx_node.specs.Order.{job_steps, written_out}
 use Rattle.mx_node.specs.Outputs.{schema_version, sync_of}
 use Rattle.mx_node.specs.Ready.{Ready, Replied, AnswersJob, AnswersJobs, step_of, steps_of}
 use Rattle.mx_node.specs.Interrupted.{StepsSurvive, IsInterrupted}
 use Rattle.mx_model.specs.Survival.{Lasts}
+use Rattle.mx_model.proofs.HistoryLaws.{steps_of_ledger}
+use Rattle.mx_node.proofs.OrderLaws.{three_more, written_out-append, written_out-push}
 use Rattle.mx_node.proofs.OutputLaws.{reply_packets-append}
 use Rattle.mx_node.proofs.KeepLaws.{ready_keeps}
 use Rattle.mx_node.proofs.LastingLaws.{lasts_none, lasts_on, breaks_now, breaks_on, breaks_among}
@@ -40,7 +42,7 @@ replied_by base history engine job packet ask reply asked stands spelled = recor
 -- once a take after a step is confirmed, the step is durable
 pub step_durable : (base : Base) (txs : List Tx) (upto : ℕ) (history : History) → IsLegal base (Confirmed upto ∷ Took txs upto ∷ history)
     → length history ≤ (ledger_of base (Confirmed upto ∷ Took txs upto ∷ history)).durable
-step_durable base txs upto history legal = omega (arith, legal.0.1.1)
+step_durable base txs upto history legal = omega (arith, legal.0.1.1, steps_of_ledger base history)
 
 -- so the one reply that waits for it leaves
 pub reply_leaves : (front durable : ℕ) (reply : List ℕ) → front ≤ durable → released durable (record { front = front; reply = reply } ∷ []) ≡ (reply, [])
@@ -71,7 +73,7 @@ answered_none base earlier engine journal states out ready = record {
   ready = ready;
   since = ([], refl);
   lasts = lasts_none base earlier states;
-  asks = sym (append-nil (asks_in earlier));
+  order = sym (append-nil (order_in earlier));
   told = sym (append-nil (replies_in earlier));
   each = refl;
   output = sym (append-nil out);
@@ -92,9 +94,10 @@ module _ (base : Base) (earlier : History) (old new : Engine) (begun written : J
       ap (steps_of job step.reply step.transactions step.upto) so_far.since.1,
     );
     lasts = lasts_on base (steps_of job step.reply step.transactions step.upto []) so_far.history first before_states states so_far.lasts step.lasts;
-    asks = append-nil _ ∙ append-nil _ ∙ ap (λ (l : List (TxnName × Ask)). l ++ asked_by job ∷ []) so_far.asks
-        ∙ append_assoc (asks_in earlier) (map asked_by jobs) (asked_by job ∷ [])
-        ∙ ap (λ (l : List (TxnName × Ask)). asks_in earlier ++ l) (sym (map_push asked_by jobs job));
+    order = three_more (order_in so_far.history) (RequestStep job.name job.ask) TakeStep ConfirmStep
+        ∙ ap (λ (l : List Step). l ++ job_steps job) so_far.order
+        ∙ append_assoc (order_in earlier) (written_out jobs) (job_steps job)
+        ∙ ap (λ (l : List Step). order_in earlier ++ l) (sym (written_out-push jobs job));
     told = append-nil _ ∙ append-nil _ ∙ ap (λ (l : List Reply). l ++ step.reply ∷ []) so_far.told
         ∙ append_assoc (replies_in earlier) so_far.replies (step.reply ∷ []);
     each = length-append so_far.replies (step.reply ∷ []) ∙ ap (λ (n : ℕ). n + 1) so_far.each ∙ sym (length-append jobs (job ∷ []));
@@ -111,47 +114,47 @@ module _ (base : Base) (earlier : History) (old new : Engine) (begun written : J
         ∙ ap (λ (l : List ℕ). packets_of_replies schema_version l (so_far.replies ++ step.reply ∷ [])) (sym (map_push sync_of jobs job)));
   }
 
--- what the first jobs ask begins what all of them ask
-first_asks : (earlier : List (TxnName × Ask)) (first rest all : List Job) → all ≡ first ++ rest
-    → IsPrefix (earlier ++ map asked_by first) (earlier ++ map asked_by all)
-first_asks earlier first rest all is = (
-  map asked_by rest,
-  append_assoc earlier (map asked_by first) (map asked_by rest)
-      ∙ ap (λ (l : List (TxnName × Ask)). earlier ++ l) (sym (map-append asked_by first rest) ∙ ap (map asked_by) (sym is)),
+-- the steps for the first jobs begin those for all of them
+first_steps : (earlier : List Step) (first rest all : List Job) → all ≡ first ++ rest
+    → IsPrefix (earlier ++ written_out first) (earlier ++ written_out all)
+first_steps earlier first rest all is = (
+  written_out rest,
+  append_assoc earlier (written_out first) (written_out rest)
+      ∙ ap (λ (l : List Step). earlier ++ l) (sym (written_out-append first rest) ∙ ap written_out (sym is)),
 )
 
--- the run broke off after these jobs
+-- the call stopped after these jobs
 pub breaks_behind : (base : Base) (earlier : History) (engine : Engine) (journal : Journal) (first states : Option (List Disk)) (before after : List ℕ)
     (jobs rest all : List Job) → all ≡ jobs ++ rest → AnswersJobs base earlier engine journal first states jobs before after
-    → IsInterrupted base earlier (asks_in earlier ++ map asked_by all) first states
+    → IsInterrupted base earlier (order_in earlier ++ written_out all) first states
 breaks_behind base earlier engine journal first states before after jobs rest all is so_far =
-    let asks = asks_in earlier ++ map asked_by all in
+    let order = order_in earlier ++ written_out all in
     let since = so_far.since in
-    let among : IsPrefix (asks_in so_far.history) asks =
-    subst (λ (l : List (TxnName × Ask)). IsPrefix l asks) (sym so_far.asks) (first_asks (asks_in earlier) jobs rest all is) in
-    breaks_now base since.0 earlier asks first states
+    let among : IsPrefix (order_in so_far.history) order =
+    subst (λ (l : List Step). IsPrefix l order) (sym so_far.order) (first_steps (order_in earlier) jobs rest all is) in
+    breaks_now base since.0 earlier order first states
     (subst (λ (h : History). IsLegal base h) since.1 so_far.ready.behind.stands.legal)
-    (subst (λ (h : History). IsPrefix (asks_in h) asks) since.1 among)
+    (subst (λ (h : History). IsPrefix (order_in h) order) since.1 among)
     (subst (λ (h : History). Lasts base h first states) since.1 so_far.lasts)
     (subst (λ (h : History). StepsSurvive base h h states) since.1 (ready_keeps base so_far.history engine journal states so_far.ready))
 
--- the run broke off at the job after these
+-- the call stopped at the job after these
 pub breaks_at : (base : Base) (earlier : History) (engine : Engine) (journal : Journal) (first before_states states : Option (List Disk))
     (before middle : List ℕ) (jobs : List Job) (job : Job) (rest all : List Job) → all ≡ jobs ++ job ∷ rest
     → (so_far : AnswersJobs base earlier engine journal first before_states jobs before middle)
-    → IsInterrupted base so_far.history (asks_in so_far.history ++ asked_by job ∷ []) before_states states
-    → IsInterrupted base earlier (asks_in earlier ++ map asked_by all) first states
+    → IsInterrupted base so_far.history (order_in so_far.history ++ job_steps job) before_states states
+    → IsInterrupted base earlier (order_in earlier ++ written_out all) first states
 breaks_at base earlier engine journal first before_states states before middle jobs job rest all is so_far breaks =
-    let asks = asks_in earlier ++ map asked_by all in
+    let order = order_in earlier ++ written_out all in
     let since = so_far.since in
-    let one_more : asks_in so_far.history ++ asked_by job ∷ [] ≡ asks_in earlier ++ map asked_by (jobs ++ job ∷ []) =
-    ap (λ (l : List (TxnName × Ask)). l ++ asked_by job ∷ []) so_far.asks
-    ∙ append_assoc (asks_in earlier) (map asked_by jobs) (asked_by job ∷ [])
-    ∙ ap (λ (l : List (TxnName × Ask)). asks_in earlier ++ l) (sym (map_push asked_by jobs job)) in
-    let among : IsPrefix (asks_in so_far.history ++ asked_by job ∷ []) asks =
-    subst (λ (l : List (TxnName × Ask)). IsPrefix l asks) (sym one_more)
-    (first_asks (asks_in earlier) (jobs ++ job ∷ []) rest all (is ∙ sym (append_assoc jobs (job ∷ []) rest))) in
-    breaks_on base since.0 earlier asks first before_states states
+    let one_more : order_in so_far.history ++ job_steps job ≡ order_in earlier ++ written_out (jobs ++ job ∷ []) =
+    ap (λ (l : List Step). l ++ job_steps job) so_far.order
+    ∙ append_assoc (order_in earlier) (written_out jobs) (job_steps job)
+    ∙ ap (λ (l : List Step). order_in earlier ++ l) (sym (written_out-push jobs job)) in
+    let among : IsPrefix (order_in so_far.history ++ job_steps job) order =
+    subst (λ (l : List Step). IsPrefix l order) (sym one_more)
+    (first_steps (order_in earlier) (jobs ++ job ∷ []) rest all (is ∙ sym (append_assoc jobs (job ∷ []) rest))) in
+    breaks_on base since.0 earlier order first before_states states
     (subst (λ (h : History). Lasts base h first before_states) since.1 so_far.lasts)
-    (subst (λ (h : History). IsInterrupted base h asks before_states states) since.1
-    (breaks_among base so_far.history (asks_in so_far.history ++ asked_by job ∷ []) asks before_states states among breaks))
+    (subst (λ (h : History). IsInterrupted base h order before_states states) since.1
+    (breaks_among base so_far.history (order_in so_far.history ++ job_steps job) order before_states states among breaks))

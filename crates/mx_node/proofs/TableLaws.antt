@@ -3,12 +3,12 @@ use Rattle.std.proofs.Common.{◌≡◌, ℕ, zero, suc, ◌+◌, ◌<◌, Bool,
 use Rattle.std.specs.Prelude.{Option, replicate, if◌then◌else◌}
 use Rattle.std.specs.Vec.{with_items}
 use Rattle.std.proofs.lemmas.List.{append-nil, append_assoc, take_at, take_more, length-set, length-take-le, set-set}
-use Rattle.mx_base.specs.declared.ids.TxnName.{TxnName}
-use Rattle.mx_request.specs.declared.request.Ask.{Ask}
 use Rattle.mx_session.specs.Sessions.{SessionState}
-use Rattle.mx_model.specs.Histories.{Base, History, Left, asks_in, leaving, ledger_of, replies_in}
+use Rattle.mx_model.specs.Histories.{Base, History, Left, clock_of, replies_in, state_of}
+use Rattle.mx_model.specs.Order.{Step, order_in}
 use Rattle.mx_node.specs.Inputs.{InputUnit}
-use Rattle.mx_node.specs.Connections.{came_on, is_open, leaves_from}
+use Rattle.mx_node.specs.Connections.{came_on, is_open}
+use Rattle.mx_node.specs.Order.{departure_where, departures_from}
 use Rattle.mx_node.specs.Serving.{HasSession, goes_on, left_from, session_at}
 
 pub none_at : (count connection : ℕ) → session_at (replicate count None) connection ≡ None
@@ -67,17 +67,28 @@ left_from-next number sessions slot history within is =
     ∙ left_from-push 0 before slot history
     ∙ ap (λ (n : ℕ). left_from n (slot ∷ []) (left_from 0 before history)) (omega (arith, long))
 
-left_by-ledger : (base : Base) (connection : ℕ) (stays : Bool) (history : History) → ledger_of base (left_by connection stays history) ≡ ledger_of base history
-left_by-ledger base connection true history = refl
-left_by-ledger base connection false history = refl
+left_by-state : (base : Base) (connection : ℕ) (stays : Bool) (history : History) → state_of base (left_by connection stays history) ≡ state_of base history
+left_by-state base connection true history = refl
+left_by-state base connection false history = refl
 
--- what a history has come to stays
-pub left_from-ledger : (base : Base) (connection : ℕ) (sessions : List (Option SessionState)) (history : History)
-    → ledger_of base (left_from connection sessions history) ≡ ledger_of base history
-left_from-ledger base connection [] history = refl
-left_from-ledger base connection (None ∷ sessions) history = left_from-ledger base (suc connection) sessions history
-left_from-ledger base connection (Some session ∷ sessions) history =
-    left_from-ledger base (suc connection) sessions (left_by connection session.ended history) ∙ left_by-ledger base connection session.ended history
+left_by-clock : (base : Base) (connection : ℕ) (stays : Bool) (history : History) → clock_of base (left_by connection stays history) ≡ clock_of base history
+left_by-clock base connection true history = refl
+left_by-clock base connection false history = refl
+
+-- the state and the vclock stay
+pub left_from-state : (base : Base) (connection : ℕ) (sessions : List (Option SessionState)) (history : History)
+    → state_of base (left_from connection sessions history) ≡ state_of base history
+left_from-state base connection [] history = refl
+left_from-state base connection (None ∷ sessions) history = left_from-state base (suc connection) sessions history
+left_from-state base connection (Some session ∷ sessions) history =
+    left_from-state base (suc connection) sessions (left_by connection session.ended history) ∙ left_by-state base connection session.ended history
+
+pub left_from-clock : (base : Base) (connection : ℕ) (sessions : List (Option SessionState)) (history : History)
+    → clock_of base (left_from connection sessions history) ≡ clock_of base history
+left_from-clock base connection [] history = refl
+left_from-clock base connection (None ∷ sessions) history = left_from-clock base (suc connection) sessions history
+left_from-clock base connection (Some session ∷ sessions) history =
+    left_from-clock base (suc connection) sessions (left_by connection session.ended history) ∙ left_by-clock base connection session.ended history
 
 pub left_by-replies : (connection : ℕ) (stays : Bool) (history : History) → replies_in (left_by connection stays history) ≡ replies_in history
 left_by-replies connection true history = refl
@@ -106,18 +117,12 @@ left_from-since connection (Some session ∷ sessions) history =
     let first = left_by connection session.ended history in
     left_by-since connection session.ended history (left_from (suc connection) sessions first) (left_from-since (suc connection) sessions first)
 
--- ---- the asks of connections that leave
+-- ---- the steps of connections that depart
 
-abbrev pub Leaves : Type 0
-Leaves = List (TxnName × Ask)
-
-abbrev pub leaves_where : (connection : ℕ) → Bool → Leaves
-leaves_where connection there = if there then leaving connection ∷ [] else []
-
-pub left_by-asks : (connection : ℕ) (ended there : Bool) (history : History) → there ≡ not ended
-    → asks_in (left_by connection ended history) ≡ asks_in history ++ leaves_where connection there
-left_by-asks connection true there history is = sym (append-nil (asks_in history)) ∙ ap (λ (b : Bool). asks_in history ++ leaves_where connection b) (sym is)
-left_by-asks connection false there history is = ap (λ (b : Bool). asks_in history ++ leaves_where connection b) (sym is)
+pub left_by-order : (connection : ℕ) (ended there : Bool) (history : History) → there ≡ not ended
+    → order_in (left_by connection ended history) ≡ order_in history ++ departure_where connection there
+left_by-order connection true there history is = sym (append-nil (order_in history)) ∙ ap (λ (b : Bool). order_in history ++ departure_where connection b) (sym is)
+left_by-order connection false there history is = ap (λ (b : Bool). order_in history ++ departure_where connection b) (sym is)
 
 -- a connection without a session isn't there
 pub not_there : (connection : ℕ) (came : List ℕ) → HasSession connection came None → is_open connection came ≡ false
@@ -135,20 +140,20 @@ pub there_where : (connection : ℕ) (came : List ℕ) (slot : Option SessionSta
 there_where connection came None has = not_there connection came has
 there_where connection came (Some session) has = there_unless_ended connection came session has
 
-pub left_from-asks : (connection : ℕ) (sessions : List (Option SessionState)) (units : List InputUnit) (history : History)
+pub left_from-order : (connection : ℕ) (sessions : List (Option SessionState)) (units : List InputUnit) (history : History)
     → ((number place : ℕ) → number ≡ connection + place → place < length sessions → HasSession number (came_on number units) (session_at sessions place))
-    → asks_in (left_from connection sessions history) ≡ asks_in history ++ leaves_from connection (length sessions) units
-left_from-asks connection [] units history has = sym (append-nil (asks_in history))
-left_from-asks connection (None ∷ sessions) units history has =
+    → order_in (left_from connection sessions history) ≡ order_in history ++ departures_from connection (length sessions) units
+left_from-order connection [] units history has = sym (append-nil (order_in history))
+left_from-order connection (None ∷ sessions) units history has =
     let there = not_there connection (came_on connection units) (has connection 0 (omega arith) (omega arith)) in
-    let rest = leaves_from (suc connection) (length sessions) units in
-    left_from-asks (suc connection) sessions units history (λ number place is within. has number (suc place) (omega (arith, is)) (omega (arith, within)))
-    ∙ ap (λ (b : Bool). asks_in history ++ (leaves_where connection b ++ rest)) (sym there)
-left_from-asks connection (Some session ∷ sessions) units history has =
+    let rest = departures_from (suc connection) (length sessions) units in
+    left_from-order (suc connection) sessions units history (λ number place is within. has number (suc place) (omega (arith, is)) (omega (arith, within)))
+    ∙ ap (λ (b : Bool). order_in history ++ (departure_where connection b ++ rest)) (sym there)
+left_from-order connection (Some session ∷ sessions) units history has =
     let there = there_unless_ended connection (came_on connection units) session (has connection 0 (omega arith) (omega arith)) in
     let is_there = is_open connection (came_on connection units) in
-    let rest = leaves_from (suc connection) (length sessions) units in
-    left_from-asks (suc connection) sessions units (left_by connection session.ended history)
+    let rest = departures_from (suc connection) (length sessions) units in
+    left_from-order (suc connection) sessions units (left_by connection session.ended history)
     (λ number place is within. has number (suc place) (omega (arith, is)) (omega (arith, within)))
-    ∙ ap (λ (l : Leaves). l ++ rest) (left_by-asks connection session.ended is_there history there)
-    ∙ append_assoc (asks_in history) (leaves_where connection is_there) rest
+    ∙ ap (λ (l : List Step). l ++ rest) (left_by-order connection session.ended is_there history there)
+    ∙ append_assoc (order_in history) (departure_where connection is_there) rest

@@ -1,5 +1,6 @@
 pub mod Inputs
 pub mod Connections
+pub mod Order
 pub mod Starts
 pub mod Outputs
 pub mod Ready

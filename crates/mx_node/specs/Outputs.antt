@@ -34,7 +34,7 @@ abbrev pub sent_on : ℕ → List ℕ → List OutUnit
 sent_on connection [] = []
 sent_on connection (byte ∷ bytes) = record { conn = record { 0 = connection }; bytes = byte ∷ bytes } ∷ []
 
--- word that the server has closed a connection
+-- the server has closed a connection
 abbrev pub closed_on : ℕ → OutUnit
 closed_on connection = record { conn = record { 0 = connection }; bytes = [] }
 

@@ -1,4 +1,4 @@
--- How engine, journal and directory stand together between two requests.
+-- How engine, journal and directory agree between two requests.
 use Rattle.std.specs.Prelude.{◌≡◌, ⊤, ℕ, true, false, List, [], ◌∷◌, ◌++◌, length, take, map, Option}
 use Rattle.std.specs.FinMap as finite
 use Rattle.mx_outside.specs.Disks.{Disk, IfKnown}
@@ -11,7 +11,9 @@ use Rattle.mx_session.specs.Sessions.{SessionState}
 use Rattle.mx_frame.specs.Packets.{rest_of}
 use Rattle.mx_row.specs.Clocks.{clock_after, clock_after_one, follows}
 use Rattle.mx_model.specs.Directories.{Continues, ids_in}
-use Rattle.mx_model.specs.Histories.{Base, History, Entry, Asked, Took, Confirmed, asks_in, replies_in, ledger_of, journal_of}
+use Rattle.mx_model.specs.Histories.{Base, History, Entry, Asked, Took, Confirmed, replies_in, ledger_of, journal_of}
+use Rattle.mx_model.specs.Order.{order_in}
+use Rattle.mx_model.specs.Gate.{RepliesMayLeave}
 use Rattle.mx_model.specs.ReplyStream.{packet_of_reply, packets_of_replies}
 use Rattle.mx_engine.specs.declared.engine.Engine.{Engine}
 use Rattle.mx_engine.specs.Standing.{EngineStandsFor}
@@ -19,7 +21,7 @@ use Rattle.mx_journal.specs.declared.journal.Journal.{Journal}
 use Rattle.mx_journal.specs.Written.{IsWritten, Waits, name_of}
 use Rattle.mx_images.specs.Fair.{AllDurable}
 use Rattle.mx_model.specs.Survival.{Lasts}
-use Rattle.mx_node.specs.Connections.{asked_by}
+use Rattle.mx_node.specs.Order.{written_out}
 use Rattle.mx_node.specs.Outputs.{schema_version, sync_of}
 
 -- the commits that were taken to be written
@@ -37,12 +39,13 @@ pub record Behind (base : Base) (history : History) (engine : Engine) (journal :
   pub written : IfKnown states (λ disk past. IsWritten journal disk (taken_of base history)
       × Continues base (name_of journal.head) disk.now × AllDurable disk × (disk.older ≡ finite.empty))
 
--- the same, and all commits were taken
+-- the same, all commits were taken, and every reply may leave
 pub record Ready (base : Base) (history : History) (engine : Engine) (journal : Journal) (states : Option (List Disk)) : Type 0 where
   pub behind : Behind base history engine journal states
   pub taken : (ledger_of base history).taken ≡ length (journal_of base history)
+  pub gate : RepliesMayLeave base history
 
--- so they stand for some history
+-- so it is with some history
 abbrev pub IsBehind : Engine → Journal → Option (List Disk) → Type 0
 IsBehind engine journal states = (base : Base) × (history : History) × Behind base history engine journal states
 
@@ -84,7 +87,7 @@ pub record AnswersJobs (base : Base) (earlier : History) (engine : Engine) (jour
   pub ready : Ready base history engine journal states
   pub since : (more : History) × (history ≡ more ++ earlier)
   pub lasts : Lasts base history old states
-  pub asks : asks_in history ≡ asks_in earlier ++ map asked_by jobs
+  pub order : order_in history ≡ order_in earlier ++ written_out jobs
   pub told : replies_in history ≡ replies_in earlier ++ replies
   pub each : length replies ≡ length jobs
   pub output : after ≡ before ++ packets_of_replies schema_version (map sync_of jobs) replies

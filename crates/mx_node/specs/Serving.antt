@@ -1,13 +1,18 @@
 -- What a server has done for the units so far.
-use Rattle.std.specs.Prelude.{◌≡◌, ℕ, suc, ◌≤◌, Bool, false, not, List, [], ◌∷◌, ◌++◌, length, slice_index_or, Option, Some, None, IfSome, if◌then◌else◌, Ok}
-use Rattle.mx_outside.specs.Disks.{Disk, IfKnown}
+use Rattle.std.specs.Prelude.{◌≡◌, ℕ, suc, ◌≤◌, Bool, false, not, List, [], ◌∷◌, ◌++◌, length, slice_index_or, sum, Option, Some, None, IfSome, if◌then◌else◌, Ok}
+use Rattle.std.specs.FinMap as finite
+use Rattle.mx_outside.specs.Disks.{Disk, IfKnown, synced_file}
+use Rattle.mx_xlog.specs.Blocks.{end_marker}
+use Rattle.mx_files.specs.Names.{journal_name}
 use Rattle.mx_frame.specs.Packets.{rest_of}
 use Rattle.mx_session.specs.Jobs.{ends}
 use Rattle.mx_session.specs.Sessions.{SessionState}
-use Rattle.mx_model.specs.Histories.{History, Left, IsLegal, asks_in, replies_in, Base, state_of, clock_of}
+use Rattle.mx_model.specs.Histories.{History, Left, IsLegal, replies_in, Base, state_of, clock_of}
+use Rattle.mx_model.specs.Order.{order_in}
 use Rattle.mx_node.specs.declared.single.Single.{Single}
 use Rattle.mx_node.specs.Inputs.{InputUnit, max_connection}
-use Rattle.mx_node.specs.Connections.{came_on, asks_of, all_asks_of, jobs_from}
+use Rattle.mx_node.specs.Connections.{came_on, jobs_from}
+use Rattle.mx_node.specs.Order.{order_of, whole_order_of}
 use Rattle.mx_node.specs.Starts.{Start, start_greeting}
 use Rattle.mx_node.specs.Outputs.{output_of}
 use Rattle.mx_model.specs.declared.out_units.OutUnit.{OutUnit}
@@ -16,7 +21,11 @@ use Rattle.mx_model.specs.Survival.{Lasts}
 use Rattle.mx_model.specs.Directories.{Reached, IsDirectoryState}
 use Rattle.mx_images.specs.Fair.{AllDurable}
 
--- The directory stands for what the history has come to, and all of its journals are durable.
+-- the journal that goes on from the base was ended in order: the marker is the end of its file
+abbrev pub HasEndMarker : Base → Disk → Type 0
+HasEndMarker base disk = (text : List ℕ) × (finite.get disk.now (journal_name (sum base.clock)) ≡ Some (synced_file (text ++ end_marker)))
+
+-- The directory recovers to what the history has come to. All of its journals are durable, and the last one was ended in order.
 pub record DirectoryHolds (base : Base) (history : History) (disk : Disk) : Type 0 where
   pub reached : Reached
   pub stands : IsDirectoryState disk.now (Ok reached)
@@ -24,6 +33,7 @@ pub record DirectoryHolds (base : Base) (history : History) (disk : Disk) : Type
   pub state : reached.state ≡ state_of base history
   pub clock : reached.clock ≡ clock_of base history
   pub synced : AllDurable disk
+  pub marker : HasEndMarker base disk
 
 -- The session of a connection on which these bytes came: none of its replies waits or is to be sent, and the bytes after the
 -- whole packets wait, unless one of these ended the connection.
@@ -60,13 +70,13 @@ IsTable sessions = length sessions ≡ suc max_connection
 abbrev pub IsIdle : SessionState → Type 0
 IsIdle session = session.waiting ≡ []
 
--- engine, journal and directory stand together, each connection has its place, and no reply waits
+-- engine, journal and directory agree, each connection has its place, and no reply waits
 pub record CanServe (server : Single) (states : Option (List Disk)) : Type 0 where
   pub ready : IsReady server.engine server.journal states
   pub table : IsTable server.sessions.items
   pub idle : (connection : ℕ) → IfSome (session_at server.sessions.items connection) IsIdle
 
--- the session of a connection that opens, on which this greeting leaves
+-- the session of a connection that opens, to which this greeting is sent
 abbrev pub opened : (connection : ℕ) → (greeting : List ℕ) → SessionState
 opened connection greeting = record { connection = connection; rest = []; ended = false; waiting = []; out = greeting }
 
@@ -81,7 +91,7 @@ left_from connection (Some session ∷ others) history =
 pub record Serves (start : Start) (server : Single) (units : List InputUnit) (history : History) (states : Option (List Disk)) : Type 0 where
   pub greeting : server.greeting ≡ start_greeting start
   pub ready : Ready start.base history server.engine server.journal states
-  pub asks : asks_in history ≡ asks_of units
+  pub order : order_in history ≡ order_of units
   pub told : length (replies_in history) ≡ length (jobs_from [] units)
   pub table : IsTable server.sessions.items
   pub sessions : (connection : ℕ) → connection ≤ max_connection → HasSession connection (came_on connection units) (session_at server.sessions.items connection)
@@ -99,7 +109,7 @@ pub record EndedNode (start : Start) (units : List InputUnit) (earlier : History
   pub history : History
   pub since : (more : History) × (history ≡ more ++ earlier)
   pub legal : IsLegal start.base history
-  pub asks : asks_in history ≡ all_asks_of units
+  pub order : order_in history ≡ whole_order_of units
   pub told : replies_in history ≡ replies_in earlier
   pub lasts : Lasts start.base history old states
   pub keeps : IfKnown states (λ disk past. DirectoryHolds start.base history disk)

@@ -1,8 +1,10 @@
 //! Commits: what an engine committed is written to the journal and synced.
 
-ghost use Rattle.std.specs.Prelude.{◌≡◌, ◌+◌, ◌<◌, ◌^◌, ◌++◌, ◌∷◌, ℕ, List, OnOk};
+ghost use Rattle.std.specs.Prelude.{◌≡◌, ◌+◌, ◌<◌, ◌^◌, ◌++◌, ◌∷◌, ⊤, ℕ, List, OnOk, IsTrue, ◌↔◌};
 ghost use Rattle.mx_outside.specs.Causes.{HasCauseOf};
-ghost use Rattle.mx_outside.specs.Disks.{Disk};
+ghost use Rattle.mx_outside.specs.Disks.{Disk, IfKnown};
+ghost use Rattle.mx_outside.specs.Moments.{Moments};
+ghost use Rattle.mx_images.specs.Changes.{KeepsOthers};
 ghost use Rattle.mx_journal.specs.declared.fault.JournalFault.TheVariants.{Failed};
 ghost use Rattle.mx_journal.specs.Written.{IsWritten, Waits};
 ghost use Rattle.mx_row.specs.declared.tx.Tx.{Tx};
@@ -19,7 +21,14 @@ use mx_row::Tx;
 use std::alloc::{AllocError, Global};
 
 /// The maximum number of an engine's steps: one for each entry, three for a job.
-pub(crate) const MAX_STEPS: u64 = (1 << 63) - 1;
+const MAX_STEPS: u64 = (1 << 63) - 1;
+
+/// Whether the engine can take so many steps more.
+pub(crate) fn has_room(engine: &Engine, steps: u64) -> bool
+    ensures { IsTrue result ↔ (engine.now.count + steps < 2 ^ 63) }
+{
+    engine.count().saturating_add(steps) <= MAX_STEPS
+}
 
 /// Writes what the engine committed, and tells the engine once it is durable.
 pub(crate) fn write_out<D: Dir>(
@@ -34,6 +43,7 @@ pub(crate) fn write_out<D: Dir>(
         → OnOk result ((txs : List Tx) × (upto : ℕ) × Ready base (Confirmed upto ∷ Took txs upto ∷ history) engine.new journal.new (D.states dir.new)) }
     ensures lasts { (base : Base) (history : History) → Behind base history engine.old journal.old (D.states dir.old)
         → Lasts base history (D.states dir.old) (D.states dir.new) }
+    ensures others { IfKnown (D.states dir.old) (λ disk past. Moments (λ _. ⊤) KeepsOthers (D.states dir.new) disk past) }
     ensures cause { HasCauseOf Failed (D.faults dir.old) (D.faults dir.new) result }
 {
     let pending = engine.take_pending();
@@ -65,7 +75,7 @@ pub(crate) fn leave(engine: &mut Engine, connection: ConnId) -> Result<(), Alloc
     ensures { (base : Base) (history : History) → EngineStandsFor engine.old base history
         → OnOk result (EngineStandsFor engine.new base (Left connection.0 ∷ history)) }
 {
-    if engine.count() >= MAX_STEPS {
+    if !has_room(engine, 1) {
         return Err(AllocError);
     }
     engine.leave(connection);

@@ -1,19 +1,24 @@
 //! Jobs: what the packets of a connection are answered.
 
-ghost use Rattle.std.specs.Prelude.{◌≡◌, ◌<◌, ◌^◌, ◌-◌, ◌++◌, ◌∷◌, [], ℕ, List, false, true, map, IfOk, OnOk, OnErr, if◌then◌else◌};
+ghost use Rattle.std.specs.Prelude.{◌≡◌, ◌<◌, ◌^◌, ◌-◌, ◌++◌, ◌∷◌, [], ⊤, ℕ, List, false, true, IfOk, OnOk, OnErr, if◌then◌else◌};
 ghost use Rattle.mx_outside.specs.Causes.{HasCauseOf};
+ghost use Rattle.mx_outside.specs.Disks.{IfKnown};
+ghost use Rattle.mx_outside.specs.Moments.{Moments};
+ghost use Rattle.mx_images.specs.Changes.{KeepsOthers};
 ghost use Rattle.mx_journal.specs.declared.fault.JournalFault.TheVariants.{Failed};
-ghost use Rattle.mx_model.specs.Histories.{Base, History, asks_in};
+ghost use Rattle.mx_model.specs.Histories.{Base, History};
+ghost use Rattle.mx_model.specs.Order.{order_in};
 ghost use Rattle.mx_model.specs.ReplyStream.{packet_of_reply};
 ghost use Rattle.mx_engine.specs.Standing.{EngineStandsFor};
 ghost use Rattle.mx_engine.specs.Views.{reply_view};
 ghost use Rattle.mx_session.specs.Jobs.{ends, jobs_of};
 ghost use Rattle.mx_node.specs.Outputs.{schema_version};
-ghost use Rattle.mx_node.specs.Connections.{asked_by, IsJob};
+ghost use Rattle.mx_node.specs.Connections.{IsJob};
+ghost use Rattle.mx_node.specs.Order.{job_steps, written_out};
 ghost use Rattle.mx_node.specs.Interrupted.{IsInterrupted};
 ghost use Rattle.mx_node.specs.Ready.{Ready, IsReady, Replied, AnswersJob, AnswersJobs, TakenAll};
 
-use crate::commits::{MAX_STEPS, write_out};
+use crate::commits::{has_room, write_out};
 use mx_base::{Refusal, SyncId};
 use mx_engine::{Answer, Engine};
 use mx_journal::{Journal, JournalFault};
@@ -23,6 +28,9 @@ use mx_reply::{ReplyBody, write_error, write_id, write_ok};
 use mx_request::Ask;
 use mx_session::{Job, Next, Session};
 use std::alloc::{AllocError, Global};
+
+/// The steps of a job: it is answered, and what is committed is taken and confirmed.
+const JOB_STEPS: u64 = 3;
 
 /// The schema's version: no request changes the schema yet.
 const SCHEMA: u32 = 0;
@@ -46,8 +54,9 @@ pub(crate) fn answer_bytes<D: Dir>(
         (jobs_of session.old.connection (session.old.rest ++ bytes.now)) session.old.out session.new.out) }
     ensures taken { session.old.ended ≡ false → OnOk result (TakenAll (record session.old { rest = session.old.rest ++ bytes.now }) session.new) }
     ensures breaks { (base : Base) (history : History) → Ready base history engine.old journal.old (D.states dir.old)
-        → OnErr result (IsInterrupted base history (asks_in history ++ map asked_by (if session.old.ended then [] else jobs_of session.old.connection (session.old.rest ++ bytes.now))) (D.states dir.old) (D.states dir.new)) }
+        → OnErr result (IsInterrupted base history (order_in history ++ written_out (if session.old.ended then [] else jobs_of session.old.connection (session.old.rest ++ bytes.now))) (D.states dir.old) (D.states dir.new)) }
     ensures ready { OnOk result (IsReady engine.new journal.new (D.states dir.new)) }
+    ensures others { IfKnown (D.states dir.old) (λ disk past. Moments (λ _. ⊤) KeepsOthers (D.states dir.new) disk past) }
     ensures cause { HasCauseOf Failed (D.faults dir.old) (D.faults dir.new) result }
 {
     if session.has_ended() {
@@ -75,8 +84,9 @@ fn answer_packets<D: Dir>(
         (jobs_of session.old.connection session.old.rest) session.old.out session.new.out) }
     ensures taken { OnOk result (TakenAll session.old session.new) }
     ensures breaks { (base : Base) (history : History) → Ready base history engine.old journal.old (D.states dir.old)
-        → OnErr result (IsInterrupted base history (asks_in history ++ map asked_by (jobs_of session.old.connection session.old.rest)) (D.states dir.old) (D.states dir.new)) }
+        → OnErr result (IsInterrupted base history (order_in history ++ written_out (jobs_of session.old.connection session.old.rest)) (D.states dir.old) (D.states dir.new)) }
     ensures ready { OnOk result (IsReady engine.new journal.new (D.states dir.new)) }
+    ensures others { IfKnown (D.states dir.old) (λ disk past. Moments (λ _. ⊤) KeepsOthers (D.states dir.new) disk past) }
     ensures cause { HasCauseOf Failed (D.faults dir.old) (D.faults dir.new) result }
 {
     while let Next::Job(job) = session.next_job()? {
@@ -100,10 +110,11 @@ fn answer<D: Dir>(
     ensures answers { (base : Base) (history : History) → Ready base history engine.old journal.old (D.states dir.old)
         → OnOk result (AnswersJob base history engine.new journal.new (D.states dir.old) (D.states dir.new) job session.old session.new) }
     ensures breaks { (base : Base) (history : History) → Ready base history engine.old journal.old (D.states dir.old)
-        → OnErr result (IsInterrupted base history (asks_in history ++ asked_by job ∷ []) (D.states dir.old) (D.states dir.new)) }
+        → OnErr result (IsInterrupted base history (order_in history ++ job_steps job) (D.states dir.old) (D.states dir.new)) }
+    ensures others { IfKnown (D.states dir.old) (λ disk past. Moments (λ _. ⊤) KeepsOthers (D.states dir.new) disk past) }
     ensures cause { HasCauseOf Failed (D.faults dir.old) (D.faults dir.new) result }
 {
-    if engine.count() > MAX_STEPS - 3 {
+    if !has_room(engine, JOB_STEPS) {
         return Err(JournalFault::NoMemory);
     }
     let reply = reply(alloc, engine, &job)?;

@@ -5,7 +5,7 @@ ghost use Rattle.std.specs.FinMap as finite;
 ghost use Rattle.mx_outside.specs.Disks.{Disk, IsImage};
 ghost use Rattle.mx_row.specs.declared.tx.Tx.{Tx};
 ghost use Rattle.mx_images.specs.Fair.{IsFairEnd};
-ghost use Rattle.mx_model.specs.Survival.{FollowFromNew, Recovers, Survive};
+ghost use Rattle.mx_model.specs.Survival.{FollowFromNew, ReadsMost, Recovers, Survive};
 
 /// A theorem, which does nothing when it is called: a directory without files recovers no transaction.
 pub fn an_empty_directory_recovers()
@@ -18,4 +18,12 @@ pub fn what_a_crash_leaves_recovers()
     ensures { (transactions : List Tx) (least : ℕ) (disk image : Disk) → FollowFromNew transactions → Survive transactions least disk
         → IsImage IsFairEnd disk image
         → (count : ℕ) × (least ≤ count) × (count ≤ length transactions) × Recovers (take count transactions) (Some (image ∷ [])) }
+{}
+
+/// A theorem, which does nothing when it is called: a directory as a killed process leaves it, synced
+/// or not, recovers what it reads as, and that is no less than what survives a crash.
+pub fn what_a_kill_leaves_recovers()
+    ensures { (transactions : List Tx) (least : ℕ) (disk : Disk) (past : List Disk) → FollowFromNew transactions → Survive transactions least disk
+        → ReadsMost transactions disk
+        → (count : ℕ) × (least ≤ count) × (count ≤ length transactions) × Recovers (take count transactions) (Some (disk ∷ past)) }
 {}

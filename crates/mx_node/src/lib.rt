@@ -9,6 +9,8 @@ mod single;
 mod start;
 mod unit;
 
-pub use laws::{an_empty_directory_recovers, what_a_crash_leaves_recovers};
+pub use laws::{
+    an_empty_directory_recovers, what_a_crash_leaves_recovers, what_a_kill_leaves_recovers,
+};
 pub use single::Single;
 pub use unit::{MAX_CONNECTION, Unit};

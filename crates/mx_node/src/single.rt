@@ -31,28 +31,30 @@ pub struct Single {
 }
 
 impl Single {
-    ghost use Rattle.std.specs.Prelude.{ℕ, List, Option};
+    ghost use Rattle.std.specs.Prelude.{ℕ, ⊤, List, Option};
     ghost use mathlib.Core.List.{IsPrefix};
-    ghost use Rattle.mx_outside.specs.Causes.{HasCauseOf, Rose};
+    ghost use Rattle.mx_outside.specs.Causes.{HasCauseOf};
     ghost use Rattle.mx_outside.specs.Disks.{Disk, IfKnown, KnownAlike};
     ghost use Rattle.mx_outside.specs.Moments.{Moments};
+    ghost use Rattle.mx_images.specs.Changes.{KeepsOthers};
     ghost use Rattle.mx_journal.specs.declared.fault.JournalFault.TheVariants.{Failed as JournalFailed};
     ghost use Rattle.mx_row.specs.declared.tx.Tx.{Tx};
     ghost use Rattle.mx_model.specs.declared.damage.Damage.{Damage};
     ghost use Rattle.mx_model.specs.Directories.{IsDirectoryState};
     ghost use Rattle.mx_model.specs.Histories.{Base, History};
-    ghost use Rattle.mx_model.specs.Survival.{Lasts, Recovers, FollowFromNew, Survive, NoFewerSurvive};
+    ghost use Rattle.mx_model.specs.Survival.{Lasts, Recovers, FollowFromNew, ReadsMost, Survive, NoFewerSurvive};
     ghost use Rattle.mx_recover.specs.declared.fault.RecoverFault.TheVariants.{Damaged, Failed};
     ghost use Rattle.mx_node.specs.Inputs.{InputUnit, Bytes, Close, connection_of, max_connection};
     ghost use Rattle.mx_node.specs.Views.{unit_view};
-    ghost use Rattle.mx_node.specs.Connections.{all_asks_of, asks_by, asks_of};
+    ghost use Rattle.mx_node.specs.Order.{order_by, order_of, whole_order_of};
     ghost use Rattle.mx_node.specs.Starts.{Start, IsStart};
     ghost use Rattle.mx_node.specs.Ready.{Ready};
     ghost use Rattle.mx_node.specs.Interrupted.{IsInterrupted};
     ghost use Rattle.mx_node.specs.Serving.{CanServe, EndedNode, IsTable, Serves, AnswersUnit};
 
     /// Opens a directory: recovers it, makes what was read durable, and begins a journal that goes on
-    /// from there. A directory without files takes the identifiers. The salt is the greeting's.
+    /// from there. A directory without files takes the identifiers. The salt is the greeting's. Files
+    /// that aren't the database's are kept, by each call.
     ///
     /// # Errors
     /// The directory is damaged, and nothing in it was changed; a call on it failed; or out of memory.
@@ -67,10 +69,12 @@ impl Single {
         ensures told { KnownAlike (D.states dir.old) (D.states dir.new) }
         ensures moments { (earlier transactions : List Tx) → Recovers earlier (D.states dir.old) → IsPrefix earlier transactions → FollowFromNew transactions
             → IfKnown (D.states dir.old) (λ disk past. Moments (Survive transactions 0) (NoFewerSurvive transactions) (D.states dir.new) disk past) }
+        ensures reads { (earlier transactions : List Tx) → Recovers earlier (D.states dir.old) → IsPrefix earlier transactions → FollowFromNew transactions
+            → IfKnown (D.states dir.old) (λ disk past. Moments (ReadsMost transactions) (λ _ _. ⊤) (D.states dir.new) disk past) }
+        ensures others { IfKnown (D.states dir.old) (λ disk past. Moments (λ _. ⊤) KeepsOthers (D.states dir.new) disk past) }
         ensures damaged { (damage : Damage) → result ≡ Err (Damaged damage)
             → IfKnown (D.states dir.old) (λ disk past. IsDirectoryState disk.now (Err damage)) × (D.states dir.new ≡ D.states dir.old) }
-        ensures later { D.faults dir.old ≤ D.faults dir.new }
-        ensures fault { result ≡ Err Failed → Rose (D.faults dir.old) (D.faults dir.new) }
+        ensures cause { HasCauseOf Failed (D.faults dir.old) (D.faults dir.new) result }
     {
         let opened = open(alloc, dir, ids)?;
         Ok(Single::over(alloc, salt, opened)?)
@@ -91,8 +95,8 @@ impl Single {
         })
     }
 
-    /// Takes a unit, and gives what its connection is sent for it: replies, and word that the
-    /// server has closed it. What the unit commits is durable then.
+    /// Takes a unit, and gives what its connection is sent for it: replies, and an empty unit where
+    /// the server closes it. What the unit commits is durable then.
     ///
     /// # Errors
     /// A call on the directory failed, or out of memory. The node is of no use then.
@@ -102,8 +106,9 @@ impl Single {
         ensures took { (start : Start) (units : List InputUnit) (history : History) → Serves start self.old units history (D.states dir.old)
             → IfOk result (λ sent. AnswersUnit start self.new units history (unit_view unit.entry) sent (D.states dir.old) (D.states dir.new)) }
         ensures breaks { (start : Start) (units : List InputUnit) (history : History) → Serves start self.old units history (D.states dir.old)
-            → OnErr result (IsInterrupted start.base history (asks_of units ++ asks_by units (unit_view unit.entry)) (D.states dir.old) (D.states dir.new)) }
+            → OnErr result (IsInterrupted start.base history (order_of units ++ order_by units (unit_view unit.entry)) (D.states dir.old) (D.states dir.new)) }
         ensures serves { OnOk result (CanServe self.new (D.states dir.new)) }
+        ensures others { IfKnown (D.states dir.old) (λ disk past. Moments (λ _. ⊤) KeepsOthers (D.states dir.new) disk past) }
         ensures cause { HasCauseOf JournalFailed (D.faults dir.old) (D.faults dir.new) result }
     {
         match unit {
@@ -112,7 +117,7 @@ impl Single {
         }
     }
 
-    /// Takes bytes of a connection, which the first ones open, and gives what it is sent for them.
+    /// Takes bytes of a connection, and gives what it is sent for them.
     fn bytes<D: Dir>(
         &mut self,
         dir: &mut D,
@@ -124,8 +129,9 @@ impl Single {
         ensures took { (start : Start) (units : List InputUnit) (history : History) → Serves start self.old units history (D.states dir.old)
             → IfOk result (λ sent. AnswersUnit start self.new units history (Bytes connection.0 bytes.now) sent (D.states dir.old) (D.states dir.new)) }
         ensures breaks { (start : Start) (units : List InputUnit) (history : History) → Serves start self.old units history (D.states dir.old)
-            → OnErr result (IsInterrupted start.base history (asks_of units ++ asks_by units (Bytes connection.0 bytes.now)) (D.states dir.old) (D.states dir.new)) }
+            → OnErr result (IsInterrupted start.base history (order_of units ++ order_by units (Bytes connection.0 bytes.now)) (D.states dir.old) (D.states dir.new)) }
         ensures serves { OnOk result (CanServe self.new (D.states dir.new)) }
+        ensures others { IfKnown (D.states dir.old) (λ disk past. Moments (λ _. ⊤) KeepsOthers (D.states dir.new) disk past) }
         ensures cause { HasCauseOf JournalFailed (D.faults dir.old) (D.faults dir.new) result }
     {
         let mut out = OutUnits::new(self.alloc);
@@ -183,7 +189,8 @@ impl Single {
         ensures closed { (start : Start) (units : List InputUnit) (history : History) → Serves start self units history (D.states dir.old)
             → OnOk result (EndedNode start units history (D.states dir.old) (D.states dir.new)) }
         ensures breaks { (start : Start) (units : List InputUnit) (history : History) → Serves start self units history (D.states dir.old)
-            → OnErr result (IsInterrupted start.base history (all_asks_of units) (D.states dir.old) (D.states dir.new)) }
+            → OnErr result (IsInterrupted start.base history (whole_order_of units) (D.states dir.old) (D.states dir.new)) }
+        ensures others { IfKnown (D.states dir.old) (λ disk past. Moments (λ _. ⊤) KeepsOthers (D.states dir.new) disk past) }
         ensures cause { HasCauseOf JournalFailed (D.faults dir.old) (D.faults dir.new) result }
     {
         let Single {

@@ -1,16 +1,17 @@
 //! Opening a directory: it is recovered and made durable, and a new journal goes on from there.
 
-ghost use Rattle.std.specs.Prelude.{◌≡◌, ◌<◌, ◌≤◌, [], ℕ, List, length, Err, IfOk};
-ghost use Rattle.mx_outside.specs.Causes.{HasCauseOf, Rose};
+ghost use Rattle.std.specs.Prelude.{◌≡◌, ◌<◌, ◌≤◌, ⊤, [], ℕ, List, length, Err, IfOk};
+ghost use Rattle.mx_outside.specs.Causes.{HasCauseOf};
 ghost use Rattle.mx_outside.specs.Disks.{IfKnown, KnownAlike};
 ghost use Rattle.mx_outside.specs.Moments.{Moments};
 ghost use mathlib.Core.List.{IsPrefix};
+ghost use Rattle.mx_images.specs.Changes.{KeepsOthers};
 ghost use Rattle.mx_journal.specs.declared.fault.JournalFault.TheVariants.{Failed as JournalFailed};
 ghost use Rattle.mx_row.specs.declared.tx.Tx.{Tx};
 ghost use Rattle.mx_model.specs.declared.damage.Damage.{Damage};
 ghost use Rattle.mx_model.specs.Directories as files;
 ghost use Rattle.mx_model.specs.Directories.{IsDirectoryState};
-ghost use Rattle.mx_model.specs.Survival.{Recovers, StandsAfter, FollowFromNew, Survive, NoFewerSurvive};
+ghost use Rattle.mx_model.specs.Survival.{Recovers, StandsAfter, FollowFromNew, ReadsMost, Survive, NoFewerSurvive};
 ghost use Rattle.mx_recover.specs.declared.fault.RecoverFault.TheVariants.{Damaged, Failed};
 ghost use Rattle.mx_recover.specs.Replay.{IsDurableAt};
 ghost use Rattle.mx_node.specs.Starts.{Start, IsStart, base_of};
@@ -43,10 +44,12 @@ pub(crate) fn open<D: Dir>(alloc: Global, dir: &mut D, ids: &Ids) -> Result<Open
     ensures told { KnownAlike (D.states dir.old) (D.states dir.new) }
     ensures moments { (earlier transactions : List Tx) → Recovers earlier (D.states dir.old) → IsPrefix earlier transactions → FollowFromNew transactions
         → IfKnown (D.states dir.old) (λ disk past. Moments (Survive transactions 0) (NoFewerSurvive transactions) (D.states dir.new) disk past) }
+    ensures reads { (earlier transactions : List Tx) → Recovers earlier (D.states dir.old) → IsPrefix earlier transactions → FollowFromNew transactions
+        → IfKnown (D.states dir.old) (λ disk past. Moments (ReadsMost transactions) (λ _ _. ⊤) (D.states dir.new) disk past) }
+    ensures others { IfKnown (D.states dir.old) (λ disk past. Moments (λ _. ⊤) KeepsOthers (D.states dir.new) disk past) }
     ensures damaged { (damage : Damage) → result ≡ Err (Damaged damage)
         → IfKnown (D.states dir.old) (λ disk past. IsDirectoryState disk.now (Err damage)) × (D.states dir.new ≡ D.states dir.old) }
-    ensures later { D.faults dir.old ≤ D.faults dir.new }
-    ensures fault { result ≡ Err Failed → Rose (D.faults dir.old) (D.faults dir.new) }
+    ensures cause { HasCauseOf Failed (D.faults dir.old) (D.faults dir.new) result }
 {
     let reached = recover(alloc, dir)?;
     make_durable(alloc, dir)?;
@@ -73,6 +76,7 @@ fn begin<D: Dir>(
     ensures moments { (found : files.Reached) (earlier transactions : List Tx) → IsDurableAt reached found (D.states dir.old)
         → IfKnown (D.states dir.old) (λ disk past. StandsAfter earlier disk.now) → IsPrefix earlier transactions → FollowFromNew transactions
         → IfKnown (D.states dir.old) (λ disk past. Moments (Survive transactions (length earlier)) (NoFewerSurvive transactions) (D.states dir.new) disk past) }
+    ensures others { IfKnown (D.states dir.old) (λ disk past. Moments (λ _. ⊤) KeepsOthers (D.states dir.new) disk past) }
     ensures cause { HasCauseOf JournalFailed (D.faults dir.old) (D.faults dir.new) result }
 {
     let ids = reached.ids.unwrap_or(*ids);

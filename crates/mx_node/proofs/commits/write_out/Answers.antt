@@ -53,6 +53,7 @@ returns-in_err-write_out-clause-lasts g c = λ base history behind.
     write_out_lasts base history c.args.engine.now c.args.journal.now c.push_all.new.journal (g.D.Dir.states c.args.dir.now)
     (g.D.Dir.states c.write_out.new.dir) txs pending.result.upto behind c.write_out.ensures.told (pending.ensures base history behind.stands).legal
     (subst (Waits c.push_all.new.journal) c.as_slice.ensures (pushed.waits [] behind.waits)) pushed.written pushed.head c.write_out.ensures.moments
+    c.write_out.ensures.reads
 
 pub returns-clause-lasts : goal.returns-clause-lasts
 returns-clause-lasts g c = λ base history behind.
@@ -62,3 +63,4 @@ returns-clause-lasts g c = λ base history behind.
     write_out_lasts base history c.args.engine.now c.args.journal.now c.push_all.new.journal (g.D.Dir.states c.args.dir.now)
     (g.D.Dir.states c.write_out.new.dir) txs pending.result.upto behind c.write_out.ensures.told (pending.ensures base history behind.stands).legal
     (subst (Waits c.push_all.new.journal) c.as_slice.ensures (pushed.waits [] behind.waits)) pushed.written pushed.head c.write_out.ensures.moments
+    c.write_out.ensures.reads

@@ -1,6 +1,6 @@
 use Rattle.std.proofs.Common.{ℕ, ◌≤◌, List, [], ◌∷◌, ◌++◌, ap, ◌∙◌, arith}
 use Rattle.mx_model.specs.Histories.{Took, Confirmed}
-use Rattle.mx_node.specs.Connections.{asked_by}
+use Rattle.mx_node.specs.Order.{job_steps}
 use Rattle.mx_node.specs.Ready.{step_of}
 use Rattle.mx_node.proofs.KeepLaws.{ready_keeps}
 use Rattle.mx_node.proofs.LastingLaws.{breaks_in, breaks_none, lasts_longer, lasts_none, where_err}
@@ -30,29 +30,29 @@ returns-clause-answers g c = λ base history ready.
     let behind = behind_replied base history c.args.engine.now c.reply.new.engine c.args.journal.now old job packet ready replied in
     let (txs, upto, again) = c.in_ok-write_out.ensures.ready base step behind in
     let written = Confirmed upto ∷ Took txs upto ∷ [] in
-    let front = c.count-2.ensures.steps base step replied.stands in
+    let front = c.count.ensures.steps base step replied.stands in
     let durable = c.durable.ensures base (written ++ step) again.behind.stands in
-    let within : c.count-2.result ≤ c.durable.result = omega (arith, front, durable, step_durable base txs upto step again.behind.stands.legal) in
+    let within : c.count.result ≤ c.durable.result = omega (arith, front, durable, step_durable base txs upto step again.behind.stands.legal) in
     record {
       reply = replied.reply;
       transactions = txs;
       upto = upto;
       ready = again;
       lasts = lasts_longer base written step old new (c.write_out.ensures.lasts base step behind);
-      output = session_sent session c.push_reply.new.self c.release.new.self c.count-2.result c.durable.result packet within
+      output = session_sent session c.push_reply.new.self c.release.new.self c.count.result c.durable.result packet within
           c.requires.idle c.in_ok-push_reply.ensures c.release.ensures
           ∙ ap (λ (l : List ℕ). record session { out = session.out ++ l }) replied.spelled;
     }
 
-pub returns-then-count-clause-breaks : goal.returns-then-count-clause-breaks
-returns-then-count-clause-breaks g c = λ base history ready.
-    breaks_none base history (asked_by c.args.job ∷ []) (g.D.Dir.states c.args.dir.now) ready.behind.stands.legal
+pub returns-then-not-has_room-clause-breaks : goal.returns-then-not-has_room-clause-breaks
+returns-then-not-has_room-clause-breaks g c = λ base history ready.
+    breaks_none base history (job_steps c.args.job) (g.D.Dir.states c.args.dir.now) ready.behind.stands.legal
     (ready_keeps base history c.args.engine.now c.args.journal.now (g.D.Dir.states c.args.dir.now) ready)
 
 pub returns-in_err-reply-clause-breaks : goal.returns-in_err-reply-clause-breaks
 returns-in_err-reply-clause-breaks g c = λ base history ready.
     where_err c.from_residual.result
-    (breaks_none base history (asked_by c.args.job ∷ []) (g.D.Dir.states c.args.dir.now) ready.behind.stands.legal
+    (breaks_none base history (job_steps c.args.job) (g.D.Dir.states c.args.dir.now) ready.behind.stands.legal
     (ready_keeps base history c.args.engine.now c.args.journal.now (g.D.Dir.states c.args.dir.now) ready))
 
 pub returns-in_err-push_reply-clause-breaks : goal.returns-in_err-push_reply-clause-breaks

@@ -2,6 +2,8 @@ use Rattle.std.proofs.Common.{ℕ, List, ◌++◌, ◌∷◌, [], refl, ap, sym,
 use Rattle.mx_session.specs.declared.job.Job.{Job}
 use Rattle.mx_session.specs.Jobs.{jobs_of}
 use Rattle.mx_session.specs.Sessions.{SessionState}
+use Rattle.mx_images.specs.Changes.{KeepsOthers}
+use Rattle.mx_images.proofs.MomentLaws.{steps_none, steps_then}
 use Rattle.mx_node.specs.Ready.{AnswersJobs}
 use Rattle.mx_node.proofs.LastingLaws.{where_err}
 use Rattle.mx_node.proofs.SessionLaws.{jobs_left, taken_none, taken_next, next_left, fewer_left, told_sound, all_told, sent_after}
@@ -16,6 +18,7 @@ loop-job-init g c = record {
     λ base history ready.
         answered_none base history c.args.engine.now c.args.journal.now (g.D.Dir.states c.args.dir.now) c.args.session.now.out ready,
   );
+  others = steps_none KeepsOthers (g.D.Dir.states c.args.dir.now);
   done = refl;
 }
 
@@ -89,6 +92,7 @@ loop-job-preserved g c =
             (g.D.Dir.states c.answer.new.dir) session.out now.out next after jobs job so_far (ap (λ (s : SessionState). s.out) is)
             (c.in_ok-answer.ensures.answers base so_far.history so_far.ready),
       );
+      others = steps_then KeepsOthers _ _ _ c.loop-job.invariant.others c.answer.ensures.others;
       done = c.in_ok-answer.ensures.cause.done ∙ c.loop-job.invariant.done;
     }
 
@@ -116,3 +120,6 @@ returns-clause-ready g c =
     let (jobs, taken, answers) = c.loop-job.invariant.taken in
     let so_far = answers base history ready in
     (base, so_far.history, so_far.ready)
+
+pub returns-in_err-answer-clause-others : goal.returns-in_err-answer-clause-others
+returns-in_err-answer-clause-others g c = steps_then KeepsOthers _ _ _ c.loop-job.invariant.others c.answer.ensures.others

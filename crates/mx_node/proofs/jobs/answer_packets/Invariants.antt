@@ -1,6 +1,8 @@
 use Rattle.std.proofs.Common.{◌≡◌, List, length}
 use Rattle.mx_session.specs.declared.job.Job.{Job}
 use Rattle.mx_model.specs.Histories.{Base, History}
+use Rattle.mx_images.specs.Changes.{KeepsOthers}
+use Rattle.mx_images.proofs.MomentLaws.{Steps}
 use Rattle.mx_node.specs.Ready.{Ready, AnswersJobs}
 use Rattle.mx_node.proofs.SessionLaws.{Taken, jobs_left}
 use Rattle.mx_node.proofs.jobs.answer_packets.Given as goal
@@ -11,6 +13,7 @@ invariant-loop-job g l = record {
   taken : (jobs : List Job) × Taken l.fn.session l.session jobs
       × ((base : Base) (history : History) → Ready base history l.fn.engine l.fn.journal (g.D.Dir.states l.fn.dir)
       → AnswersJobs base history l.engine l.journal (g.D.Dir.states l.fn.dir) (g.D.Dir.states l.dir) jobs l.fn.session.out l.session.out);
+  others : Steps KeepsOthers (g.D.Dir.states l.fn.dir) (g.D.Dir.states l.dir);
   done : g.D.Dir.faults l.dir ≡ g.D.Dir.faults l.fn.dir;
 }
 

@@ -1,6 +1,6 @@
 use Rattle.std.proofs.Common.{None, Some, refl, sym, ◌∙◌}
 use Rattle.mx_node.specs.Inputs.{Bytes}
-use Rattle.mx_node.specs.Connections.{asks_by}
+use Rattle.mx_node.specs.Order.{order_by}
 use Rattle.mx_node.proofs.BreakLaws.{broken_behind, broken_in, unit_untouched}
 use Rattle.mx_node.proofs.LastingLaws.{where_err}
 use Rattle.mx_node.proofs.ServerLaws.{added_to_nothing, can_still_serve, did_now, is_ready_told, meets_now, still_idle, took_bytes, took_nothing}
@@ -15,7 +15,7 @@ returns-then-is_empty-clause-took g c = λ start units history serves.
 pub returns-in_err-session-clause-breaks : goal.returns-in_err-session-clause-breaks
 returns-in_err-session-clause-breaks g c = λ start units history serves.
     where_err c.from_residual.result
-    (unit_untouched start c.args.self.now units history (asks_by units (Bytes c.args.connection.0 c.args.bytes.now)) (g.D.Dir.states c.args.dir.now) serves)
+    (unit_untouched start c.args.self.now units history (order_by units (Bytes c.args.connection.0 c.args.bytes.now)) (g.D.Dir.states c.args.dir.now) serves)
 
 pub returns-in_err-ended-clause-breaks : goal.returns-in_err-ended-clause-breaks
 returns-in_err-ended-clause-breaks g c = λ start units history serves.

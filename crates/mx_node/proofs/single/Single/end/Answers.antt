@@ -20,7 +20,7 @@ returns-in_err-end-clause-breaks g c = λ start units history serves.
     let old = g.D.Dir.states c.args.dir.now in
     let new = g.D.Dir.states c.end.new.dir in
     let lasts : Lasts start.base history old new =
-    end_lasts start.base history c.args.self.engine c.args.self.journal old new serves.ready c.end.ensures.told c.end.ensures.moments in
+    end_lasts start.base history c.args.self.engine c.args.self.journal old new serves.ready c.end.ensures.told c.end.ensures.moments c.end.ensures.reads in
     where_err c.from_residual-in_err-end.result (end_broken start c.args.self units history old new serves lasts)
 
 pub returns-clause-closed : goal.returns-clause-closed
@@ -30,7 +30,7 @@ returns-clause-closed g c = λ start units history serves.
     let stands = serves.ready.behind.stands in
     let left = c.in_ok-leave_all.ensures start.base history stands in
     let lasts : Lasts start.base history old new =
-    end_lasts start.base history c.args.self.engine c.args.self.journal old new serves.ready c.end.ensures.told c.end.ensures.moments in
+    end_lasts start.base history c.args.self.engine c.args.self.journal old new serves.ready c.end.ensures.told c.end.ensures.moments c.end.ensures.reads in
     closed start c.args.self units history old new serves
     (subst (λ l. IsLegal start.base (left_from 0 l history)) c.deref.ensures.value left.legal) lasts
     (end_keeps start.base history c.args.self.engine c.args.self.journal old new (commits_follow start.base history stands.legal) serves.ready

@@ -1,0 +1,51 @@
+-- In which order the steps for the units of an input come.
+use Rattle.std.specs.Prelude.{ℕ, zero, suc, Bool, List, [], ◌∷◌, ◌++◌, if◌then◌else◌}
+use Rattle.mx_base.specs.declared.ids.TxnName.{TxnName}
+use Rattle.mx_request.specs.declared.request.Ask.{Ask}
+use Rattle.mx_session.specs.declared.job.Job.{Job}
+use Rattle.mx_model.specs.Order.{Step, RequestStep, DepartureStep, TakeStep, ConfirmStep, asks_among}
+use Rattle.mx_node.specs.Inputs.{InputUnit, connection_of, max_connection}
+use Rattle.mx_node.specs.Connections.{came_on, is_open, jobs_by, is_ended_by}
+
+-- a request, and then what writes out all that was committed
+abbrev pub job_steps : Job → List Step
+job_steps job = RequestStep job.name job.ask ∷ TakeStep ∷ ConfirmStep ∷ []
+
+-- the steps for the jobs that a unit brings: all is written out after each
+abbrev pub written_out : List Job → List Step
+written_out [] = []
+written_out (job ∷ jobs) = job_steps job ++ written_out jobs
+
+-- a connection's departure, where it departs
+abbrev pub departure_where : (connection : ℕ) → Bool → List Step
+departure_where connection departs = if departs then DepartureStep connection ∷ [] else []
+
+-- the steps for a unit, after earlier ones: those for its jobs, and its connection's departure, where it ends it
+abbrev pub order_by : List InputUnit → InputUnit → List Step
+order_by earlier unit = written_out (jobs_by earlier unit) ++ departure_where (connection_of unit) (is_ended_by earlier unit)
+
+abbrev pub order_from : List InputUnit → List InputUnit → List Step
+order_from earlier [] = []
+order_from earlier (unit ∷ units) = order_by earlier unit ++ order_from (earlier ++ unit ∷ []) units
+
+-- the steps for these units, in their order
+abbrev pub order_of : List InputUnit → List Step
+order_of units = order_from [] units
+
+-- so many connections from this one on depart, in ascending order, where they are open
+abbrev pub departures_from : (connection count : ℕ) → List InputUnit → List Step
+departures_from connection zero units = []
+departures_from connection (suc count) units =
+    departure_where connection (is_open connection (came_on connection units)) ++ departures_from (suc connection) count units
+
+-- the connections that depart when the input ends
+abbrev pub departures_of : List InputUnit → List Step
+departures_of units = departures_from 0 (suc max_connection) units
+
+-- the steps for an input that ends after these units
+abbrev pub whole_order_of : List InputUnit → List Step
+whole_order_of units = order_of units ++ departures_of units
+
+-- all that is asked by an input that ends after these units
+abbrev pub all_asks_of : List InputUnit → List (TxnName × Ask)
+all_asks_of units = asks_among (whole_order_of units)
