@@ -5,5 +5,4 @@ mod OutputLaws
 mod ProgressLaws
 mod FinishLaws
 mod Told
-mod SeenLaws
 mod RunLaws

@@ -5,16 +5,17 @@ use Rattle.std.proofs.lemmas.List.{append-nil, take_more}
 use mathlib.Core.List.{IsPrefix}
 use Rattle.mx_outside.specs.Disks.{Disk}
 use Rattle.mx_model.specs.declared.out_units.OutUnit.{OutUnit}
-use Rattle.mx_model.specs.Histories.{History, IsLegal, asking, asks_in}
+use Rattle.mx_model.specs.Histories.{History, IsLegal, asking}
+use Rattle.mx_model.specs.Order.{order_in}
 use Rattle.mx_model.specs.Survival.{Lasts}
 use Rattle.mx_node.specs.Inputs.{InputUnit, connection_of, max_connection}
 use Rattle.mx_node.specs.declared.single.Single.{Single}
 use Rattle.mx_node.specs.Starts.{Start}
 use Rattle.mx_node.specs.Outputs.{output_from, output_of}
-use Rattle.mx_node.specs.Connections.{asks_by, asks_of}
+use Rattle.mx_node.specs.Order.{order_by, order_of}
 use Rattle.mx_node.specs.Interrupted.{StepsSurvive, IsInterrupted}
 use Rattle.mx_node.specs.Serving.{AnswersUnit}
-use Rattle.mx_node.proofs.ConnectionLaws.{asks_of-push}
+use Rattle.mx_node.proofs.OrderLaws.{order_of-push}
 use Rattle.mx_node.proofs.KeepLaws.{ready_keeps}
 use Rattle.mx_node.proofs.LastingLaws.{breaks_now}
 use Rattle.mx_node.proofs.OutputLaws.{replies_in-asking}
@@ -63,14 +64,14 @@ module _ (start : Start) (node : Single) (units : List InputUnit) (earlier : His
   }
 
   -- a unit that was answered and whose output couldn't be written
-  pub took_breaks : IsInterrupted start.base earlier (asks_of units ++ asks_by units unit) old states
+  pub took_breaks : IsInterrupted start.base earlier (order_of units ++ order_by units unit) old states
   took_breaks =
       let since = took.since in
-      let asks = asks_of units ++ asks_by units unit in
-      breaks_now start.base since.0 earlier asks old states
+      let order = order_of units ++ order_by units unit in
+      breaks_now start.base since.0 earlier order old states
       (subst (λ h. IsLegal start.base h) since.1 took.serves.ready.behind.stands.legal)
-      (subst (λ h. IsPrefix (asks_in h) asks) since.1
-      (subst (λ l. IsPrefix l asks) (sym (took.serves.asks ∙ asks_of-push units unit)) ([], append-nil asks)))
+      (subst (λ h. IsPrefix (order_in h) order) since.1
+      (subst (λ l. IsPrefix l order) (sym (took.serves.order ∙ order_of-push units unit)) ([], append-nil order)))
       (subst (λ h. Lasts start.base h old states) since.1 took.lasts)
       (subst (λ h. StepsSurvive start.base h h states) since.1
       (ready_keeps start.base took.history node.engine node.journal states took.serves.ready))

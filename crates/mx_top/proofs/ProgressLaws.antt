@@ -4,24 +4,26 @@ use Rattle.std.specs.Prelude.{⊤, Ok, Err, IsSomeAnd}
 use Rattle.std.proofs.lemmas.List.{append-nil, append_assoc, length-drop, nil_from_length}
 use mathlib.Core.List.{IsPrefix}
 use Rattle.mx_outside.specs.Disks.{Disk}
-use Rattle.mx_model.specs.Histories.{History, asks_in}
+use Rattle.mx_model.specs.Histories.{History}
 use Rattle.mx_node.specs.declared.single.Single.{Single}
 use Rattle.mx_top.specs.Units.{UnitHead, content_at, unit_at, unit_by, units_of}
 use Rattle.mx_node.specs.Inputs.{InputUnit}
-use Rattle.mx_node.specs.Connections.{asks_by, asks_of, all_asks_of}
+use Rattle.mx_node.specs.Order.{departures_of, order_by, order_of}
 use Rattle.mx_node.specs.Starts.{Start}
 use Rattle.mx_top.specs.Stops.{IsDiskStop}
-use Rattle.mx_top.specs.TraceOutput.{trace_output}
+use Rattle.mx_top.specs.TraceOutput.{trace_output, units_text}
 use Rattle.mx_node.specs.Serving.{Serves}
-use Rattle.mx_top.specs.Progress.{WritesUnit, StopsAt, ReadTo, Wrote, AnsweredUnits, InterruptedUnits, LastStep, NextStep}
-use Rattle.mx_top.specs.Runs.{place_before, BeginsTrace}
+use Rattle.mx_top.specs.Progress.{WritesUnit, StopsAt, ReadTo, Wrote, UnitsSeen, LastStep, NextStep}
+use Rattle.mx_top.specs.Runs.{place_before, AtCompletion, IsOutput, OutputSeen, order_until}
+use Rattle.mx_top.specs.declared.status.Status.{Status}
+use Rattle.mx_top.specs.declared.status.Status.TheVariants as status
 use Rattle.mx_top.specs.declared.stop.Stop.{Stop}
 use Rattle.mx_top.specs.declared.stop.Stop.TheVariants.{BadInput, ReadFault, WriteFault, DiskFault, NoMemory}
 use Rattle.mx_node.specs.Interrupted.{IsInterrupted}
 use Rattle.mx_model.specs.Survival.{Lasts}
-use Rattle.mx_node.proofs.ConnectionLaws.{all_asks-prefix, asks_of-more}
 use Rattle.mx_node.proofs.KeepLaws.{ready_keeps}
-use Rattle.mx_node.proofs.LastingLaws.{lasts_none, lasts_on, breaks_now, breaks_on, breaks_among}
+use Rattle.mx_node.proofs.LastingLaws.{lasts_none, lasts_on, breaks_now, breaks_on}
+use Rattle.mx_node.proofs.OutputLaws.{output_of-stays}
 use Rattle.mx_top.proofs.UnitLaws.{unit_some, unit_none, unit_at-nil, units_of-none, units_of-some, units_of-begun}
 
 -- ---- how far the input was read
@@ -50,66 +52,73 @@ begun_with input rest after place units unit read found =
     units_of-begun input after (units ++ unit ∷ [])
     (units_of-some input rest after units unit read.all (unit_some input rest after unit place read.at found))
 
--- ---- what was written, and what the directory keeps
+-- ---- where the run stops
 
-pub prefix_all : {X : Type 0} (xs : List X) → IsPrefix xs xs
-prefix_all xs = ([], append-nil xs)
+order_until-begins : (units others : List InputUnit) → IsPrefix (order_of units) (order_until units others)
+order_until-begins units [] = (departures_of units, refl)
+order_until-begins units (unit ∷ others) = (order_by units unit, refl)
 
--- the whole output is there
-whole_output : (start : Start) (input before rest : List ℕ) (server : Single) (units : List InputUnit) (old : Option (List ℕ))
-    (first states : Option (List Disk)) → units_of input ≡ (units, rest) → Wrote start server units before old first states
-    → IsSomeAnd old (λ written. AnsweredUnits start input before written server first states)
-whole_output start input before rest server units old first states all wrote =
-    let those : (units_of input).0 ≡ units = ap (λ (x : List InputUnit × List ℕ). x.0) all in
-    subst (λ o. IsSomeAnd o (λ written. AnsweredUnits start input before written server first states)) (sym wrote.written) (record {
-      history = wrote.history;
-      serves = subst (λ (u : List InputUnit). Serves start server u wrote.history states) (sym those) wrote.serves;
-      output = ap (λ (u : List InputUnit). before ++ trace_output start u wrote.history) (sym those);
-      lasts = wrote.lasts;
-    })
-
--- a prefix of the output is there: all that was written for these units, and a part of that for one more
-abbrev pub begun_trace : (start : Start) (input before written after : List ℕ) (units : List InputUnit) (history : History) (server : Single)
-    (states : Option (List Disk))
-    → Serves start server units history states → IsPrefix units (units_of input).0
-    → IsPrefix written (trace_output start units history) → after ≡ before ++ written → BeginsTrace start input before after
-begun_trace start input before written after units history server states serves begun part output = record {
-  units = units;
-  begun = begun;
-  history = history;
-  legal = serves.ready.behind.stands.legal;
-  asks = subst (IsPrefix (asks_in history)) serves.asks (prefix_all (asks_in history));
-  written = written;
-  part = part;
-  output = output;
-}
-
--- the run breaks off where nothing was done with the next unit
-pub untouched_among : (start : Start) (server : Single) (units all : List InputUnit) (history : History) (states : Option (List Disk))
-    → IsPrefix units all → Serves start server units history states → IsInterrupted start.base history (all_asks_of all) states states
-untouched_among start server units all history states among serves =
-    breaks_now start.base [] history (all_asks_of all) states states serves.ready.behind.stands.legal
-    (subst (λ l. IsPrefix l (all_asks_of all)) (sym serves.asks) (all_asks-prefix units all among))
+-- nothing was done with the next unit
+pub untouched : (start : Start) (server : Single) (units others : List InputUnit) (history : History) (states : Option (List Disk))
+    → Serves start server units history states → IsInterrupted start.base history (order_until units others) states states
+untouched start server units others history states serves =
+    breaks_now start.base [] history (order_until units others) states states serves.ready.behind.stands.legal
+    (subst (λ l. IsPrefix l (order_until units others)) (sym serves.order) (order_until-begins units others))
     (lasts_none start.base history states) (ready_keeps start.base history server.engine server.journal states serves.ready)
 
--- where the run broke off after these units, all of the output for them is there
-so_far_trace : (start : Start) (input before : List ℕ) (server : Single) (units : List InputUnit) (old : Option (List ℕ))
-    (first states now : Option (List Disk))
-    → IsPrefix units (units_of input).0 → Wrote start server units before old first states
-    → ((history : History) → Serves start server units history states → IsInterrupted start.base history (all_asks_of (units_of input).0) states now)
-    → IsSomeAnd old (λ written. InterruptedUnits start input before written first now)
-so_far_trace start input before server units old first states now begun wrote breaks =
-    subst (λ o. IsSomeAnd o (λ written. InterruptedUnits start input before written first now)) (sym wrote.written) (record {
-      trace = begun_trace start input before (trace_output start units wrote.history) (before ++ trace_output start units wrote.history) units
-          wrote.history server states wrote.serves begun (prefix_all (trace_output start units wrote.history)) refl;
-      breaks = breaks_on start.base [] wrote.history (all_asks_of (units_of input).0) first states now wrote.lasts (breaks wrote.history wrote.serves);
-    })
+-- at a status that is no completion nothing is said of one, and where the output didn't fail all of it is there
+pub record IsWhole (status : Status) : Type 1 where
+  pub early : (P : Type 0) → AtCompletion status P
+  pub whole : (start : Start) (units : List InputUnit) (history : History) → IsOutput status start units history (trace_output start units history)
+
+-- where the run stopped after these units, all of the output for them is there
+pub stopped_after : (status : Status) → IsWhole status → (start : Start) (input : List ℕ) (server : Single) (units others : List InputUnit)
+    (output old : Option (List ℕ)) (first states now : Option (List Disk)) → units ++ others ≡ (units_of input).0
+    → (wrote : Wrote start server units output old first states) → IsInterrupted start.base wrote.history (order_until units others) states now
+    → UnitsSeen status start input output old first now
+stopped_after status is start input server units others output old first states now all wrote stops =
+    let stopped = breaks_on start.base [] wrote.history (order_until units others) first states now wrote.lasts stops in
+    record {
+      units = units;
+      others = others;
+      all = all;
+      answered = wrote.history;
+      order = wrote.serves.order;
+      gate = wrote.serves.ready.gate;
+      stopped = stopped;
+      complete = is.early _;
+      holds = is.early _;
+      written = λ before was.
+          subst (λ o. IsSomeAnd o (λ after. OutputSeen status start input units wrote.history (stopped.later ++ wrote.history) before after))
+          (sym (wrote.written before was)) (record {
+            written = trace_output start units wrote.history;
+            output = refl;
+            is = is.whole start units wrote.history;
+            determined = is.early _;
+          });
+    }
+
+pub read_fault : IsWhole status.ReadFault
+read_fault = record { early = λ P. tt; whole = λ start units history. refl }
+
+pub disk_fault : IsWhole status.DiskFault
+disk_fault = record { early = λ P. tt; whole = λ start units history. refl }
+
+pub no_memory : IsWhole status.NoMemory
+no_memory = record { early = λ P. tt; whole = λ start units history. refl }
 
 -- ---- the end of the units
 
 fault_at : (input rest : List ℕ) (place : ℕ) → 0 < length rest → place + length rest ≡ length input → place_before input rest ≡ Some place
 fault_at input [] place some at = absurd (omega arith)
 fault_at input (byte ∷ rest) place some at = let here : length input - length (byte ∷ rest) ≡ place = omega arith in ap (λ n. Some n) here
+
+-- the units that were answered are all of the input's
+all_wrote : (start : Start) (input rest : List ℕ) (server : Single) (units : List InputUnit) (output old : Option (List ℕ))
+    (first states : Option (List Disk)) → units_of input ≡ (units, rest) → Wrote start server units output old first states
+    → Wrote start server (units_of input).0 output old first states
+all_wrote start input rest server units output old first states all wrote =
+    subst (λ (u : List InputUnit). Wrote start server u output old first states) (sym (ap (λ (x : List InputUnit × List ℕ). x.0) all)) wrote
 
 -- nothing is left
 pub ends_well : (input rest more : List ℕ) (place : ℕ) (server : Single) (units : List InputUnit) (old : Option (List ℕ))
@@ -125,7 +134,7 @@ ends_well input rest more place server units old states waiting read same none =
     let empty : more ≡ [] = nil_from_length more (omega arith) in
     record {
       place = (ap (λ (x : List InputUnit × List ℕ). place_before input x.1) all, ap (λ (m : List ℕ). Some m) empty);
-      output = λ start before first wrote. whole_output start input before [] server units old first states all wrote;
+      output = λ start output first wrote. all_wrote start input [] server units output old first states all wrote;
     }
 
 -- what is left begins with no unit
@@ -136,7 +145,7 @@ ends_malformed input rest left place server units old states read some none =
     let all = all_read input rest place units read none in
     record {
       place = ap (λ (x : List InputUnit × List ℕ). place_before input x.1) all ∙ fault_at input rest place some read.at;
-      output = λ start before first wrote. whole_output start input before rest server units old first states all wrote;
+      output = λ start output first wrote. all_wrote start input rest server units output old first states all wrote;
     }
 
 -- reading may stop so
@@ -152,21 +161,19 @@ ends_read : (input rest : List ℕ) (place : ℕ) (server : Single) (units : Lis
     (stop : Stop) → IsQuiet stop → ReadTo input rest place units → LastStep (Err stop) input left server server units old old states states
 ends_read input rest place server units old left states stop quiet read = by_stop stop quiet
   where
-    begun : IsPrefix units (units_of input).0
-    begun = begun_so_far input rest place units read
-
-    output : (start : Start) (before : List ℕ) (first : Option (List Disk)) → Wrote start server units before old first states
-        → IsSomeAnd old (λ written. InterruptedUnits start input before written first states)
-    output start before first wrote =
-        so_far_trace start input before server units old first states states begun wrote
-        (λ history serves. untouched_among start server units (units_of input).0 history states begun serves)
+    seen : (status : Status) → IsWhole status → (start : Start) (output : Option (List ℕ)) (first : Option (List Disk))
+        → Wrote start server units output old first states → UnitsSeen status start input output old first states
+    seen status is start output first wrote =
+        let (others, all) = begun_so_far input rest place units read in
+        stopped_after status is start input server units others output old first states states all wrote
+        (untouched start server units others wrote.history states wrote.serves)
 
     by_stop : (stop : Stop) → IsQuiet stop → LastStep (Err stop) input left server server units old old states states
     by_stop (BadInput at) quiet = absurd quiet
-    by_stop ReadFault quiet = record { place = tt; output = output }
+    by_stop ReadFault quiet = record { place = tt; output = seen status.ReadFault read_fault }
     by_stop WriteFault quiet = absurd quiet
     by_stop DiskFault quiet = absurd quiet
-    by_stop NoMemory quiet = record { place = tt; output = output }
+    by_stop NoMemory quiet = record { place = tt; output = seen status.NoMemory no_memory }
 
 -- reading the next unit stopped the run
 pub ends_stopped : (input rest waiting more : List ℕ) (place : ℕ) (server : Single) (units : List InputUnit) (old : Option (List ℕ))
@@ -196,26 +203,23 @@ pub ends_unanswered : (input rest waiting more behind : List ℕ) (unit : InputU
     (old : Option (List ℕ)) (states now : Option (List Disk))
     (stop : Stop) → ReadTo input rest place units → rest ≡ waiting ++ more → content_at place (waiting ++ more) ≡ Some (unit, behind) → IsDiskStop stop
     → ((start : Start) (history : History) → Serves start server units history states
-    → IsInterrupted start.base history (asks_of units ++ asks_by units unit) states now)
+    → IsInterrupted start.base history (order_of units ++ order_by units unit) states now)
     → LastStep (Err stop) input (Some more) server after units old old states now
 ends_unanswered input rest waiting more behind unit place server after units old states now stop read same found stops breaks = by_stop stop stops
   where
-    next : IsPrefix (units ++ unit ∷ []) (units_of input).0
-    next = begun_with input rest behind place units unit read (ap (content_at place) same ∙ found)
-
-    output : (start : Start) (before : List ℕ) (first : Option (List Disk)) → Wrote start server units before old first states
-        → IsSomeAnd old (λ written. InterruptedUnits start input before written first now)
-    output start before first wrote =
-        so_far_trace start input before server units old first states now (begun_so_far input rest place units read) wrote
-        (λ history serves. breaks_among start.base history (asks_of units ++ asks_by units unit) (all_asks_of (units_of input).0) states now
-        (asks_of-more units unit (units_of input).0 next) (breaks start history serves))
+    seen : (status : Status) → IsWhole status → (start : Start) (output : Option (List ℕ)) (first : Option (List Disk))
+        → Wrote start server units output old first states → UnitsSeen status start input output old first now
+    seen status is start output first wrote =
+        let (others, all) = begun_with input rest behind place units unit read (ap (content_at place) same ∙ found) in
+        stopped_after status is start input server units (unit ∷ others) output old first states now
+        (sym (append_assoc units (unit ∷ []) others) ∙ all) wrote (breaks start wrote.history wrote.serves)
 
     by_stop : (stop : Stop) → IsDiskStop stop → LastStep (Err stop) input (Some more) server after units old old states now
     by_stop (BadInput at) stops = absurd stops
     by_stop ReadFault stops = absurd stops
     by_stop WriteFault stops = absurd stops
-    by_stop DiskFault stops = record { place = tt; output = output }
-    by_stop NoMemory stops = record { place = tt; output = output }
+    by_stop DiskFault stops = record { place = tt; output = seen status.DiskFault disk_fault }
+    by_stop NoMemory stops = record { place = tt; output = seen status.NoMemory no_memory }
 
 -- all commits last, where one unit more was answered
 lasts_took : {after : Single} {units : List InputUnit} {unit : InputUnit} (start : Start) (history : History) (first states now : Option (List Disk)) (out : List ℕ)
@@ -224,6 +228,14 @@ lasts_took start history first states now out lasts step =
     let since = step.since in
     subst (λ h. Lasts start.base h first now) (sym since.1)
     (lasts_on start.base since.0 history first states now lasts (subst (λ h. Lasts start.base h states now) since.1 step.lasts))
+
+-- what was written for the units before it stays
+stays : {after : Single} {units : List InputUnit} {unit : InputUnit} {server : Single} (start : Start) (history : History) (states now : Option (List Disk)) (out : List ℕ)
+    → Serves start server units history states → (step : WritesUnit start after units history unit out states now)
+    → trace_output start units step.history ≡ trace_output start units history
+stays {units = units} start history states now out serves step =
+    let (more, is) = step.since in
+    ap (trace_output start units) is ∙ ap units_text (output_of-stays start units more history serves.told)
 
 -- it was answered, and its output was written in part
 pub ends_unwritten : (input rest waiting more behind out : List ℕ) (unit : InputUnit) (place : ℕ) (server after : Single) (units : List InputUnit)
@@ -234,21 +246,39 @@ pub ends_unwritten : (input rest waiting more behind out : List ℕ) (unit : Inp
     → LastStep (Err WriteFault) input (Some more) server after units old new states now
 ends_unwritten input rest waiting more behind out unit place server after units old new states now read same found took part = record {
   place = tt;
-  output = λ start before first wrote.
+  output = λ start output first wrote.
       let step = took start wrote.history wrote.serves in
-      let all = (units_of input).0 in
-      let begun : IsPrefix (units ++ unit ∷ []) all = begun_with input rest behind place units unit read (ap (content_at place) same ∙ found) in
+      let (others, all) = begun_with input rest behind place units unit read (ap (content_at place) same ∙ found) in
+      let done = units ++ unit ∷ [] in
+      let stopped = breaks_on start.base [] step.history (order_until done others) first now now
+      (lasts_took start wrote.history first states now out wrote.lasts step) (untouched start after done others step.history now step.serves) in
       let sent = trace_output start units wrote.history in
-      let wrote_part = part (before ++ sent) wrote.written in
-      let front : IsPrefix (sent ++ wrote_part.0) (trace_output start (units ++ unit ∷ []) step.history) =
-      (wrote_part.2.0, append_assoc sent wrote_part.0 wrote_part.2.0 ∙ ap (λ l. sent ++ l) wrote_part.2.1 ∙ sym step.grows) in
-      subst (λ o. IsSomeAnd o (λ written. InterruptedUnits start input before written first now))
-      (sym (wrote_part.1 ∙ ap (λ l. Some l) (append_assoc before sent wrote_part.0))) (record {
-        trace = begun_trace start input before (sent ++ wrote_part.0) (before ++ (sent ++ wrote_part.0)) (units ++ unit ∷ []) step.history
-            after now step.serves begun front refl;
-        breaks = breaks_on start.base [] step.history (all_asks_of all) first now now (lasts_took start wrote.history first states now out wrote.lasts step)
-            (untouched_among start after (units ++ unit ∷ []) all step.history now begun step.serves);
-      });
+      record {
+        units = done;
+        others = others;
+        all = all;
+        answered = step.history;
+        order = step.serves.order;
+        gate = step.serves.ready.gate;
+        stopped = stopped;
+        complete = tt;
+        holds = tt;
+        written = λ before was.
+            let (some, is, begins) = part (before ++ sent) (wrote.written before was) in
+            subst (λ o. IsSomeAnd o (λ after. OutputSeen status.WriteFault start input done step.history (stopped.later ++ step.history) before after))
+            (sym (is ∙ ap (λ l. Some l) (append_assoc before sent some))) (record {
+              written = sent ++ some;
+              output = refl;
+              is = (
+                units,
+                unit,
+                refl,
+                (some, ap (λ l. l ++ some) (stays start wrote.history states now out wrote.serves step)),
+                (begins.0, append_assoc sent some begins.0 ∙ ap (λ l. sent ++ l) begins.1 ∙ sym step.grows),
+              );
+              determined = tt;
+            });
+      };
 }
 
 -- it was answered, and all of its output was written
@@ -262,13 +292,13 @@ pub goes_on : (input rest waiting more behind out : List ℕ) (unit : InputUnit)
 goes_on input rest waiting more behind out unit place next server after units old new states now read same found moved took all = record {
   unit = unit;
   read = read_on input rest behind place next units unit read (ap (content_at place) same ∙ found) moved;
-  wrote = λ start before first wrote.
+  wrote = λ start output first wrote.
       let step = took start wrote.history wrote.serves in
       record {
         history = step.history;
         serves = step.serves;
         lasts = lasts_took start wrote.history first states now out wrote.lasts step;
-        written = all (before ++ trace_output start units wrote.history) wrote.written
+        written = λ before was. all (before ++ trace_output start units wrote.history) (wrote.written before was)
             ∙ ap (λ l. Some l) (append_assoc before (trace_output start units wrote.history) out ∙ ap (λ l. before ++ l) (sym step.grows));
       };
 }

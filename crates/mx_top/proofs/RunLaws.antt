@@ -1,43 +1,80 @@
--- What a crash leaves during a run, from its opening on.
-use Rattle.std.proofs.Common.{◌≡◌, ℕ, List, [], ◌∷◌, ◌++◌, length, refl, sym, ap, ◌∙◌, subst, inr}
-use Rattle.std.specs.Prelude.{Option, Some, None, IsSomeAnd}
-use Rattle.std.proofs.lemmas.List.{append-nil}
+-- What a run says, from its opening on.
+use Rattle.std.proofs.Common.{◌≡◌, ℕ, ◌≤◌, List, [], ◌∷◌, ◌++◌, length, take, refl, sym, ap, ◌∙◌, ◌⊎◌, subst, inl, inr, arith, length-append}
+use Rattle.std.specs.Prelude.{⊤, Option, Some, None, Result, Ok, Err, IsSomeAnd}
+use Rattle.std.proofs.lemmas.List.{append-nil, take_at, take-append-le}
 use mathlib.Core.List.{IsPrefix}
 use Rattle.mx_outside.specs.Disks.{Disk, IfKnown, KnownAlike}
-use Rattle.mx_outside.specs.Moments.{Moments}
+use Rattle.mx_outside.specs.Moments.{Each, Moments, newest}
 use Rattle.mx_row.specs.declared.tx.Tx.{Tx}
 use Rattle.mx_model.specs.State.{first_state}
-use Rattle.mx_model.specs.Directories.{AllFollow, Reached, nothing_yet}
+use Rattle.mx_model.specs.Directories.{AllFollow, nothing_yet}
 use Rattle.mx_model.specs.Histories.{Base, History, IsLegal, journal_of}
 use Rattle.mx_row.specs.Clocks.{clock_after}
 use Rattle.mx_model.proofs.CommitLaws.{all_follow-append, commits_follow}
 use Rattle.mx_model.proofs.OnceLaws.{one_state}
-use Rattle.mx_images.proofs.MomentLaws.{no_moments, joined}
-use Rattle.mx_images.proofs.ToldLaws.{told_chain, told_then, where_told}
-use Rattle.mx_top.specs.Units.{units_of}
-use Rattle.mx_node.specs.Connections.{all_asks_of}
-use Rattle.mx_node.specs.Starts.{Start, base_of}
-use Rattle.mx_top.specs.Starts.{Begins, first_ids}
+use Rattle.mx_images.proofs.MomentLaws.{both_moments, joined, kept, weaker}
+use Rattle.mx_images.proofs.ToldLaws.{told_both, told_chain, told_then, told_weaker, where_told}
+use Rattle.mx_model.specs.Gate.{confirmed_part}
+use Rattle.mx_node.specs.Starts.{Start}
+use Rattle.mx_top.specs.Starts.{Begins}
 use Rattle.mx_node.specs.Interrupted.{StepsSurvive}
-use Rattle.mx_model.specs.Survival.{Survive, NoFewerSurvive, FollowFromNew, Recovers, ComeTo, Extend, Lasts}
-use Rattle.mx_top.specs.Progress.{InterruptedUnits}
-use Rattle.mx_top.specs.Runs.{CrashSeen, GateSeen}
+use Rattle.mx_model.specs.Survival.{Survive, NoFewerSurvive, ReadsMost, StandsAfter, FollowFromNew, Recovers, ComeTo, Extend, Lasts}
+use Rattle.mx_top.specs.declared.status.Status.{Status}
+use Rattle.mx_top.specs.declared.status.Status.TheVariants as status
+use Rattle.mx_top.specs.declared.stop.Stop.{Stop}
+use Rattle.mx_top.specs.declared.stop.Stop.TheVariants.{BadInput, ReadFault, WriteFault, DiskFault, NoMemory}
+use Rattle.mx_top.specs.Progress.{UnitsSeen, status_of}
+use Rattle.mx_node.proofs.AgainLaws.{read_recovers}
+use Rattle.mx_top.specs.TraceOutput.{trace_output}
+use Rattle.mx_top.specs.Runs.{OutputSeen, StillPassedOn, RecoversAlways, RecoversAsItIs, RecoversNow, all_commits, Served, NotOpened, Untouched, RunSeen}
 
--- what an opening does, told for all that may be committed after it
+-- what an opening does, said for all that may be committed after it
 abbrev pub Opens : List Tx → (old new : Option (List Disk)) → Type 0
 Opens earlier old new = (transactions : List Tx) → IsPrefix earlier transactions → FollowFromNew transactions
     → IfKnown old (λ disk past. Moments (Survive transactions 0) (NoFewerSurvive transactions) new disk past)
+    × IfKnown old (λ disk past. Moments (ReadsMost transactions) (λ older newer. ⊤) new disk past)
 
-abbrev begun_at : List ℕ → Reached → Start
-begun_at seed reached = record { salt = seed; base = base_of (first_ids seed) reached }
+-- both facts of each moment
+both_always : (commits : List Tx) (old new : Option (List Disk))
+    → IfKnown old (λ disk past. Moments (Survive commits 0) (NoFewerSurvive commits) new disk past)
+    → IfKnown old (λ disk past. Moments (ReadsMost commits) (λ older newer. ⊤) new disk past) → RecoversAlways commits old new
+both_always commits old new one other =
+    told_both old
+    (λ disk past survive reads. both_moments (Survive commits 0) (ReadsMost commits) (NoFewerSurvive commits) (λ older newer. ⊤) new disk past survive reads)
+    one other
 
--- what a run begins with
-start_of : (seed : List ℕ) (earlier : List Tx) (states : Option (List Disk)) → Recovers earlier states → (start : Start) × Begins start seed states
-start_of seed earlier None recovers = (begun_at seed nothing_yet, record { salted = refl; based = tt })
-start_of seed earlier (Some []) recovers = (begun_at seed nothing_yet, record { salted = refl; based = tt })
-start_of seed earlier (Some (disk ∷ past)) recovers =
-    let reached = recovers.told.0.reached in
-    (begun_at seed reached, record { salted = refl; based = (reached, recovers.told.0.stands, refl) })
+-- ---- the last moment
+
+-- what holds at the beginning and at each moment holds at the last one
+at_last : (P : Disk → Type 0) (since : List Disk) (start : Disk) (past : List Disk) → P start → Each P (λ older newer. ⊤) since start
+    → IfKnown (Some (since ++ start ∷ past)) (λ disk past. P disk)
+at_last P [] start past first each = first
+at_last P (disk ∷ since) start past first each = each.0
+
+last_moment : (P : Disk → Type 0) (new : Option (List Disk)) (start : Disk) (past : List Disk) → P start → Moments P (λ older newer. ⊤) new start past
+    → IfKnown new (λ disk past. P disk)
+last_moment P new start past first moments =
+    subst (λ states. IfKnown states (λ disk past. P disk)) (sym moments.told) (at_last P moments.since start past first moments.each)
+
+last_of : (P : Disk → Type 0) (old new : Option (List Disk)) → KnownAlike old new → IfKnown old (λ disk past. P disk)
+    → IfKnown old (λ disk past. Moments P (λ older newer. ⊤) new disk past) → IfKnown new (λ disk past. P disk)
+last_of P old new alike first moments =
+    told_then old new (λ disk past. P disk) alike (told_both old (λ disk past here. last_moment P new disk past here) first moments)
+
+-- at the beginning the directory reads as all that it had
+reads_first : (earlier more : List Tx) (disk : Disk) → StandsAfter earlier disk.now → Survive earlier 0 disk → ReadsMost (earlier ++ more) disk
+reads_first earlier more disk after survive = record {
+  count = length earlier;
+  within = omega (arith, length-append earlier more);
+  reads = subst (λ txs. StandsAfter txs disk.now) (sym (take_at earlier more (length earlier) refl)) after;
+  most = λ image fair.
+      let (count, enough, short, stands) = survive image fair in
+      (count, short, subst (λ txs. StandsAfter txs image) (sym (take-append-le count earlier more short)) stands);
+}
+
+reads_told : (earlier more : List Tx) (states : Option (List Disk)) → Recovers earlier states → IfKnown states (λ disk past. ReadsMost (earlier ++ more) disk)
+reads_told earlier more states recovers =
+    told_weaker states (λ disk past told. reads_first earlier more disk told.0 told.1) recovers.told
 
 -- the transactions of a directory came to what the run begins with
 comes : (start : Start) (seed : List ℕ) (earlier : List Tx) (disk : Disk) (past : List Disk) → Begins start seed (Some (disk ∷ past))
@@ -70,100 +107,165 @@ extends earlier base history come follow legal = record {
   follow = follow_all earlier base history come follow legal;
 }
 
--- ---- at each moment
+-- ---- what the directory recovers
 
--- the run ended while it opened its directory, or before it answered anything
-pub opening_seen : (seed input : List ℕ) (earlier : List Tx) (old new : Option (List Disk)) → Recovers earlier old → Opens earlier old new
-    → CrashSeen seed input earlier old new
-opening_seen seed input earlier old new recovers opens =
-    let (start, begins) = start_of seed earlier old recovers in
+-- each moment has the second of two facts
+only_second : (new : Option (List Disk)) (start : Disk) (past : List Disk) (commits : List Tx)
+    → Moments (λ now. Survive commits 0 now × ReadsMost commits now) (λ older newer. NoFewerSurvive commits older newer × ⊤) new start past
+    → Moments (ReadsMost commits) (λ older newer. ⊤) new start past
+only_second new start past commits =
+    weaker {Q = ReadsMost commits} {S = λ older newer. ⊤} (λ disk both. both.1) (λ older newer here both. tt) new start past
+
+abbrev Recovered : List Tx → (least : ℕ) → Disk → List Disk → Type 0
+Recovered commits least disk past =
+    (count : ℕ) × (least ≤ count) × (count ≤ length commits) × Recovers (take count commits) (Some (disk ∷ past))
+
+module _ (start : Start) (seed : List ℕ) (earlier : List Tx) (history : History) (middle new : Option (List Disk)) (legal : IsLegal start.base history)
+    (lasts : Lasts start.base history middle new) where
+  -- at each moment
+  always : (old : Option (List Disk)) → Begins start seed old → Recovers earlier old → Opens earlier old middle
+      → RecoversAlways (all_commits earlier start.base history) old new
+  always None begins recovers opens = tt
+  always (Some []) begins recovers opens = tt
+  always (Some (disk ∷ past)) begins recovers opens =
+      let transactions = all_commits earlier start.base history in
+      let all = extends earlier start.base history (comes start seed earlier disk past begins recovers) recovers.follow legal in
+      let opened = opens transactions (journal_of start.base history, refl) all.follow in
+      both_always transactions (Some (disk ∷ past)) new
+      (joined (Survive transactions 0) (NoFewerSurvive transactions) (Some (disk ∷ past)) middle new opened.0 (lasts.moments transactions all))
+      (joined (ReadsMost transactions) (λ older newer. ⊤) (Some (disk ∷ past)) middle new opened.1 (lasts.reads transactions all))
+
+  -- at the end
+  at_the_end : (old : Option (List Disk)) → Begins start seed old → Recovers earlier old → KnownAlike old middle → (first : History)
+      → StepsSurvive start.base history first new
+      → RecoversNow (all_commits earlier start.base history) (length (all_commits earlier start.base first)) new
+  unfolding comes extends
+  at_the_end old begins recovers alike first kept =
+      let transactions = all_commits earlier start.base history in
+      let least = length (all_commits earlier start.base first) in
+      told_then old new (λ disk past. Survive transactions least disk) (told_chain old middle new alike lasts.told)
+      (where_told old _ (λ disk past told.
+      kept transactions
+      (extends earlier start.base history
+      (comes start seed earlier disk past (subst (Begins start seed) told begins) (subst (Recovers earlier) told recovers)) recovers.follow legal)))
+
+  -- as it is
+  as_it_is : (old : Option (List Disk)) → Begins start seed old → Recovers earlier old → KnownAlike old new
+      → RecoversAlways (all_commits earlier start.base history) old new → (least : ℕ) → RecoversNow (all_commits earlier start.base history) least new
+      → RecoversAsItIs (all_commits earlier start.base history) least new
+  unfolding comes extends
+  as_it_is old begins recovers alike moments least survives =
+      let transactions = all_commits earlier start.base history in
+      let reads = last_of (ReadsMost transactions) old new alike (reads_told earlier (journal_of start.base history) old recovers)
+      (told_weaker old (λ disk past both. only_second new disk past transactions both) moments) in
+      told_then old new (λ disk past. Recovered transactions least disk past) alike
+      (where_told old _ (λ disk past told.
+      let follow = (extends earlier start.base history
+      (comes start seed earlier disk past (subst (Begins start seed) told begins) (subst (Recovers earlier) told recovers)) recovers.follow legal).follow in
+      told_both new (λ now before survive most. read_recovers transactions least now before follow survive most) survives reads))
+
+-- ---- what a run says
+
+-- the run opened its directory, and answered these units
+served : (status : Status) (start : Start) (seed input : List ℕ) (output contents : Option (List ℕ)) (old middle new : Option (List Disk))
+    → Begins start seed old → KnownAlike old middle → ((earlier : List Tx) → Recovers earlier old → Opens earlier old middle)
+    → UnitsSeen status start input output contents middle new → Served status seed input output contents old new
+served status start seed input output contents old middle new begins alike opens seen =
+    let stopped = seen.stopped in
+    let history = stopped.later ++ seen.answered in
     record {
       start = start;
       begins = begins;
-      history = [];
-      legal = tt;
-      asks = (all_asks_of (units_of input).0, refl);
-      transactions = earlier;
-      all = sym (append-nil earlier);
-      moments = opens earlier ([], append-nil earlier) recovers.follow;
-    }
-
-some_and : {X : Type 0} (found : Option X) (P : X → Type 0) → IsSomeAnd found P → (x : X) × (found ≡ Some x) × P x
-some_and None P is = absurd is
-some_and (Some x) P is = (x, refl, is)
-
-broke_seen : (start : Start) (seed input before after : List ℕ) (earlier : List Tx) (old middle new : Option (List Disk)) → Begins start seed old
-    → Recovers earlier old → Opens earlier old middle → InterruptedUnits start input before after middle new → CrashSeen seed input earlier old new
-broke_seen start seed input before after earlier old middle new begins recovers opens broke =
-    let b = broke.breaks in
-    let history = b.later ++ (b.more ++ broke.trace.history) in
-    let transactions = earlier ++ journal_of start.base history in
-    record {
-      start = start;
-      begins = begins;
+      units = seen.units;
+      others = seen.others;
+      all = seen.all;
+      answered = seen.answered;
+      later = stopped.later;
       history = history;
-      legal = b.legal;
-      asks = b.asked;
-      transactions = transactions;
-      all = refl;
-      moments = moments old begins recovers opens history b.legal b.lasts;
+      both = refl;
+      legal = stopped.legal;
+      order = seen.order;
+      order_later = stopped.ordered;
+      gate = seen.gate;
+      complete = seen.complete;
+      output = seen.written;
+      holds = seen.holds;
+      crash = λ earlier recovers. always start seed earlier history middle new stopped.legal stopped.lasts old begins recovers (opens earlier recovers);
+      killed = λ earlier recovers.
+          as_it_is start seed earlier history middle new stopped.legal stopped.lasts old begins recovers (told_chain old middle new alike stopped.lasts.told)
+          (always start seed earlier history middle new stopped.legal stopped.lasts old begins recovers (opens earlier recovers))
+          (length (all_commits earlier start.base seen.answered))
+          (at_the_end start seed earlier history middle new stopped.legal stopped.lasts old begins recovers alike seen.answered stopped.keep);
+      acknowledged = λ earlier recovers.
+          at_the_end start seed earlier history middle new stopped.legal stopped.lasts old begins recovers alike seen.answered stopped.keep;
+      confirmed = λ earlier recovers.
+          at_the_end start seed earlier history middle new stopped.legal stopped.lasts old begins recovers alike
+          (confirmed_part start.base history) stopped.confirmed;
     }
+
+pub served_seen : (ended : Result (Unit {0}) Stop) (start : Start) (seed input : List ℕ) (output contents : Option (List ℕ)) (old middle new : Option (List Disk))
+    → Begins start seed old → KnownAlike old middle → ((earlier : List Tx) → Recovers earlier old → Opens earlier old middle)
+    → UnitsSeen (status_of ended) start input output contents middle new
+    → RunSeen (status_of ended) seed input output contents old new
+served_seen (Ok done) start seed input output contents old middle new begins alike opens seen =
+    served status.Ok start seed input output contents old middle new begins alike opens seen
+served_seen (Err (BadInput at)) start seed input output contents old middle new begins alike opens seen =
+    served (status.BadInput at) start seed input output contents old middle new begins alike opens seen
+served_seen (Err ReadFault) start seed input output contents old middle new begins alike opens seen =
+    served status.ReadFault start seed input output contents old middle new begins alike opens seen
+served_seen (Err WriteFault) start seed input output contents old middle new begins alike opens seen =
+    served status.WriteFault start seed input output contents old middle new begins alike opens seen
+served_seen (Err DiskFault) start seed input output contents old middle new begins alike opens seen =
+    inr (served status.DiskFault start seed input output contents old middle new begins alike opens seen)
+served_seen (Err NoMemory) start seed input output contents old middle new begins alike opens seen =
+    inr (served status.NoMemory start seed input output contents old middle new begins alike opens seen)
+
+-- the directory couldn't be opened
+pub not_opened : (output : Option (List ℕ)) (old new : Option (List Disk)) → KnownAlike old new
+    → ((earlier : List Tx) → Recovers earlier old → Opens earlier old new) → NotOpened output output old new
+not_opened output old new alike opens = record {
+  output = λ before was. was;
+  crash = λ earlier recovers. let opened = alone earlier recovers in both_always earlier old new opened.0 opened.1;
+  killed = λ earlier least recovers held.
+      let opened = alone earlier recovers in
+      let survives : RecoversNow earlier least new = told_then old new (λ disk past. Survive earlier least disk) alike
+      (told_both old
+      (λ disk past moments was.
+      kept (Survive earlier 0) (NoFewerSurvive earlier) (Survive earlier least) (λ older newer fewer here. fewer least here) new disk past moments was)
+      opened.0 held) in
+      let reads : IfKnown new (λ disk past. ReadsMost earlier disk) = last_of (ReadsMost earlier) old new alike
+      (subst (λ (txs : List Tx). IfKnown old (λ disk past. ReadsMost txs disk)) (append-nil earlier) (reads_told earlier [] old recovers)) opened.1 in
+      told_both new (λ now before survive most. read_recovers earlier least now before recovers.follow survive most) survives reads;
+}
   where
-    moments : (old : Option (List Disk)) → Begins start seed old → Recovers earlier old → Opens earlier old middle → (history : History)
-        → IsLegal start.base history → Lasts start.base history middle new
-        → IfKnown old (λ disk past. Moments (Survive (earlier ++ journal_of start.base history) 0)
-        (NoFewerSurvive (earlier ++ journal_of start.base history)) new disk past)
-    moments None begins recovers opens history legal lasts = tt
-    moments (Some []) begins recovers opens history legal lasts = tt
-    moments (Some (disk ∷ past)) begins recovers opens history legal lasts =
-        let transactions = earlier ++ journal_of start.base history in
-        let all = extends earlier start.base history (comes start seed earlier disk past begins recovers) recovers.follow legal in
-        joined (Survive transactions 0) (NoFewerSurvive transactions) (Some (disk ∷ past)) middle new
-        (opens transactions (journal_of start.base history, refl) all.follow) (lasts.moments transactions all)
+    alone : (earlier : List Tx) → Recovers earlier old
+        → IfKnown old (λ disk past. Moments (Survive earlier 0) (NoFewerSurvive earlier) new disk past)
+        × IfKnown old (λ disk past. Moments (ReadsMost earlier) (λ older newer. ⊤) new disk past)
+    alone earlier recovers = opens earlier recovers earlier ([], append-nil earlier) recovers.follow
 
-pub crash_seen : (start : Start) (seed input before : List ℕ) (contents : Option (List ℕ)) (earlier : List Tx) (old middle new : Option (List Disk))
-    → Begins start seed old → Recovers earlier old → Opens earlier old middle
-    → IsSomeAnd contents (λ after. InterruptedUnits start input before after middle new) → CrashSeen seed input earlier old new
-crash_seen start seed input before contents earlier old middle new begins recovers opens broke =
-    let (after, is, broke) = some_and contents (λ after. InterruptedUnits start input before after middle new) broke in
-    broke_seen start seed input before after earlier old middle new begins recovers opens broke
+-- nothing was done
+pub left_alone : (output : Option (List ℕ)) (old new : Option (List Disk)) → new ≡ old → Untouched output output old new
+left_alone output old new same = record { output = λ before was. was; directory = same }
 
--- the directory was left as it was
-pub unchanged_seen : (seed input : List ℕ) (earlier : List Tx) (states : Option (List Disk)) → Recovers earlier states
-    → CrashSeen seed input earlier states states
-unchanged_seen seed input earlier states recovers =
-    opening_seen seed input earlier states states recovers
-    (λ transactions front follow. no_moments (λ disk. Survive transactions 0) (NoFewerSurvive transactions) states)
-
--- ---- at the end
-
-pub gate_seen : (start : Start) (seed input before : List ℕ) (contents : Option (List ℕ)) (earlier : List Tx) (old middle new : Option (List Disk))
-    → Begins start seed old → Recovers earlier old → KnownAlike old middle
-    → IsSomeAnd contents (λ after. InterruptedUnits start input before after middle new)
-    → IsSomeAnd contents (λ after. GateSeen seed input before after earlier old new)
-unfolding comes extends
-gate_seen start seed input before None earlier old middle new begins recovers alike broke = broke
-gate_seen start seed input before (Some after) earlier old middle new begins recovers alike broke =
-    let b = broke.breaks in
-    inr (record {
-      start = start;
-      begins = begins;
-      trace = broke.trace;
-      more = b.more;
-      later = b.later;
-      legal = b.legal;
-      asks = b.asked;
-      confirmed = b.confirmed;
-      keep = keep old begins recovers alike (b.later ++ (b.more ++ broke.trace.history)) (b.more ++ broke.trace.history) b.legal b.lasts b.keep;
-    })
+-- where the input failed, all of the output for the units that were answered is there
+pub all_written : (seed input before : List ℕ) (output_old output_new : Option (List ℕ)) (old new : Option (List Disk))
+    → (served : Served status.ReadFault seed input output_old output_new old new) → output_old ≡ Some before
+    → output_new ≡ Some (before ++ trace_output served.start served.units served.answered)
+all_written seed input before output_old output_new old new served was = by_contents output_new (served.output before was)
   where
-    keep : (old : Option (List Disk)) → Begins start seed old → Recovers earlier old → KnownAlike old middle → (history first : History)
-        → IsLegal start.base history → Lasts start.base history middle new → StepsSurvive start.base history first new
-        → IfKnown new (λ disk past. Survive (earlier ++ journal_of start.base history) (length (earlier ++ journal_of start.base first)) disk)
-    keep old begins recovers alike history first legal lasts kept =
-        told_then old new (λ disk past. Survive (earlier ++ journal_of start.base history) (length (earlier ++ journal_of start.base first)) disk)
-        (told_chain old middle new alike lasts.told)
-        (where_told old _ (λ disk past told.
-        kept (earlier ++ journal_of start.base history)
-        (extends earlier start.base history
-        (comes start seed earlier disk past (subst (Begins start seed) told begins) (subst (Recovers earlier) told recovers)) recovers.follow legal)))
+    whole : List ℕ
+    whole = before ++ trace_output served.start served.units served.answered
+
+    by_contents : (contents : Option (List ℕ))
+        → IsSomeAnd contents (λ after. OutputSeen status.ReadFault served.start input served.units served.answered served.history before after)
+        → contents ≡ Some whole
+    by_contents None seen = absurd seen
+    by_contents (Some after) seen =
+        ap (λ (l : List ℕ). Some l) (seen.output ∙ ap (λ (l : List ℕ). before ++ l) seen.is)
+
+-- but where the output failed all that it holds was passed on, by the status too
+pub passed_by : (ended : Result (Unit {0}) Stop) (told : Status) (passed contents passed_now contents_now : Option (List ℕ)) → told ≡ status_of ended
+    → (ended ≡ Err WriteFault) ⊎ StillPassedOn passed contents passed_now contents_now
+    → (told ≡ status.WriteFault) ⊎ StillPassedOn passed contents passed_now contents_now
+passed_by ended told passed contents passed_now contents_now is (inl failed) = inl (is ∙ ap status_of failed)
+passed_by ended told passed contents passed_now contents_now is (inr still) = inr still

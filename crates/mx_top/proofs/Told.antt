@@ -1,6 +1,6 @@
 -- How far a run has come, where the input tells what it has left.
 use Rattle.std.proofs.Common.{◌≡◌, ℕ, List, [], ◌++◌, Some, get_or, slice_set, refl, sym, ap, ◌∙◌, subst, arith, ◌∷◌, inl, inr}
-use Rattle.std.specs.Prelude.{◌⊎◌, Option, IsSomeAnd}
+use Rattle.std.specs.Prelude.{◌⊎◌, Option, Ok, Err}
 use Rattle.std.proofs.lemmas.List.{append-nil}
 use Rattle.mx_outside.specs.Disks.{Disk}
 use Rattle.mx_model.specs.declared.damage.Damage.{Damage}
@@ -12,9 +12,9 @@ use Rattle.mx_node.specs.Starts.{Start}
 use Rattle.mx_top.specs.declared.status.Status.{Status}
 use Rattle.mx_top.specs.declared.status.Status.TheVariants as status
 use Rattle.mx_top.specs.Runs.{PlaceSeen, fault_place, status_by}
-use Rattle.mx_top.specs.Progress.{ReadTo, Wrote, InterruptedUnits, NextStep}
+use Rattle.mx_top.specs.Progress.{ReadTo, Wrote, UnitsSeen, NextStep}
 use Rattle.mx_node.proofs.LastingLaws.{lasts_none}
-use Rattle.mx_top.proofs.ProgressLaws.{untouched_among}
+use Rattle.mx_top.proofs.ProgressLaws.{no_memory, stopped_after, untouched}
 
 -- The input was read up to this place; and where the server had served nothing first, all of the output for the units read
 -- was written.
@@ -24,9 +24,19 @@ pub record HasRead (input : List ℕ) (left : Option (List ℕ)) (waiting : List
   pub left_is : left ≡ Some rest
   pub units : List InputUnit
   pub read : ReadTo input (waiting ++ rest) place units
-  pub wrote : (start : Start) (before : List ℕ) → Serves start first [] [] states → old ≡ Some before → Wrote start server units before new states now
+  pub wrote : (start : Start) → Serves start first [] [] states → Wrote start server units old new states now
 
--- nothing was read or written yet
+-- nothing was written yet
+wrote_nothing : (start : Start) (server : Single) (old : Option (List ℕ)) (states : Option (List Disk)) → Serves start server [] [] states
+    → Wrote start server [] old old states states
+wrote_nothing start server old states serves = record {
+  history = [];
+  serves = serves;
+  written = λ before was. was ∙ ap (λ l. Some l) (sym (append-nil before));
+  lasts = lasts_none start.base [] states;
+}
+
+-- nor was anything read
 pub has_read_nothing : (input waiting : List ℕ) (left : Option (List ℕ)) (server : Single) (old : Option (List ℕ)) (states : Option (List Disk))
     → left ≡ Some input → waiting ≡ []
     → HasRead input left waiting 0 server server old old states states
@@ -38,12 +48,7 @@ has_read_nothing input waiting left server old states told none =
       left_is = told;
       units = [];
       read = subst (λ r. ReadTo input r 0 []) (sym all) (record { all = refl; at = omega arith });
-      wrote = λ start before serves was. record {
-        history = [];
-        serves = serves;
-        written = was ∙ ap (λ l. Some l) (sym (append-nil before));
-        lasts = lasts_none start.base [] states;
-      };
+      wrote = λ start serves. wrote_nothing start server old states serves;
     }
 
 -- one unit more
@@ -51,33 +56,23 @@ pub has_read_more : (input waiting rest : List ℕ) (left : Option (List ℕ)) (
     (old middle new : Option (List ℕ))
     (states between now : Option (List Disk))
     → left ≡ Some rest → NextStep input (waiting ++ rest) next server after units middle new between now
-    → ((start : Start) (before : List ℕ) → Serves start first [] [] states → old ≡ Some before → Wrote start server units before middle states between)
+    → ((start : Start) → Serves start first [] [] states → Wrote start server units old middle states between)
     → HasRead input left waiting next first after old new states now
 has_read_more input waiting rest left next first server after units old middle new states between now told on wrote = record {
   rest = rest;
   left_is = told;
   units = units ++ on.unit ∷ [];
   read = on.read;
-  wrote = λ start before serves was. on.wrote start before states (wrote start before serves was);
+  wrote = λ start serves. on.wrote start old states (wrote start serves);
 }
 
 -- nothing was written or done
-pub begins_nothing : (start : Start) (input before : List ℕ) (server : Single) (old : Option (List ℕ)) (states : Option (List Disk))
-    → Serves start server [] [] states → old ≡ Some before → IsSomeAnd old (λ written. InterruptedUnits start input before written states states)
-begins_nothing start input before server old states serves was =
-    subst (λ o. IsSomeAnd o (λ written. InterruptedUnits start input before written states states)) (sym was) (record {
-      trace = record {
-        units = [];
-        begun = ((units_of input).0, refl);
-        history = [];
-        legal = tt;
-        asks = ([], refl);
-        written = [];
-        part = ([], refl);
-        output = sym (append-nil before);
-      };
-      breaks = untouched_among start server [] (units_of input).0 [] states ((units_of input).0, refl) serves;
-    })
+pub begins_nothing : (start : Start) (input : List ℕ) (server : Single) (old : Option (List ℕ)) (states : Option (List Disk))
+    → Serves start server [] [] states → UnitsSeen status.NoMemory start input old old states states
+unfolding wrote_nothing
+begins_nothing start input server old states serves =
+    stopped_after status.NoMemory no_memory start input server [] (units_of input).0 old old states states states refl
+    (wrote_nothing start server old states serves) (untouched start server [] (units_of input).0 [] states serves)
 
 -- a run that no fault ended has the status that its input demands, or memory ran out, or the directory is corrupt or inconsistent
 pub completes : (ended : Status) (input : List ℕ) (left : Option (List ℕ)) → PlaceSeen ended input left → (ended ≡ status.BadWords → ⊥)
@@ -91,6 +86,11 @@ completes status.WriteFault input left place words reads writes disks = absurd (
 completes status.DiskFault input left place words reads writes disks = absurd (disks refl)
 completes status.NoMemory input left place words reads writes disks = inr (inl refl)
 completes (status.Damaged damage) input left place words reads writes disks = inr (inr (damage, refl))
+
+-- a call that succeeded didn't fail
+pub where_ok : {T E P : Type 0} {value : T} {error : E} → (Ok value ≡ Err error) ⊎ P → P
+where_ok (inl failed) = absurd cc
+where_ok (inr same) = same
 
 -- the only one of a list, before and after it was changed
 pub only_one : {X : Type 0} (items : List X) (before after found new : X) → items ≡ before ∷ [] → found ≡ get_or items 0 found

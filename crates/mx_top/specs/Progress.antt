@@ -2,7 +2,9 @@
 use Rattle.std.specs.Prelude.{◌≡◌, ℕ, ◌+◌, ◌<◌, List, [], ◌∷◌, ◌++◌, length, Option, Some, None, Result, Ok, Err, IsSomeAnd}
 use Rattle.mx_msgpack.specs.Readers.{all_from}
 use Rattle.mx_outside.specs.Disks.{Disk, IfKnown}
-use Rattle.mx_model.specs.Histories.{History}
+use Rattle.mx_model.specs.Histories.{History, HasMemory}
+use Rattle.mx_model.specs.Order.{order_in}
+use Rattle.mx_model.specs.Gate.{RepliesMayLeave}
 use Rattle.mx_node.specs.declared.single.Single.{Single}
 use Rattle.mx_top.specs.declared.status.Status.{Status}
 use Rattle.mx_top.specs.declared.status.Status.TheVariants as status
@@ -11,13 +13,13 @@ use Rattle.mx_top.specs.declared.stop.Stop.{Stop}
 use Rattle.mx_top.specs.declared.stop.Stop.TheVariants.{BadInput, ReadFault, WriteFault, DiskFault, NoMemory}
 use Rattle.mx_top.specs.Units.{content_at, unit_at, units_of}
 use Rattle.mx_node.specs.Inputs.{InputUnit}
-use Rattle.mx_node.specs.Connections.{all_asks_of}
+use Rattle.mx_node.specs.Order.{order_of, whole_order_of}
 use Rattle.mx_top.specs.TraceOutput.{trace_output}
 use Rattle.mx_node.specs.Serving.{Serves, DirectoryHolds}
 use Rattle.mx_node.specs.Starts.{Start}
 use Rattle.mx_node.specs.Interrupted.{IsInterrupted}
 use Rattle.mx_model.specs.Survival.{Lasts}
-use Rattle.mx_top.specs.Runs.{IsTrace, BeginsTrace, PlaceSeen}
+use Rattle.mx_top.specs.Runs.{AtCompletion, OutputSeen, PlaceSeen, order_until}
 
 -- what stops a run where a unit stands at this place in the bytes that are left
 abbrev pub StopsAt : (place : ℕ) → (bytes : List ℕ) → Stop → Type 0
@@ -45,49 +47,42 @@ abbrev pub status_of : Result (Unit {0}) Stop → Status
 status_of (Ok done) = status.Ok
 status_of (Err stop) = status_of_stop stop
 
--- these units were answered, and all of the output for them was written, since the directory had its first states
-pub record Wrote (start : Start) (server : Single) (units : List InputUnit) (before : List ℕ) (contents : Option (List ℕ)) (first states : Option (List Disk)) : Type 0 where
+-- these units were answered, and all of the output for them was written, since the output had its first contents and the
+-- directory its first states
+pub record Wrote (start : Start) (server : Single) (units : List InputUnit) (output contents : Option (List ℕ)) (first states : Option (List Disk)) : Type 0 where
   pub history : History
   pub serves : Serves start server units history states
-  pub written : contents ≡ Some (before ++ trace_output start units history)
+  pub written : (before : List ℕ) → output ≡ Some before → contents ≡ Some (before ++ trace_output start units history)
   pub lasts : Lasts start.base history first states
 
--- all of the input's units were answered, and all of the output was written
-pub record AnsweredUnits (start : Start) (input before after : List ℕ) (server : Single) (first states : Option (List Disk)) : Type 0 where
-  pub history : History
-  pub serves : Serves start server (units_of input).0 history states
-  pub output : after ≡ before ++ trace_output start (units_of input).0 history
-  pub lasts : Lasts start.base history first states
-
--- the run broke off: what was written, and what the directory keeps
-pub record InterruptedUnits (start : Start) (input before after : List ℕ) (first states : Option (List Disk)) : Type 0 where
-  pub trace : BeginsTrace start input before after
-  pub breaks : IsInterrupted start.base trace.history (all_asks_of (units_of input).0) first states
+-- These units of the input were answered whole, and no other one was begun but the next. At the end of the input the directory
+-- holds what was committed.
+pub record UnitsSeen (status : Status) (start : Start) (input : List ℕ) (output contents : Option (List ℕ)) (first states : Option (List Disk)) : Type 0 where
+  pub units : List InputUnit
+  pub others : List InputUnit
+  pub all : units ++ others ≡ (units_of input).0
+  pub answered : History
+  pub order : order_in answered ≡ order_of units
+  pub gate : RepliesMayLeave start.base answered
+  pub stopped : IsInterrupted start.base answered (order_until units others) first states
+  pub complete : AtCompletion status ((others ≡ []) × (order_in (stopped.later ++ answered) ≡ whole_order_of units))
+  pub holds : AtCompletion status (IfKnown states (λ disk past. DirectoryHolds start.base (stopped.later ++ answered) disk))
+  pub written : (before : List ℕ) → output ≡ Some before
+      → IsSomeAnd contents (λ after. OutputSeen status start input units answered (stopped.later ++ answered) before after)
 
 -- what the end of the units, or the cause that stopped the run among them, says of the output and of the directory
-abbrev pub EndSeen : Result (Unit {0}) Stop → (start : Start) → (input before after : List ℕ) → (server : Single) → (first states : Option (List Disk)) → Type 0
-EndSeen (Ok done) start input before after server first states = AnsweredUnits start input before after server first states
-EndSeen (Err (BadInput at)) start input before after server first states = AnsweredUnits start input before after server first states
-EndSeen (Err _) start input before after server first states = InterruptedUnits start input before after first states
+abbrev pub EndSeen : Result (Unit {0}) Stop → (start : Start) → (input : List ℕ) → (server : Single) → (output contents : Option (List ℕ))
+    → (first states : Option (List Disk)) → Type 0
+EndSeen (Ok done) start input server output contents first states = Wrote start server (units_of input).0 output contents first states
+EndSeen (Err (BadInput at)) start input server output contents first states = Wrote start server (units_of input).0 output contents first states
+EndSeen (Err stop) start input server output contents first states = UnitsSeen (status_of_stop stop) start input output contents first states
 
--- all of the input's units were answered, all of the output was written, and the directory keeps what was committed
-pub record CompleteUnits (start : Start) (input before after : List ℕ) (states : Option (List Disk)) : Type 0 where
-  pub history : History
-  pub trace : IsTrace start history input before after
-  pub keeps : IfKnown states (λ disk past. DirectoryHolds start.base history disk)
-
--- the same once the journal is ended in order
-abbrev pub RunSeen : Result (Unit {0}) Stop → (start : Start) → (input before after : List ℕ) → (states : Option (List Disk)) → Type 0
-RunSeen (Ok done) start input before after states = CompleteUnits start input before after states
-RunSeen (Err (BadInput at)) start input before after states = CompleteUnits start input before after states
-RunSeen (Err _) start input before after states = BeginsTrace start input before after
-
--- the units ended so: what this says of the input, and where all of the output for these units was written, what it says of the output
+-- the units ended so: what this says of the input, of the output and of the directory
 pub record LastStep (ended : Result (Unit {0}) Stop) (input : List ℕ) (left : Option (List ℕ)) (server after : Single) (units : List InputUnit)
     (old new : Option (List ℕ)) (states now : Option (List Disk)) : Type 0 where
   pub place : PlaceSeen (status_of ended) input left
-  pub output : (start : Start) (before : List ℕ) (first : Option (List Disk)) → Wrote start server units before old first states
-      → IsSomeAnd new (λ written. EndSeen ended start input before written after first now)
+  pub output : (start : Start) (output : Option (List ℕ)) (first : Option (List Disk)) → Wrote start server units output old first states
+      → EndSeen ended start input after output new first now
 
 -- one unit more was answered, by this output
 pub record WritesUnit (start : Start) (node : Single) (units : List InputUnit) (earlier : History) (unit : InputUnit) (output : List ℕ) (old states : Option (List Disk)) : Type 0 where
@@ -102,5 +97,5 @@ pub record NextStep (input rest : List ℕ) (place : ℕ) (server after : Single
     (old new : Option (List ℕ)) (states now : Option (List Disk)) : Type 0 where
   pub unit : InputUnit
   pub read : ReadTo input rest place (units ++ unit ∷ [])
-  pub wrote : (start : Start) (before : List ℕ) (first : Option (List Disk)) → Wrote start server units before old first states
-      → Wrote start after (units ++ unit ∷ []) before new first now
+  pub wrote : (start : Start) (output : Option (List ℕ)) (first : Option (List Disk)) → Wrote start server units output old first states
+      → Wrote start after (units ++ unit ∷ []) output new first now

@@ -1,21 +1,27 @@
 -- What a run of the program does, seen from outside.
-use Rattle.std.specs.Prelude.{◌≡◌, ◌⊎◌, ⊤, ℕ, ◌-◌, ◌≤◌, List, [], ◌∷◌, ◌++◌, length, Option, Some, None, Err}
+use Rattle.std.specs.Prelude.{◌≡◌, ◌⊎◌, ⊤, ℕ, ◌-◌, ◌≤◌, List, [], ◌∷◌, ◌++◌, length, take, Option, Some, None, Err, IsSomeAnd}
 use mathlib.Core.List.{IsPrefix}
 use Rattle.mx_outside.specs.Disks.{Disk, IfKnown}
 use Rattle.mx_outside.specs.Moments.{Moments}
+use Rattle.mx_outside.specs.Passed.{IsAllOf}
 use Rattle.mx_row.specs.declared.tx.Tx.{Tx}
+use Rattle.mx_images.specs.Changes.{KeepsOthers}
 use Rattle.mx_model.specs.Directories.{IsDirectoryState}
-use Rattle.mx_model.specs.Histories.{History, IsLegal, HasMemory, asks_in, history_from, journal_of, ledger_of}
+use Rattle.mx_model.specs.Histories.{Base, History, IsLegal, HasMemory, history_from, journal_of}
+use Rattle.mx_model.specs.Order.{Step, order_in}
+use Rattle.mx_model.specs.Gate.{RepliesMayLeave, confirmed_part}
+use Rattle.mx_model.specs.Survival.{Recovers, Survive, NoFewerSurvive, ReadsMost}
+use Rattle.mx_node.specs.Inputs.{InputUnit}
+use Rattle.mx_node.specs.Order.{order_by, order_of, whole_order_of, all_asks_of}
+use Rattle.mx_node.specs.Serving.{DirectoryHolds}
+use Rattle.mx_node.specs.Starts.{Start}
 use Rattle.mx_top.specs.declared.status.Status.{Status}
 use Rattle.mx_top.specs.declared.status.Status.TheVariants as status
 use Rattle.mx_top.specs.Units.{units_of}
-use Rattle.mx_node.specs.Inputs.{InputUnit}
-use Rattle.mx_node.specs.Connections.{asks_of, all_asks_of}
 use Rattle.mx_top.specs.TraceOutput.{trace_output}
-use Rattle.mx_node.specs.Serving.{DirectoryHolds}
-use Rattle.mx_node.specs.Starts.{Start}
 use Rattle.mx_top.specs.Starts.{Begins}
-use Rattle.mx_model.specs.Survival.{Survive, NoFewerSurvive}
+
+-- ---- the input
 
 abbrev pub place_before : List ℕ → List ℕ → Option ℕ
 place_before input [] = None
@@ -25,44 +31,6 @@ place_before input (byte ∷ rest) = Some (length input - length (byte ∷ rest)
 abbrev pub fault_place : List ℕ → Option ℕ
 fault_place input = place_before input (units_of input).1
 
--- the output where each request finds memory
-abbrev pub expected_output : (start : Start) (input : List ℕ) → List ℕ
-expected_output start input =
-    trace_output start (units_of input).0 (history_from start.base [] (all_asks_of (units_of input).0))
-
--- What was written is the whole output for the input's units and this legal history of their requests. Where none was
--- answered that memory ran out, it is a function of the start and the input.
-pub record IsTrace (start : Start) (history : History) (input before after : List ℕ) : Type 0 where
-  pub legal : IsLegal start.base history
-  pub asks : asks_in history ≡ all_asks_of (units_of input).0
-  pub output : after ≡ before ++ trace_output start (units_of input).0 history
-  pub determined : HasMemory history → after ≡ before ++ expected_output start input
-
--- What was written is a prefix of the output for units that begin the input's, and a legal history of requests that begin theirs.
-pub record BeginsTrace (start : Start) (input before after : List ℕ) : Type 0 where
-  pub units : List InputUnit
-  pub begun : IsPrefix units (units_of input).0
-  pub history : History
-  pub legal : IsLegal start.base history
-  pub asks : IsPrefix (asks_in history) (asks_of units)
-  pub written : List ℕ
-  pub part : IsPrefix written (trace_output start units history)
-  pub output : after ≡ before ++ written
-
--- The run answered the input to its end or its fault, and left its commits in the directory.
-pub record CompleteRun (seed input before after : List ℕ) (old new : Option (List Disk)) : Type 0 where
-  pub start : Start
-  pub begins : Begins start seed old
-  pub history : History
-  pub trace : IsTrace start history input before after
-  pub keeps : IfKnown new (λ disk past. DirectoryHolds start.base history disk)
-
--- the run ended early
-pub record InterruptedRun (seed input before after : List ℕ) (old : Option (List Disk)) : Type 0 where
-  pub start : Start
-  pub begins : Begins start seed old
-  pub trace : BeginsTrace start input before after
-
 -- what a status says of the input: at Ok it was well-formed and was read to its end, and a malformed unit is the first one
 abbrev pub PlaceSeen : Status → (input : List ℕ) → (left : Option (List ℕ)) → Type 0
 PlaceSeen status.Ok input left = (fault_place input ≡ None) × (left ≡ Some [])
@@ -71,58 +39,129 @@ PlaceSeen status.BadWords input left = left ≡ Some input
 PlaceSeen (status.Damaged damage) input left = left ≡ Some input
 PlaceSeen _ input left = ⊤
 
--- Nothing was written, or a prefix of what the database that the directory stands for would answer. A run that failed before
--- it had opened the directory wrote nothing.
-abbrev pub NothingOrInterrupted : (seed input before after : List ℕ) → Option (List Disk) → Type 0
-NothingOrInterrupted seed input before after old = (after ≡ before) ⊎ InterruptedRun seed input before after old
+-- the status of a run that no fault ended
+abbrev pub status_by : Option ℕ → Status
+status_by None = status.Ok
+status_by (Some at) = status.BadInput at
 
--- what a status says of the output and of the directory
-abbrev pub OutputSeen : Status → (seed input before after : List ℕ) → (old new : Option (List Disk)) → Type 0
-OutputSeen status.Ok seed input before after old new = CompleteRun seed input before after old new
-OutputSeen (status.BadInput at) seed input before after old new = CompleteRun seed input before after old new
-OutputSeen status.BadWords seed input before after old new = (after ≡ before) × (new ≡ old)
-OutputSeen status.ReadFault seed input before after old new = InterruptedRun seed input before after old
-OutputSeen status.WriteFault seed input before after old new = InterruptedRun seed input before after old
-OutputSeen status.DiskFault seed input before after old new = NothingOrInterrupted seed input before after old
-OutputSeen status.NoMemory seed input before after old new = NothingOrInterrupted seed input before after old
-OutputSeen (status.Damaged damage) seed input before after old new = (after ≡ before) × (new ≡ old)
+-- this holds of a run that answered all units of its input
+abbrev pub AtCompletion : Status → Type 0 → Type 0
+AtCompletion status.Ok P = P
+AtCompletion (status.BadInput at) P = P
+AtCompletion _ P = ⊤
+
+-- the order of the steps for these units, and for the next one; after the last one all connections depart
+abbrev pub order_until : (units others : List InputUnit) → List Step
+order_until units [] = whole_order_of units
+order_until units (unit ∷ others) = order_of units ++ order_by units unit
+
+-- ---- the output
+
+-- the output where each request finds memory
+abbrev pub expected_output : (start : Start) (input : List ℕ) → List ℕ
+expected_output start input =
+    trace_output start (units_of input).0 (history_from start.base [] (all_asks_of (units_of input).0))
+
+-- What was written is the whole output for the units that were answered. Where the output failed, it may lack some of that for
+-- the last one.
+abbrev pub IsOutput : Status → (start : Start) → List InputUnit → History → (written : List ℕ) → Type 0
+IsOutput status.WriteFault start units answered written =
+    (first : List InputUnit) × (last : InputUnit) × (units ≡ first ++ last ∷ [])
+    × IsPrefix (trace_output start first answered) written × IsPrefix written (trace_output start units answered)
+IsOutput _ start units answered written = written ≡ trace_output start units answered
+
+-- What the output has, after what it had before. Where no request of an input that was answered whole was out of
+-- memory, it is a function of the start and the input.
+pub record OutputSeen (status : Status) (start : Start) (input : List ℕ) (units : List InputUnit) (answered history : History)
+    (before after : List ℕ) : Type 0 where
+  pub written : List ℕ
+  pub output : after ≡ before ++ written
+  pub is : IsOutput status start units answered written
+  pub determined : AtCompletion status (HasMemory history → written ≡ expected_output start input)
+
+-- all that the output holds was passed on, if that was so before
+abbrev pub StillPassedOn : (passed contents passed_now contents_now : Option (List ℕ)) → Type 0
+StillPassedOn passed contents passed_now contents_now = IsAllOf passed contents → IsAllOf passed_now contents_now
+
+-- ---- the directory
+
+-- all commits of a run, after those that its directory had before
+abbrev pub all_commits : List Tx → Base → History → List Tx
+all_commits earlier base history = earlier ++ journal_of base history
+
+-- At each moment the directory reads as a prefix of these commits, and after any crash it recovers no more of them, and never
+-- fewer than before.
+abbrev pub RecoversAlways : List Tx → (old new : Option (List Disk)) → Type 0
+RecoversAlways commits old new =
+    IfKnown old (λ disk past. Moments (λ now. Survive commits 0 now × ReadsMost commits now) (λ older newer. NoFewerSurvive commits older newer × ⊤) new disk past)
+
+-- at each moment every file that isn't the database's is as it was
+abbrev pub OthersKept : (old new : Option (List Disk)) → Type 0
+OthersKept old new = IfKnown old (λ disk past. Moments (λ _. ⊤) KeepsOthers new disk past)
+
+-- after any crash the directory recovers a prefix of these commits, and so many of them at least
+abbrev pub RecoversNow : List Tx → (least : ℕ) → Option (List Disk) → Type 0
+RecoversNow commits least new = IfKnown new (λ disk past. Survive commits least disk)
+
+-- as it is, with no crash, the directory recovers a prefix of these commits, and so many of them at least
+abbrev pub RecoversAsItIs : List Tx → (least : ℕ) → Option (List Disk) → Type 0
+RecoversAsItIs commits least new =
+    IfKnown new (λ disk past. (count : ℕ) × (least ≤ count) × (count ≤ length commits) × Recovers (take count commits) (Some (disk ∷ past)))
 
 -- the directory is corrupt or inconsistent, by this damage, where it tells its files
 abbrev pub DamageSeen : Status → Option (List Disk) → Type 0
 DamageSeen (status.Damaged damage) old = IfKnown old (λ disk past. IsDirectoryState disk.now (Err damage))
 DamageSeen _ old = ⊤
 
--- At each moment of the run, whatever a crash left stood for the first ones of these transactions: those that the directory
--- stood for, and those that a history of the input's requests committed. It never stood for fewer than before.
-pub record CrashSeen (seed input : List ℕ) (earlier : List Tx) (old new : Option (List Disk)) : Type 0 where
-  pub start : Start
-  pub begins : Begins start seed old
-  pub history : History
-  pub legal : IsLegal start.base history
-  pub asks : IsPrefix (asks_in history) (all_asks_of (units_of input).0)
-  pub transactions : List Tx
-  pub all : transactions ≡ earlier ++ journal_of start.base history
-  pub moments : IfKnown old (λ disk past. Moments (Survive transactions 0) (NoFewerSurvive transactions) new disk past)
+-- ---- the run
 
--- The replies that stand in the output are those of a history. Whatever a crash leaves has all that was committed in it and,
--- beyond it, in each step that was confirmed; what a later step committed may be there too.
-pub record Gated (seed input before after : List ℕ) (earlier : List Tx) (old new : Option (List Disk)) : Type 0 where
+-- A run that opened its directory. It answered these units whole, and began none of the others but the next; one history has
+-- the steps for both. Each part says the same of that history: what was written, what the directory recovers at each moment,
+-- and that no reply was written before all that it depends on was durable.
+pub record Served (status : Status) (seed input : List ℕ) (output_old output_new : Option (List ℕ)) (old new : Option (List Disk)) : Type 0 where
   pub start : Start
   pub begins : Begins start seed old
-  pub trace : BeginsTrace start input before after
-  pub more : History
+  pub units : List InputUnit
+  pub others : List InputUnit
+  pub all : units ++ others ≡ (units_of input).0
+  -- the steps for the units that were answered whole, and then those of the next one
+  pub answered : History
   pub later : History
-  pub legal : IsLegal start.base (later ++ (more ++ trace.history))
-  pub asks : IsPrefix (asks_in (later ++ (more ++ trace.history))) (all_asks_of (units_of input).0)
-  pub confirmed : (ledger_of start.base (later ++ (more ++ trace.history))).durable ≤ length (more ++ trace.history)
-  pub keep : IfKnown new (λ disk past. Survive (earlier ++ journal_of start.base (later ++ (more ++ trace.history)))
-      (length (earlier ++ journal_of start.base (more ++ trace.history))) disk)
+  pub history : History
+  pub both : history ≡ later ++ answered
+  pub legal : IsLegal start.base history
+  pub order : order_in answered ≡ order_of units
+  pub order_later : IsPrefix (order_in history) (order_until units others)
+  pub gate : RepliesMayLeave start.base answered
+  pub complete : AtCompletion status ((others ≡ []) × (order_in history ≡ whole_order_of units))
+  pub output : (before : List ℕ) → output_old ≡ Some before
+      → IsSomeAnd output_new (λ after. OutputSeen status start input units answered history before after)
+  pub holds : AtCompletion status (IfKnown new (λ disk past. DirectoryHolds start.base history disk))
+  pub crash : (earlier : List Tx) → Recovers earlier old → RecoversAlways (all_commits earlier start.base history) old new
+  pub acknowledged : (earlier : List Tx) → Recovers earlier old
+      → RecoversNow (all_commits earlier start.base history) (length (all_commits earlier start.base answered)) new
+  pub killed : (earlier : List Tx) → Recovers earlier old
+      → RecoversAsItIs (all_commits earlier start.base history) (length (all_commits earlier start.base answered)) new
+  pub confirmed : (earlier : List Tx) → Recovers earlier old
+      → RecoversNow (all_commits earlier start.base history) (length (all_commits earlier start.base (confirmed_part start.base history))) new
 
--- no reply went out before all that it saw was durable
-abbrev pub GateSeen : (seed input before after : List ℕ) → List Tx → (old new : Option (List Disk)) → Type 0
-GateSeen seed input before after earlier old new = (after ≡ before) ⊎ Gated seed input before after earlier old new
+-- A run that didn't open its directory: nothing was written or committed.
+pub record NotOpened (output_old output_new : Option (List ℕ)) (old new : Option (List Disk)) : Type 0 where
+  pub output : (before : List ℕ) → output_old ≡ Some before → output_new ≡ Some before
+  pub crash : (earlier : List Tx) → Recovers earlier old → RecoversAlways earlier old new
+  pub killed : (earlier : List Tx) (least : ℕ) → Recovers earlier old → RecoversNow earlier least old → RecoversAsItIs earlier least new
 
--- the status of a run that no fault ended
-abbrev pub status_by : Option ℕ → Status
-status_by None = status.Ok
-status_by (Some at) = status.BadInput at
+-- nothing was written, and the directory is as it was
+pub record Untouched (output_old output_new : Option (List ℕ)) (old new : Option (List Disk)) : Type 0 where
+  pub output : (before : List ℕ) → output_old ≡ Some before → output_new ≡ Some before
+  pub directory : new ≡ old
+
+-- what a status says of the output and of the directory
+abbrev pub RunSeen : Status → (seed input : List ℕ) (output_old output_new : Option (List ℕ)) (old new : Option (List Disk)) → Type 0
+RunSeen status.BadWords seed input output_old output_new old new = Untouched output_old output_new old new
+RunSeen (status.Damaged damage) seed input output_old output_new old new = Untouched output_old output_new old new
+RunSeen status.DiskFault seed input output_old output_new old new =
+    NotOpened output_old output_new old new ⊎ Served status.DiskFault seed input output_old output_new old new
+RunSeen status.NoMemory seed input output_old output_new old new =
+    NotOpened output_old output_new old new ⊎ Served status.NoMemory seed input output_old output_new old new
+RunSeen status seed input output_old output_new old new = Served status seed input output_old output_new old new

@@ -11,7 +11,7 @@ use Rattle.mx_node.specs.Starts.{Start, IsStart}
 abbrev pub made_random : List ℕ → List ℕ
 made_random bytes = with_version (with_variant bytes RFC4122) Random
 
--- who a node is whose directory has no files: the first of its replica set, with the identifiers that the seed gives
+-- the identifiers of a node whose directory has no files: it is the first of its replica set, and the seed gives the rest
 abbrev pub first_ids : List ℕ → Ids
 first_ids seed = record { me = 1; instance = made_random (take 16 seed); set = made_random (drop 16 seed) }
 

@@ -9,7 +9,7 @@ max_unit_size = 16777216
 abbrev pub max_offset : ℕ
 max_offset = 2 ^ 40
 
--- what stands before the bytes that a unit brings
+-- the head of a unit, which is before the bytes that it brings
 pub record UnitHead : Type 0 where
   pub kind : ℕ
   pub connection : ℕ

@@ -3,13 +3,15 @@
 ghost use Rattle.std.specs.Prelude.{◌≡◌, ◌++◌, ℕ, List, Some, OnOk};
 ghost use mathlib.Core.List.{IsPrefix};
 ghost use Rattle.mx_outside.specs.Causes.{HasCause};
+ghost use Rattle.mx_outside.specs.Passed.{IsAllOf};
 
 use mx_outside::{Failed, Sink};
 
-/// Writes all the bytes and flushes, so that whoever reads the output sees them.
+/// Writes all the bytes and flushes.
 pub(crate) fn deliver<K: Sink>(output: &mut K, bytes: &[u8]) -> Result<(), Failed>
     ensures told { (before : List ℕ) → K.contents output.old ≡ Some before → (written : List ℕ)
         × (K.contents output.new ≡ Some (before ++ written)) × IsPrefix written bytes.now × OnOk result (written ≡ bytes.now) }
+    ensures passed { OnOk result (IsAllOf (K.passed output.new) (K.contents output.new)) }
     ensures cause { HasCause (K.faults output.old) (K.faults output.new) result }
 {
     write_all(output, bytes)?;

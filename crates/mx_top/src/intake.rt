@@ -1,7 +1,7 @@
 //! The bytes of an input that were read and not yet used.
 
 ghost use Rattle.std.specs.Prelude.{◌≡◌, ◌+◌, ◌-◌, ◌<◌, ◌≤◌, ◌++◌, ℕ, List, [], length, take, drop, vec_len, false, Err, Some, IfOk, IfErr, OnOk, OnErr, MatchResult, IsTrue, ◌↔◌};
-ghost use Rattle.mx_outside.specs.Causes.{Rose};
+ghost use Rattle.mx_outside.specs.Causes.{HasCauseOf};
 ghost use Rattle.mx_top.specs.Stops.{IsReadStop};
 ghost use Rattle.mx_top.specs.declared.stop.Stop.TheVariants.{ReadFault};
 
@@ -75,8 +75,7 @@ impl Intake {
         ensures told { (left : List ℕ) → S.left source.old ≡ Some left → (more : List ℕ)
             × (S.left source.new ≡ Some more) × (self.old ++ left ≡ self.new ++ more)
             × IfOk result (λ enough. enough ≡ false → more ≡ []) }
-        ensures later { S.faults source.old ≤ S.faults source.new }
-        ensures fault { result ≡ Err ReadFault → Rose (S.faults source.old) (S.faults source.new) }
+        ensures cause { HasCauseOf ReadFault (S.faults source.old) (S.faults source.new) result }
         ensures stops { IfErr result IsReadStop }
     {
         // Waiting bytes are moved only where the room after them runs out.
@@ -127,8 +126,7 @@ fn read_into<S: Source>(source: &mut S, buffer: &mut Vec<u8>, end: usize) -> Res
     ensures told { (left : List ℕ) → S.left source.old ≡ Some left → (more : List ℕ) × (S.left source.new ≡ Some more)
         × MatchResult result (λ count. left ≡ take count (drop end buffer.new.items) ++ more) (λ _. left ≡ more)
         × IfOk result (λ count. count ≡ 0 → more ≡ []) }
-    ensures later { S.faults source.old ≤ S.faults source.new }
-    ensures fault { result ≡ Err ReadFault → Rose (S.faults source.old) (S.faults source.new) }
+    ensures cause { HasCauseOf ReadFault (S.faults source.old) (S.faults source.new) result }
     ensures stops { IfErr result IsReadStop }
 {
     let (_, free) = buffer.split_at_mut(end);

@@ -5,6 +5,7 @@ mod arguments;
 mod delivery;
 mod ids;
 mod intake;
+mod laws;
 mod output_unit;
 mod status;
 mod stop;
@@ -13,5 +14,6 @@ mod trace;
 mod units;
 
 pub use arguments::directory_argument;
+pub use laws::no_reply_is_missing;
 pub use status::Status;
 pub use top_call::run;

@@ -1,13 +1,11 @@
 //! The top call.
 
-ghost use Rattle.std.specs.Prelude.{◌≡◌, ◌⊎◌, ◌∷◌, [], ℕ, List, Some, IsSomeAnd, IsTrue, ◌↔◌, true, false, length};
+ghost use Rattle.std.specs.Prelude.{◌≡◌, ◌⊎◌, ◌∷◌, [], ℕ, List, Some, ◌↔◌, true, false, length};
 ghost use Rattle.mx_outside.specs.Causes.{Rose};
 ghost use Rattle.mx_model.specs.declared.damage.Damage.{Damage};
 ghost use Rattle.mx_top.specs.declared.status.Status.TheVariants as status;
 ghost use Rattle.mx_top.specs.Arguments.{is_command};
-ghost use Rattle.mx_row.specs.declared.tx.Tx.{Tx};
-ghost use Rattle.mx_model.specs.Survival.{Recovers};
-ghost use Rattle.mx_top.specs.Runs.{PlaceSeen, OutputSeen, DamageSeen, CrashSeen, GateSeen, fault_place, status_by};
+ghost use Rattle.mx_top.specs.Runs.{PlaceSeen, RunSeen, DamageSeen, StillPassedOn, OthersKept, fault_place, status_by};
 
 use crate::arguments;
 use crate::status::Status;
@@ -20,8 +18,9 @@ use std::alloc::Global;
 /// and output units to `output`. `seed` gives the greeting's salt, and the identifiers of a node
 /// whose directory is empty.
 ///
-/// What a status says of the input, of the output and of the directory holds where the source tells
-/// what it has left, the sink what it holds and the directory its files.
+/// What a status says of the input holds where the source tells what it has left. What it says of
+/// the output and of the directory holds where, besides, the sink tells what it holds, and the
+/// directory its files.
 pub fn run<D: Dir, S: Source, K: Sink>(
     alloc: Global,
     words: &Names,
@@ -42,28 +41,32 @@ pub fn run<D: Dir, S: Source, K: Sink>(
     ensures disk_fault { result ≡ status.DiskFault → (before after : D) → dirs.old.items ≡ before ∷ [] → dirs.new.items ≡ after ∷ []
         → Rose (D.faults before) (D.faults after) }
 
+    // At every other status the count is as it was: no fault is told as anything else.
+    ensures reads { (result ≡ status.ReadFault) ⊎ (S.faults input.new ≡ S.faults input.old) }
+    ensures writes { (result ≡ status.WriteFault) ⊎ (K.faults output.new ≡ K.faults output.old) }
+    ensures disks { (before after : D) → dirs.old.items ≡ before ∷ [] → dirs.new.items ≡ after ∷ []
+        → (result ≡ status.DiskFault) ⊎ (D.faults after ≡ D.faults before) }
+
+    // But where the output failed, all that it holds was passed on, if that was so before.
+    ensures passed { (result ≡ status.WriteFault) ⊎ StillPassedOn (K.passed output.old) (K.contents output.old) (K.passed output.new) (K.contents output.new) }
+
     // A directory is damaged only where it is corrupt or inconsistent, by this damage.
     ensures damage { (before : D) → dirs.old.items ≡ before ∷ [] → DamageSeen result (D.states before) }
 
     // At `Ok` the input was well-formed and read to its end; `BadInput` carries the place of the first malformed unit.
     ensures place { (bytes : List ℕ) → S.left input.old ≡ Some bytes → PlaceSeen result bytes (S.left input.new) }
 
-    // What was written is the output for the input's units and a legal history of their requests, or a prefix of it, over
-    // what the directory stood for; and the directory stands for what that history committed, all of it durable.
-    ensures output { (bytes before : List ℕ) (old new : D) → S.left input.old ≡ Some bytes → K.contents output.old ≡ Some before
-        → dirs.old.items ≡ old ∷ [] → dirs.new.items ≡ new ∷ []
-        → IsSomeAnd (K.contents output.new) (λ written. OutputSeen result seed.now bytes before written (D.states old) (D.states new)) }
+    // At each moment, every file that isn't the database's is as it was.
+    ensures others { (before after : D) → dirs.old.items ≡ before ∷ [] → dirs.new.items ≡ after ∷ [] → OthersKept (D.states before) (D.states after) }
 
-    // At every moment, whatever a crash left of the directory stood for a prefix of the commits, and never for fewer of them
-    // than before, where that was so at the beginning.
-    ensures crash { (bytes before : List ℕ) (old new : D) (earlier : List Tx) → S.left input.old ≡ Some bytes → K.contents output.old ≡ Some before
-        → dirs.old.items ≡ old ∷ [] → dirs.new.items ≡ new ∷ [] → Recovers earlier (D.states old)
-        → CrashSeen seed.now bytes earlier (D.states old) (D.states new) }
+    // The list of directories keeps its length.
+    ensures dirs { length dirs.new.items ≡ length dirs.old.items }
 
-    // Whatever a crash leaves of the directory has all that the replies in the output saw, their own commits included.
-    ensures gate { (bytes before : List ℕ) (old new : D) (earlier : List Tx) → S.left input.old ≡ Some bytes → K.contents output.old ≡ Some before
-        → dirs.old.items ≡ old ∷ [] → dirs.new.items ≡ new ∷ [] → Recovers earlier (D.states old)
-        → IsSomeAnd (K.contents output.new) (λ written. GateSeen seed.now bytes before written earlier (D.states old) (D.states new)) }
+    // One legal history has the steps for the units that were answered whole, and then those of the next one. What was
+    // written is the output for the former; the directory recovers a prefix of its commits after any crash, at any moment,
+    // and all on which a reply that was written depends. A run that opened no directory wrote and committed nothing.
+    ensures history { (bytes : List ℕ) (old new : D) → S.left input.old ≡ Some bytes → dirs.old.items ≡ old ∷ [] → dirs.new.items ≡ new ∷ []
+        → RunSeen result seed.now bytes (K.contents output.old) (K.contents output.new) (D.states old) (D.states new) }
 
     // The run of a command that no fault ended has the status that its input demands, unless the directory is damaged or
     // memory ran out.

@@ -1,7 +1,7 @@
 //! The command `trace`: opens the directory, reads units, answers them, and writes output units.
 
-ghost use Rattle.std.specs.Prelude.{◌≡◌, ◌<◌, ◌≤◌, ◌++◌, ℕ, List, [], Some, Ok, Err, IfOk, IfSome, IsSomeAnd, MatchOption, MatchResult, OnOk, OnErr, IfErr};
-ghost use Rattle.mx_outside.specs.Causes.{Rose};
+ghost use Rattle.std.specs.Prelude.{◌≡◌, ◌⊎◌, ◌<◌, ◌≤◌, ◌++◌, ℕ, List, [], Some, Ok, Err, IfOk, IfSome, IsSomeAnd, MatchOption, MatchResult, OnOk, OnErr, IfErr};
+ghost use Rattle.mx_outside.specs.Causes.{HasCauseOf};
 ghost use Rattle.mx_top.specs.declared.stop.Stop.TheVariants.{ReadFault, WriteFault, DiskFault};
 ghost use Rattle.mx_top.specs.declared.status.Status.TheVariants as status;
 ghost use Rattle.mx_top.specs.Causes.{HasCauses};
@@ -10,14 +10,12 @@ ghost use Rattle.mx_top.specs.Units.{max_offset, unit_by};
 ghost use Rattle.mx_top.specs.UnitViews.{head_view};
 ghost use Rattle.mx_model.specs.Histories.{History};
 ghost use Rattle.mx_node.specs.Inputs.{InputUnit, max_connection};
-ghost use Rattle.mx_node.specs.Connections.{all_asks_of, asks_by, asks_of};
+ghost use Rattle.mx_node.specs.Order.{order_by, order_of, whole_order_of};
 ghost use Rattle.mx_node.specs.Interrupted.{IsInterrupted};
 ghost use Rattle.mx_node.specs.Starts.{Start};
 ghost use Rattle.mx_node.specs.Serving.{CanServe, EndedNode, Serves};
-ghost use Rattle.mx_row.specs.declared.tx.Tx.{Tx};
-ghost use Rattle.mx_model.specs.Survival.{Recovers};
-ghost use Rattle.mx_top.specs.Runs.{PlaceSeen, OutputSeen, DamageSeen, CrashSeen, GateSeen};
-ghost use Rattle.mx_top.specs.Progress.{ReadTo, LastStep, EndSeen, InterruptedUnits, RunSeen, NextStep, WritesUnit, status_of};
+ghost use Rattle.mx_top.specs.Runs.{PlaceSeen, RunSeen, DamageSeen, StillPassedOn, OthersKept};
+ghost use Rattle.mx_top.specs.Progress.{ReadTo, LastStep, EndSeen, UnitsSeen, NextStep, WritesUnit, status_of};
 
 use crate::delivery::deliver;
 use crate::ids::first_ids;
@@ -42,14 +40,11 @@ pub(crate) fn trace<D: Dir, S: Source, K: Sink>(
 ) -> Status
     ensures words { result ≡ status.BadWords → ⊥ }
     ensures place { (bytes : List ℕ) → S.left input.old ≡ Some bytes → PlaceSeen result bytes (S.left input.new) }
-    ensures output { (bytes before : List ℕ) → S.left input.old ≡ Some bytes → K.contents output.old ≡ Some before
-        → IsSomeAnd (K.contents output.new) (λ written. OutputSeen result seed.now bytes before written (D.states dir.old) (D.states dir.new)) }
+    ensures history { (bytes : List ℕ) → S.left input.old ≡ Some bytes
+        → RunSeen result seed.now bytes (K.contents output.old) (K.contents output.new) (D.states dir.old) (D.states dir.new) }
     ensures damage { DamageSeen result (D.states dir.old) }
-    ensures crash { (bytes before : List ℕ) (earlier : List Tx) → S.left input.old ≡ Some bytes → K.contents output.old ≡ Some before
-        → Recovers earlier (D.states dir.old) → CrashSeen seed.now bytes earlier (D.states dir.old) (D.states dir.new) }
-    ensures gate { (bytes before : List ℕ) (earlier : List Tx) → S.left input.old ≡ Some bytes → K.contents output.old ≡ Some before
-        → Recovers earlier (D.states dir.old)
-        → IsSomeAnd (K.contents output.new) (λ written. GateSeen seed.now bytes before written earlier (D.states dir.old) (D.states dir.new)) }
+    ensures others { OthersKept (D.states dir.old) (D.states dir.new) }
+    ensures passed { (result ≡ status.WriteFault) ⊎ StillPassedOn (K.passed output.old) (K.contents output.old) (K.passed output.new) (K.contents output.new) }
     ensures causes { HasCauses (result ≡ status.ReadFault) (result ≡ status.WriteFault) (result ≡ status.DiskFault)
         (S.faults input.old) (S.faults input.new) (K.faults output.old) (K.faults output.new) (D.faults dir.old) (D.faults dir.new) }
 {
@@ -72,10 +67,10 @@ fn run_units<D: Dir, S: Source, K: Sink>(
 ) -> Result<(), Stop>
     requires { CanServe node (D.states dir.old) }
     ensures place { (bytes : List ℕ) → S.left input.old ≡ Some bytes → PlaceSeen (status_of result) bytes (S.left input.new) }
-    ensures output { (start : Start) (bytes before : List ℕ) → Serves start node [] [] (D.states dir.old) → S.left input.old ≡ Some bytes → K.contents output.old ≡ Some before
-        → IsSomeAnd (K.contents output.new) (λ written. RunSeen result start bytes before written (D.states dir.new)) }
-    ensures breaks { (start : Start) (bytes before : List ℕ) → Serves start node [] [] (D.states dir.old) → S.left input.old ≡ Some bytes → K.contents output.old ≡ Some before
-        → IsSomeAnd (K.contents output.new) (λ written. InterruptedUnits start bytes before written (D.states dir.old) (D.states dir.new)) }
+    ensures units { (start : Start) (bytes : List ℕ) → Serves start node [] [] (D.states dir.old) → S.left input.old ≡ Some bytes
+        → UnitsSeen (status_of result) start bytes (K.contents output.old) (K.contents output.new) (D.states dir.old) (D.states dir.new) }
+    ensures others { OthersKept (D.states dir.old) (D.states dir.new) }
+    ensures passed { (result ≡ Err WriteFault) ⊎ StillPassedOn (K.passed output.old) (K.contents output.old) (K.passed output.new) (K.contents output.new) }
     ensures causes { HasCauses (result ≡ Err ReadFault) (result ≡ Err WriteFault) (result ≡ Err DiskFault)
         (S.faults input.old) (S.faults input.new) (K.faults output.old) (K.faults output.new) (D.faults dir.old) (D.faults dir.new) }
 {
@@ -99,9 +94,9 @@ fn end_node<D: Dir>(node: Single, dir: &mut D) -> Result<(), Stop>
     ensures closed { (start : Start) (units : List InputUnit) (history : History) → Serves start node units history (D.states dir.old)
         → OnOk result (EndedNode start units history (D.states dir.old) (D.states dir.new)) }
     ensures breaks { (start : Start) (units : List InputUnit) (history : History) → Serves start node units history (D.states dir.old)
-        → OnErr result (IsInterrupted start.base history (all_asks_of units) (D.states dir.old) (D.states dir.new)) }
-    ensures later { D.faults dir.old ≤ D.faults dir.new }
-    ensures fault { result ≡ Err DiskFault → Rose (D.faults dir.old) (D.faults dir.new) }
+        → OnErr result (IsInterrupted start.base history (whole_order_of units) (D.states dir.old) (D.states dir.new)) }
+    ensures others { OthersKept (D.states dir.old) (D.states dir.new) }
+    ensures cause { HasCauseOf DiskFault (D.faults dir.old) (D.faults dir.new) result }
     ensures stops { IfErr result IsDiskStop }
 {
     node.end(dir)?;
@@ -118,11 +113,12 @@ fn answer_units<D: Dir, S: Source, K: Sink>(
 ) -> Result<(), Stop>
     requires { CanServe node.old (D.states dir.old) }
     ensures place { (bytes : List ℕ) → S.left input.old ≡ Some bytes → PlaceSeen (status_of result) bytes (S.left input.new) }
-    ensures output { (start : Start) (bytes before : List ℕ) → Serves start node.old [] [] (D.states dir.old)
-        → S.left input.old ≡ Some bytes → K.contents output.old ≡ Some before
-        → IsSomeAnd (K.contents output.new) (λ written. EndSeen result start bytes before written node.new (D.states dir.old) (D.states dir.new)) }
+    ensures units { (start : Start) (bytes : List ℕ) → Serves start node.old [] [] (D.states dir.old) → S.left input.old ≡ Some bytes
+        → EndSeen result start bytes node.new (K.contents output.old) (K.contents output.new) (D.states dir.old) (D.states dir.new) }
     ensures serves { MatchResult result (λ _. CanServe node.new (D.states dir.new))
         (λ stop. AtBadInput stop (CanServe node.new (D.states dir.new))) }
+    ensures others { OthersKept (D.states dir.old) (D.states dir.new) }
+    ensures passed { (result ≡ Err WriteFault) ⊎ StillPassedOn (K.passed output.old) (K.contents output.old) (K.passed output.new) (K.contents output.new) }
     ensures causes { HasCauses (result ≡ Err ReadFault) (result ≡ Err WriteFault) (result ≡ Err DiskFault)
         (S.faults input.old) (S.faults input.new) (K.faults output.old) (K.faults output.new) (D.faults dir.old) (D.faults dir.new) }
 {
@@ -136,7 +132,7 @@ fn answer_units<D: Dir, S: Source, K: Sink>(
 }
 
 /// Reads the unit at this place, answers it and writes the output unit for it. Says at which place
-/// the next one stands, or nothing at the end of the input.
+/// the next one begins, or nothing at the end of the input.
 fn step<D: Dir, S: Source, K: Sink>(
     node: &mut Single,
     intake: &mut Intake,
@@ -156,6 +152,8 @@ fn step<D: Dir, S: Source, K: Sink>(
         (λ stop. LastStep (Err stop) bytes (Some more) node.old node.new units (K.contents output.old) (K.contents output.new) (D.states dir.old) (D.states dir.new)) }
     ensures serves { MatchResult result (λ _. CanServe node.new (D.states dir.new))
         (λ stop. AtBadInput stop (CanServe node.new (D.states dir.new))) }
+    ensures others { OthersKept (D.states dir.old) (D.states dir.new) }
+    ensures passed { (result ≡ Err WriteFault) ⊎ StillPassedOn (K.passed output.old) (K.contents output.old) (K.passed output.new) (K.contents output.new) }
     ensures causes { HasCauses (result ≡ Err ReadFault) (result ≡ Err WriteFault) (result ≡ Err DiskFault)
         (S.faults input.old) (S.faults input.new) (K.faults output.old) (K.faults output.new) (D.faults dir.old) (D.faults dir.new) }
 {
@@ -187,10 +185,10 @@ fn answer_unit<D: Dir>(
     ensures took { (start : Start) (units : List InputUnit) (history : History) → Serves start node.old units history (D.states dir.old)
         → OnOk result (WritesUnit start node.new units history (unit_by (head_view head) content.now) out.new.items (D.states dir.old) (D.states dir.new)) }
     ensures breaks { (start : Start) (units : List InputUnit) (history : History) → Serves start node.old units history (D.states dir.old)
-        → OnErr result (IsInterrupted start.base history (asks_of units ++ asks_by units (unit_by (head_view head) content.now)) (D.states dir.old) (D.states dir.new)) }
+        → OnErr result (IsInterrupted start.base history (order_of units ++ order_by units (unit_by (head_view head) content.now)) (D.states dir.old) (D.states dir.new)) }
     ensures serves { OnOk result (CanServe node.new (D.states dir.new)) }
-    ensures later { D.faults dir.old ≤ D.faults dir.new }
-    ensures fault { result ≡ Err DiskFault → Rose (D.faults dir.old) (D.faults dir.new) }
+    ensures others { OthersKept (D.states dir.old) (D.states dir.new) }
+    ensures cause { HasCauseOf DiskFault (D.faults dir.old) (D.faults dir.new) result }
     ensures stops { IfErr result IsDiskStop }
 {
     let sent = node.unit(dir, unit_of(head, content))?;

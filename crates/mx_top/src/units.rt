@@ -2,7 +2,7 @@
 
 ghost use Rattle.std.specs.Prelude.{◌≡◌, ◌+◌, ◌<◌, ◌≤◌, ◌++◌, ℕ, List, [], length, take, drop, Some, Err, IfOk, IfSome, MatchOption, MatchResult};
 ghost use Rattle.std.specs.Option.{option_map};
-ghost use Rattle.mx_outside.specs.Causes.{Rose};
+ghost use Rattle.mx_outside.specs.Causes.{HasCauseOf};
 ghost use Rattle.mx_top.specs.Units.{content_at, max_offset, unit_by, unit_head_at};
 ghost use Rattle.mx_node.specs.Inputs.{max_connection};
 ghost use Rattle.mx_node.specs.Inputs.{max_connection};
@@ -36,7 +36,7 @@ pub(crate) enum UnitKind {
     Close,
 }
 
-/// What stands before the bytes that a unit brings.
+/// The head of a unit, which is before the bytes that it brings.
 #[derive(Clone, Copy, Debug)]
 pub(crate) struct UnitHead {
     pub(crate) kind: UnitKind,
@@ -46,7 +46,7 @@ pub(crate) struct UnitHead {
     pub(crate) size: u32,
 }
 
-/// Reads the next unit, which stands at this place, so that it waits whole. Gives its head, or
+/// Reads the next unit, which begins at this place, so that it waits whole. Gives its head, or
 /// nothing at the end of the input.
 pub(crate) fn next_unit<S: Source>(
     intake: &mut Intake,
@@ -61,8 +61,7 @@ pub(crate) fn next_unit<S: Source>(
         (StopsAt place (intake.new ++ more)) }
     ensures whole { IfOk result (λ found. IfSome found (λ head. (9 + head.size ≤ length intake.new) × ((place + 9) + head.size ≤ max_offset))) }
     ensures connection { IfOk result (λ found. IfSome found (λ head. head.connection.0 ≤ max_connection)) }
-    ensures later { S.faults input.old ≤ S.faults input.new }
-    ensures fault { result ≡ Err ReadFault → Rose (S.faults input.old) (S.faults input.new) }
+    ensures cause { HasCauseOf ReadFault (S.faults input.old) (S.faults input.new) result }
     ensures no_write { result ≡ Err WriteFault → ⊥ }
     ensures no_disk { result ≡ Err DiskFault → ⊥ }
 {
@@ -93,7 +92,7 @@ fn no_head(waiting: usize, place: u64) -> Result<Option<UnitHead>, Stop>
     }
 }
 
-/// The head of the unit that stands first at this place, and the bytes after the head.
+/// The head of the unit that begins at this place, and the bytes after the head.
 #[tactic(auto, unfolding(crate::specs::Units::unit_head_at))]
 fn unit_head_at(place: u64, bytes: &[u8]) -> Option<(UnitHead, &[u8])>
     ensures { option_map (λ x. (head_view x.0, x.1.now)) result ≡ unit_head_at place bytes.now }

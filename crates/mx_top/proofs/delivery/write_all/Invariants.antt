@@ -6,7 +6,7 @@ abbrev pub invariant-loop-rest : goal.invariant-loop-rest
 invariant-loop-rest g l =
     ((before : List ℕ) → g.K.Sink.contents l.initial.output ≡ Some before → (written : List ℕ)
     × (g.K.Sink.contents l.output ≡ Some (before ++ written)) × (l.bytes ≡ written ++ l.rest))
-    × (g.K.Sink.faults l.initial.output ≤ g.K.Sink.faults l.output)
+    × (g.K.Sink.faults l.output ≡ g.K.Sink.faults l.initial.output)
 
 abbrev pub decreases-loop-rest : goal.decreases-loop-rest
 decreases-loop-rest g l = length l.rest

@@ -1,23 +1,36 @@
-use Rattle.std.proofs.Common.{sym, ◌∙◌, subst, arith}
+use Rattle.std.proofs.Common.{refl, sym, ◌∙◌, subst, arith}
 use Rattle.std.proofs.lemmas.Result.{err_from_is_err_and}
+use Rattle.mx_images.specs.Changes.{KeepsOthers}
+use Rattle.mx_images.proofs.MomentLaws.{steps_none, steps_then}
 use Rattle.mx_top.specs.Runs.{PlaceSeen}
 use Rattle.mx_top.specs.Progress.{status_of_stop}
-use Rattle.mx_top.proofs.Told.{has_read_nothing, has_read_more, begins_nothing}
+use Rattle.mx_top.proofs.Told.{has_read_nothing, has_read_more, begins_nothing, where_ok}
 use Rattle.mx_top.proofs.trace.answer_units.Goals as goal
 
-pub returns-in_err-intake-clause-output : goal.returns-in_err-intake-clause-output
-returns-in_err-intake-clause-output g c = λ start bytes before serves told was.
+pub returns-in_err-intake-clause-units : goal.returns-in_err-intake-clause-units
+returns-in_err-intake-clause-units g c = λ start bytes serves told.
     let p = err_from_is_err_and c.from_residual.result c.from_residual.ensures.1 in
-    rw (p.1, p.2) (begins_nothing start bytes before c.args.node.now (g.K.Sink.contents c.args.output.now) (g.D.Dir.states c.args.dir.now) serves was)
+    rw (p.1, p.2) (begins_nothing start bytes c.args.node.now (g.K.Sink.contents c.args.output.now) (g.D.Dir.states c.args.dir.now) serves)
+
+pub returns-in_err-intake-clause-others : goal.returns-in_err-intake-clause-others
+returns-in_err-intake-clause-others g c = steps_none KeepsOthers (g.D.Dir.states c.args.dir.now)
+
+pub returns-in_err-next-clause-others : goal.returns-in_err-next-clause-others
+returns-in_err-next-clause-others g c = steps_then KeepsOthers _ _ _ c.units.invariant.others c.step.ensures.others
+
+pub returns-clause-others : goal.returns-clause-others
+returns-clause-others g c = steps_then KeepsOthers _ _ _ c.units.invariant.others c.step.ensures.others
 
 pub units-init : goal.units-init
 units-init g c = record {
   told = λ bytes told. has_read_nothing bytes c.in_ok-intake.intake (g.S.Source.left c.args.input.now) c.args.node.now
       (g.K.Sink.contents c.args.output.now) (g.D.Dir.states c.args.dir.now) told c.in_ok-intake.ensures;
   serves = c.requires;
-  reads = omega arith;
-  writes = omega arith;
-  disks = omega arith;
+  reads = refl;
+  writes = refl;
+  disks = refl;
+  others = steps_none KeepsOthers (g.D.Dir.states c.args.dir.now);
+  passed = λ all. all;
   within = omega arith;
 }
 
@@ -28,12 +41,12 @@ returns-in_err-next-clause-place g c = λ bytes told.
     let t = c.in_err-next.ensures.told bytes so_far.rest so_far.units so_far.left_is so_far.read in
     rw (p.1, p.2) (subst (PlaceSeen (status_of_stop c.in_err-next.field-0.0) bytes) (sym t.1) t.2.place)
 
-pub returns-in_err-next-clause-output : goal.returns-in_err-next-clause-output
-returns-in_err-next-clause-output g c = λ start bytes before serves told was.
+pub returns-in_err-next-clause-units : goal.returns-in_err-next-clause-units
+returns-in_err-next-clause-units g c = λ start bytes serves told.
     let p = err_from_is_err_and c.from_residual-in_err-next.result c.from_residual-in_err-next.ensures.1 in
     let so_far = c.units.invariant.told bytes told in
     let t = c.in_err-next.ensures.told bytes so_far.rest so_far.units so_far.left_is so_far.read in
-    rw (p.1, p.2) (t.2.output start before (g.D.Dir.states c.args.dir.now) (so_far.wrote start before serves was))
+    rw (p.1, p.2) (t.2.output start (g.K.Sink.contents c.args.output.now) (g.D.Dir.states c.args.dir.now) (so_far.wrote start serves))
 
 pub units-preserved : goal.units-preserved
 units-preserved g c = record {
@@ -45,9 +58,11 @@ units-preserved g c = record {
       so_far.units (g.K.Sink.contents c.args.output.now) (g.K.Sink.contents c.units.output) (g.K.Sink.contents c.step.new.output)
       (g.D.Dir.states c.args.dir.now) (g.D.Dir.states c.units.dir) (g.D.Dir.states c.step.new.dir) t.1 on so_far.wrote;
   serves = c.in_ok-next.ensures.serves;
-  reads = omega (arith, c.in_ok-next.ensures.causes.reads);
-  writes = omega (arith, c.in_ok-next.ensures.causes.writes);
-  disks = omega (arith, c.in_ok-next.ensures.causes.disks);
+  reads = where_ok c.in_ok-next.ensures.causes.read_quiet ∙ c.units.invariant.reads;
+  writes = where_ok c.in_ok-next.ensures.causes.write_quiet ∙ c.units.invariant.writes;
+  disks = where_ok c.in_ok-next.ensures.causes.disk_quiet ∙ c.units.invariant.disks;
+  others = steps_then KeepsOthers _ _ _ c.units.invariant.others c.step.ensures.others;
+  passed = λ all. where_ok c.in_ok-next.ensures.passed (c.units.invariant.passed all);
   within = let ahead = rw c.in-Some.is at c.in_ok-next.ensures.ahead in ahead.1;
 }
 
@@ -58,9 +73,9 @@ returns-clause-place g c = λ bytes told.
     let ends = rw c.in_default.is at t.2 in
     (ends.place.0, t.1 ∙ ends.place.1)
 
-pub returns-clause-output : goal.returns-clause-output
-returns-clause-output g c = λ start bytes before serves told was.
+pub returns-clause-units : goal.returns-clause-units
+returns-clause-units g c = λ start bytes serves told.
     let so_far = c.units.invariant.told bytes told in
     let t = c.in_ok-next.ensures.told bytes so_far.rest so_far.units so_far.left_is so_far.read in
     let ends = rw c.in_default.is at t.2 in
-    ends.output start before (g.D.Dir.states c.args.dir.now) (so_far.wrote start before serves was)
+    ends.output start (g.K.Sink.contents c.args.output.now) (g.D.Dir.states c.args.dir.now) (so_far.wrote start serves)

@@ -2,10 +2,18 @@ use Rattle.std.proofs.Common.{◌≡◌, ◌+◌, ℕ, List, length, ◌++◌, t
 use Rattle.std.proofs.lemmas.List.{drop-drop}
 use Rattle.std.proofs.lemmas.Result.{err_from_is_err_and}
 use mathlib.Core.List.{IsPrefix}
+use Rattle.mx_images.specs.Changes.{KeepsOthers}
+use Rattle.mx_images.proofs.MomentLaws.{steps_none}
 use Rattle.mx_top.specs.Units.{unit_by}
 use Rattle.mx_top.specs.UnitViews.{head_view}
 use Rattle.mx_top.proofs.ProgressLaws.{ends_well, ends_stopped, ends_unanswered, ends_unwritten, same_unit, goes_on, moves}
 use Rattle.mx_top.proofs.trace.step.Goals as goal
+
+pub returns-in_err-head-clause-others : goal.returns-in_err-head-clause-others
+returns-in_err-head-clause-others g c = steps_none KeepsOthers (g.D.Dir.states c.args.dir.now)
+
+pub returns-in_default-clause-others : goal.returns-in_default-clause-others
+returns-in_default-clause-others g c = steps_none KeepsOthers (g.D.Dir.states c.args.dir.now)
 
 pub returns-in_err-head-clause-told : goal.returns-in_err-head-clause-told
 returns-in_err-head-clause-told g c = λ bytes left units told read.

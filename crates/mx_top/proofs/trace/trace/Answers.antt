@@ -1,8 +1,9 @@
-use Rattle.std.proofs.Common.{[], Err, ap, ◌∙◌, subst}
+use Rattle.std.proofs.Common.{[], Err, ap, ◌∙◌, subst, inl, inr}
+use Rattle.mx_images.specs.Changes.{KeepsOthers}
+use Rattle.mx_images.proofs.MomentLaws.{steps_then}
 use Rattle.mx_node.specs.Starts.{IsStart}
 use Rattle.mx_node.proofs.ServerLaws.{can_serve}
-use Rattle.mx_top.proofs.RunLaws.{opening_seen, crash_seen, gate_seen}
-use Rattle.mx_top.proofs.SeenLaws.{output_seen, damage_seen}
+use Rattle.mx_top.proofs.RunLaws.{served_seen, not_opened, left_alone, passed_by}
 use Rattle.mx_top.proofs.trace.trace.Goals as goal
 
 pub run_units-requires : goal.run_units-requires
@@ -10,45 +11,37 @@ run_units-requires g c =
     let (start, begins, serves) = c.in-Ok.ensures.serves in
     can_serve start c.in-Ok.node [] [] (g.D.Dir.states c.start.new.dir) serves
 
-pub returns-in-Ok-clause-output : goal.returns-in-Ok-clause-output
-returns-in-Ok-clause-output g c = λ bytes before told was.
+pub returns-in-Ok-clause-history : goal.returns-in-Ok-clause-history
+returns-in-Ok-clause-history g c = λ bytes told.
     let (start, begins, serves) = c.in-Ok.ensures.serves in
     let began = subst (λ ids. IsStart start ids c.args.seed.now (g.D.Dir.states c.args.dir.now)) c.first_ids-ids.ensures begins in
-    rw c.status_of.ensures (output_seen c.run_units.result start c.args.seed.now bytes before (g.K.Sink.contents c.run_units.new.output)
-    (g.D.Dir.states c.args.dir.now) (g.D.Dir.states c.run_units.new.dir) began (c.run_units.ensures.output start bytes before serves told was))
+    rw c.status_of.ensures (served_seen c.run_units.result start c.args.seed.now bytes (g.K.Sink.contents c.args.output.now)
+    (g.K.Sink.contents c.run_units.new.output) (g.D.Dir.states c.args.dir.now) (g.D.Dir.states c.start.new.dir) (g.D.Dir.states c.run_units.new.dir)
+    began c.start.ensures.told (λ earlier recovers transactions front follow. (c.start.ensures.moments earlier transactions recovers front follow, c.start.ensures.reads earlier transactions recovers front follow))
+    (c.run_units.ensures.units start bytes serves told))
 
-pub returns-in-Err-Damaged-clause-output : goal.returns-in-Err-Damaged-clause-output
-returns-in-Err-Damaged-clause-output g c = λ bytes before told was.
-    damage_seen c.in-Err-Damaged.damage c.args.seed.now bytes before (g.K.Sink.contents c.args.output.now)
-    (g.D.Dir.states c.args.dir.now) (g.D.Dir.states c.start.new.dir) was (c.start.ensures.damaged c.in-Err-Damaged.damage (c.in-Err-Damaged.is ∙ ap (λ e. Err e) c.in-Err-Damaged.field-0-is)).1
+pub returns-in-Err-Damaged-clause-history : goal.returns-in-Err-Damaged-clause-history
+returns-in-Err-Damaged-clause-history g c = λ bytes told.
+    left_alone (g.K.Sink.contents c.args.output.now) (g.D.Dir.states c.args.dir.now) (g.D.Dir.states c.start.new.dir)
+    (c.start.ensures.damaged c.in-Err-Damaged.damage (c.in-Err-Damaged.is ∙ ap (λ e. Err e) c.in-Err-Damaged.field-0-is)).1
 
-pub returns-in-Ok-clause-crash : goal.returns-in-Ok-clause-crash
-returns-in-Ok-clause-crash g c = λ bytes before earlier told was recovers.
-    let (start, begins, serves) = c.in-Ok.ensures.serves in
-    let began = subst (λ ids. IsStart start ids c.args.seed.now (g.D.Dir.states c.args.dir.now)) c.first_ids-ids.ensures begins in
-    crash_seen start c.args.seed.now bytes before (g.K.Sink.contents c.run_units.new.output) earlier
-    (g.D.Dir.states c.args.dir.now) (g.D.Dir.states c.start.new.dir) (g.D.Dir.states c.run_units.new.dir) began recovers
-    (λ transactions. c.start.ensures.moments earlier transactions recovers) (c.run_units.ensures.breaks start bytes before serves told was)
+pub returns-in-Err-Failed-clause-history : goal.returns-in-Err-Failed-clause-history
+returns-in-Err-Failed-clause-history g c = λ bytes told.
+    inl (not_opened (g.K.Sink.contents c.args.output.now) (g.D.Dir.states c.args.dir.now) (g.D.Dir.states c.start.new.dir) c.start.ensures.told
+    (λ earlier recovers transactions front follow. (c.start.ensures.moments earlier transactions recovers front follow, c.start.ensures.reads earlier transactions recovers front follow)))
 
-pub returns-in-Ok-clause-gate : goal.returns-in-Ok-clause-gate
-returns-in-Ok-clause-gate g c = λ bytes before earlier told was recovers.
-    let (start, begins, serves) = c.in-Ok.ensures.serves in
-    let began = subst (λ ids. IsStart start ids c.args.seed.now (g.D.Dir.states c.args.dir.now)) c.first_ids-ids.ensures begins in
-    gate_seen start c.args.seed.now bytes before (g.K.Sink.contents c.run_units.new.output) earlier
-    (g.D.Dir.states c.args.dir.now) (g.D.Dir.states c.start.new.dir) (g.D.Dir.states c.run_units.new.dir) began recovers c.start.ensures.told
-    (c.run_units.ensures.breaks start bytes before serves told was)
+pub returns-in-Err-NoMemory-clause-history : goal.returns-in-Err-NoMemory-clause-history
+returns-in-Err-NoMemory-clause-history g c = λ bytes told.
+    inl (not_opened (g.K.Sink.contents c.args.output.now) (g.D.Dir.states c.args.dir.now) (g.D.Dir.states c.start.new.dir) c.start.ensures.told
+    (λ earlier recovers transactions front follow. (c.start.ensures.moments earlier transactions recovers front follow, c.start.ensures.reads earlier transactions recovers front follow)))
 
-pub returns-in-Err-Damaged-clause-crash : goal.returns-in-Err-Damaged-clause-crash
-returns-in-Err-Damaged-clause-crash g c = λ bytes before earlier told was recovers.
-    opening_seen c.args.seed.now bytes earlier (g.D.Dir.states c.args.dir.now) (g.D.Dir.states c.start.new.dir) recovers
-    (λ transactions. c.start.ensures.moments earlier transactions recovers)
+pub returns-in-Ok-clause-others : goal.returns-in-Ok-clause-others
+returns-in-Ok-clause-others g c = steps_then KeepsOthers _ _ _ c.start.ensures.others c.run_units.ensures.others
 
-pub returns-in-Err-Failed-clause-crash : goal.returns-in-Err-Failed-clause-crash
-returns-in-Err-Failed-clause-crash g c = λ bytes before earlier told was recovers.
-    opening_seen c.args.seed.now bytes earlier (g.D.Dir.states c.args.dir.now) (g.D.Dir.states c.start.new.dir) recovers
-    (λ transactions. c.start.ensures.moments earlier transactions recovers)
+pub returns-in-Ok-clause-passed : goal.returns-in-Ok-clause-passed
+returns-in-Ok-clause-passed g c =
+    passed_by c.run_units.result c.status_of.result (g.K.Sink.passed c.args.output.now) (g.K.Sink.contents c.args.output.now)
+    (g.K.Sink.passed c.run_units.new.output) (g.K.Sink.contents c.run_units.new.output) c.status_of.ensures c.run_units.ensures.passed
 
-pub returns-in-Err-NoMemory-clause-crash : goal.returns-in-Err-NoMemory-clause-crash
-returns-in-Err-NoMemory-clause-crash g c = λ bytes before earlier told was recovers.
-    opening_seen c.args.seed.now bytes earlier (g.D.Dir.states c.args.dir.now) (g.D.Dir.states c.start.new.dir) recovers
-    (λ transactions. c.start.ensures.moments earlier transactions recovers)
+pub returns-in-Err-Failed-clause-passed : goal.returns-in-Err-Failed-clause-passed
+returns-in-Err-Failed-clause-passed g c = inr (λ all. all)

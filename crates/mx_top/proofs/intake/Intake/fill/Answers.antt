@@ -1,4 +1,4 @@
-use Rattle.std.proofs.Common.{arith}
+use Rattle.std.proofs.Common.{◌∙◌, arith}
 use Rattle.std.proofs.lemmas.Result.{err_from_is_err_and}
 use Rattle.mx_top.proofs.Waiting.{all-kept, all-read}
 use Rattle.mx_top.proofs.intake.Intake.fill.Goals as goal
@@ -23,7 +23,7 @@ loop-self-preserved g c = record {
   order = omega arith;
   within = c.in_ok-count.ensures.bound;
   room = omega arith;
-  later = omega arith;
+  quiet = c.in_ok-count.ensures.cause.done ∙ c.loop-self.invariant.quiet;
   told = λ left known.
       let earlier = c.loop-self.invariant.told left known in
       let now = c.in_ok-count.ensures.told earlier.0 earlier.1 in

@@ -7,7 +7,7 @@ invariant-loop-self g l = record {
   order : l.self-inside.start ≤ l.self-inside.end;
   within : l.self-inside.end ≤ vec_len l.self-inside.buffer;
   room : l.need ≤ vec_len l.self-inside.buffer - l.self-inside.start;
-  later : g.S.Source.faults l.fn.source ≤ g.S.Source.faults l.source;
+  quiet : g.S.Source.faults l.source ≡ g.S.Source.faults l.fn.source;
   told : (left : List ℕ) → g.S.Source.left l.fn.source ≡ Some left → (more : List ℕ)
       × (g.S.Source.left l.source ≡ Some more)
       × (l.fn.self ++ left ≡ take (l.self-inside.end - l.self-inside.start) (drop l.self-inside.start l.self-inside.buffer.items) ++ more);
