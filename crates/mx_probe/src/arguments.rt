@@ -8,16 +8,24 @@ use std::str::FromStr;
 use uuid::Uuid;
 
 /// The arguments that a line still has.
-#[derive(Debug, Drop)]
+///
+/// The first fault is kept, and what is read after it is a harmless value, as 0 or no bytes. So an
+/// answer counts only where `end` finds no fault.
+#[derive(Drop)]
 pub struct Arguments<'a> {
     alloc: Global,
     rest: &'a str,
+    fault: Option<Fault>,
 }
 
 impl<'a> Arguments<'a> {
     /// The arguments in the rest of a line.
     pub fn of(alloc: Global, rest: &'a str) -> Arguments<'a> {
-        Arguments { alloc, rest }
+        Arguments {
+            alloc,
+            rest,
+            fault: None,
+        }
     }
 
     /// The allocator for answers.
@@ -25,127 +33,154 @@ impl<'a> Arguments<'a> {
         self.alloc
     }
 
+    /// Keeps a fault, if it is the first one.
+    pub fn refuse(&mut self, fault: Fault) {
+        if self.fault.is_none() {
+            self.fault = Some(fault);
+        }
+    }
+
+    /// Refuses a text that isn't what is wanted.
+    pub fn refuse_text(&mut self, wanted: &str, text: &str) {
+        let what = format!(in self.alloc; "{text:?} is no {wanted}");
+        self.refuse(Fault::of(what));
+    }
+
     /// The next argument as it stands.
-    pub fn text(&mut self) -> Result<&'a str, Fault> {
+    pub fn text(&mut self) -> &'a str {
         if self.rest.is_empty() {
-            return Err(Fault::Wrong(String::from_str(self.alloc, "an argument is missing")?));
+            let what = String::from_str(self.alloc, "an argument is missing");
+            self.refuse(Fault::of(what));
         }
         let (text, rest) = self.rest.split_once(' ').unwrap_or((self.rest, ""));
         self.rest = rest;
-        Ok(text)
+        text
     }
 
     /// All arguments that are left.
-    pub fn others(&mut self) -> Result<Vec<&'a str>, Fault> {
+    pub fn others(&mut self) -> Vec<&'a str> {
         let rest = self.rest;
         self.rest = "";
         if rest.is_empty() {
-            return Ok(Vec::new(self.alloc));
+            return Vec::new(self.alloc);
         }
-        Ok(rest.split(' ').collect(self.alloc)?)
+        self.pieces(rest, ' ')
     }
 
     /// The next argument as a list, with commas between its items, or `-` for none.
-    pub fn items(&mut self) -> Result<Vec<&'a str>, Fault> {
-        let text = self.text()?;
-        if text == "-" {
-            return Ok(Vec::new(self.alloc));
+    pub fn items(&mut self) -> Vec<&'a str> {
+        match self.text() {
+            "-" => Vec::new(self.alloc),
+            text => self.pieces(text, ','),
         }
-        Ok(text.split(',').collect(self.alloc)?)
+    }
+
+    fn pieces(&mut self, text: &'a str, between: char) -> Vec<&'a str> {
+        match text.split(between).collect(self.alloc) {
+            Ok(pieces) => pieces,
+            Err(_) => {
+                self.refuse(Fault::NoMemory);
+                Vec::new(self.alloc)
+            }
+        }
     }
 
     /// The next argument as a number.
-    pub fn number<T: FromStr + Drop>(&mut self) -> Result<T, Fault>
+    pub fn number<T: FromStr + Default + Drop>(&mut self) -> T
     where
         T::Err: Drop,
     {
-        let text = self.text()?;
-        number_in(self.alloc, text)
+        let text = self.text();
+        self.number_in(text)
+    }
+
+    /// A text as a number.
+    pub fn number_in<T: FromStr + Default + Drop>(&mut self, text: &str) -> T
+    where
+        T::Err: Drop,
+    {
+        match text.parse::<T>() {
+            Ok(number) => number,
+            Err(_) => {
+                self.refuse_text("number in range", text);
+                T::default()
+            }
+        }
     }
 
     /// The next argument as `true` or `false`.
-    pub fn truth(&mut self) -> Result<bool, Fault> {
-        match self.text()? {
-            "true" => Ok(true),
-            "false" => Ok(false),
-            text => Err(unfit(self.alloc, "truth value", text)),
+    pub fn truth(&mut self) -> bool {
+        match self.text() {
+            "true" => true,
+            "false" => false,
+            text => {
+                self.refuse_text("truth value", text);
+                false
+            }
         }
     }
 
     /// The next argument as a UUID.
-    pub fn uuid(&mut self) -> Result<Uuid, Fault> {
-        let text = self.text()?;
+    pub fn uuid(&mut self) -> Uuid {
+        let text = self.text();
         match Uuid::try_parse(text) {
-            Ok(uuid) => Ok(uuid),
-            Err(_) => Err(unfit(self.alloc, "UUID", text)),
+            Ok(uuid) => uuid,
+            Err(_) => {
+                self.refuse_text("UUID", text);
+                Uuid::default()
+            }
         }
     }
 
     /// The next argument as bytes.
-    pub fn bytes(&mut self) -> Result<Bytes, Fault> {
-        let text = self.text()?;
-        bytes_in(self.alloc, text)
+    pub fn bytes(&mut self) -> Bytes {
+        let text = self.text();
+        self.bytes_in(text)
     }
 
-    /// Refuses arguments that are left.
-    pub fn end(&self) -> Result<(), Fault> {
-        if self.rest.is_empty() {
-            return Ok(());
+    /// The bytes that a text spells: pieces with `+` between them, or `-` for none.
+    pub fn bytes_in(&mut self, text: &str) -> Bytes {
+        let mut bytes = Bytes::new(self.alloc);
+        if text != "-" {
+            for piece in text.split('+') {
+                self.add_piece(piece, &mut bytes);
+            }
         }
+        bytes
+    }
+
+    /// Adds a piece: hexadecimal digits, and after a `*` how often they are repeated.
+    fn add_piece(&mut self, piece: &str, bytes: &mut Bytes) {
+        let (digits, times) = piece.split_once('*').unwrap_or((piece, "1"));
+        let times: u64 = self.number_in(times);
+        if let Err(fault) = add_digits(self.alloc, digits, times, bytes) {
+            self.refuse(fault);
+        }
+    }
+
+    /// Tells the first fault, which may be that arguments are left.
+    pub fn end(self) -> Result<(), Fault> {
         let rest = self.rest;
-        Err(Fault::Wrong(format!(in self.alloc; "too many arguments: {rest:?}")?))
+        match self.fault {
+            Some(fault) => Err(fault),
+            None if rest.is_empty() => Ok(()),
+            None => Err(Fault::of(format!(in self.alloc; "too many arguments: {rest:?}"))),
+        }
     }
 }
 
-/// The number that an argument is.
-pub fn number_in<T: FromStr + Drop>(alloc: Global, text: &str) -> Result<T, Fault>
-where
-    T::Err: Drop,
-{
-    match text.parse::<T>() {
-        Ok(number) => Ok(number),
-        Err(_) => Err(unfit(alloc, "number in range", text)),
+/// Adds the bytes of hexadecimal digits, repeated so often.
+fn add_digits(alloc: Global, digits: &str, times: u64, bytes: &mut Bytes) -> Result<(), Fault> {
+    match hex::decode(alloc, digits) {
+        Ok(once) => Ok(add_times(once.as_slice(), times, bytes)?),
+        Err(FromHexError::OutOfMemory) => Err(Fault::NoMemory),
+        Err(error) => Err(Fault::of(format!(in alloc; "{error}: {digits:?}"))),
     }
 }
 
-/// The fault of an argument that isn't what is wanted.
-pub fn unfit(alloc: Global, wanted: &str, text: &str) -> Fault {
-    match format!(in alloc; "{text:?} is no {wanted}") {
-        Ok(text) => Fault::Wrong(text),
-        Err(AllocError) => Fault::NoMemory,
-    }
-}
-
-/// The bytes that an argument spells: pieces with `+` between them, or `-` for none.
-pub fn bytes_in(alloc: Global, text: &str) -> Result<Bytes, Fault> {
-    let mut bytes = Bytes::new(alloc);
-    if text == "-" {
-        return Ok(bytes);
-    }
-    for piece in text.split('+') {
-        add_piece(alloc, piece, &mut bytes)?;
-    }
-    Ok(bytes)
-}
-
-/// Adds a piece: hexadecimal digits, and behind a `*` how often they are repeated.
-fn add_piece(alloc: Global, piece: &str, bytes: &mut Bytes) -> Result<(), Fault> {
-    let (digits, times): (&str, u64) = match piece.split_once('*') {
-        Some((digits, times)) => (digits, number_in(alloc, times)?),
-        None => (piece, 1),
-    };
-    let once = digits_in(alloc, digits)?;
+fn add_times(once: &[u8], times: u64, bytes: &mut Bytes) -> Result<(), AllocError> {
     for _ in 0..times {
-        bytes.extend_from_slice(once.as_slice())?;
+        bytes.extend_from_slice(once)?;
     }
     Ok(())
-}
-
-/// The bytes of hexadecimal digits.
-fn digits_in(alloc: Global, digits: &str) -> Result<Vec<u8>, Fault> {
-    match hex::decode(alloc, digits) {
-        Ok(bytes) => Ok(bytes),
-        Err(FromHexError::OutOfMemory) => Err(Fault::NoMemory),
-        Err(error) => Err(Fault::Wrong(format!(in alloc; "{error}: {digits:?}")?)),
-    }
 }

@@ -1,14 +1,26 @@
 //! Why a call has no answer, and why the program stops.
 
-use std::alloc::{AllocError, AllocFailed};
+use std::alloc::AllocError;
 use std::io::ErrorKind;
 
 /// Why a call has no answer.
-#[derive(Debug, Drop)]
+#[derive(Drop)]
 pub enum Fault {
-    /// What is wrong with the line.
+    /// No call has this name.
+    NoCall,
+    /// What is wrong with the arguments.
     Wrong(String),
     NoMemory,
+}
+
+impl Fault {
+    /// A fault of this text, which may have needed too much memory.
+    pub fn of(text: Result<String, AllocError>) -> Fault {
+        match text {
+            Ok(text) => Fault::Wrong(text),
+            Err(AllocError) => Fault::NoMemory,
+        }
+    }
 }
 
 impl From<AllocError> for Fault {
@@ -17,14 +29,8 @@ impl From<AllocError> for Fault {
     }
 }
 
-impl<T: Drop> From<AllocFailed<T>> for Fault {
-    fn from(_: AllocFailed<T>) -> Fault {
-        Fault::NoMemory
-    }
-}
-
 /// Why the program stops before the end of its input.
-#[derive(Clone, Copy, Debug, Drop)]
+#[derive(Clone, Copy, Drop)]
 pub enum Stop {
     ReadFault,
     WriteFault,

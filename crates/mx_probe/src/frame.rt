@@ -1,48 +1,50 @@
 //! The calls of `mx_frame`.
 
-use crate::answers::hexed;
-use crate::arguments::{Arguments, bytes_in};
-use crate::fault::Fault;
+use crate::answers::no_call;
+use crate::arguments::Arguments;
+use crate::display::Hex;
 use mx_frame::{Framed, Framer};
-use std::alloc::{AllocError, Global};
+use std::alloc::AllocError;
+use std::fmt;
 
-/// The answer of a call of this name, where there is one.
-pub fn answer(call: &str, arguments: &mut Arguments<'_>) -> Result<Option<String>, Fault> {
-    let answer = match call {
-        "next" => next(arguments)?,
-        "by_bytes" => by_bytes(arguments)?,
-        "packets" => packets(arguments)?,
-        _ => return Ok(None),
-    };
-    Ok(Some(answer))
+/// The answer of the call of this name.
+pub fn answer(call: &str, arguments: &mut Arguments<'_>) -> Result<String, AllocError> {
+    match call {
+        "next" => next(arguments),
+        "by_bytes" => by_bytes(arguments),
+        "packets" => packets(arguments),
+        _ => no_call(arguments),
+    }
 }
 
 /// What stands first where these pieces came.
-fn next(arguments: &mut Arguments<'_>) -> Result<String, Fault> {
+fn next(arguments: &mut Arguments<'_>) -> Result<String, AllocError> {
     let alloc = arguments.alloc();
     let mut framer = Framer::new(alloc);
-    for text in arguments.others()? {
-        framer.feed(bytes_in(alloc, text)?.as_slice())?;
+    for text in arguments.others() {
+        framer.feed(arguments.bytes_in(text).as_slice())?;
     }
-    Ok(first(alloc, &framer)?)
+    format!(in alloc; "{}", First(framer.next()))
 }
 
 /// What stands first.
-fn first(alloc: Global, framer: &Framer) -> Result<String, AllocError> {
-    match framer.next() {
-        Framed::Packet(content) => {
-            let content = hexed(alloc, content)?;
-            format!(in alloc; "packet {content}")
+#[derive(Clone, Copy)]
+struct First<'a>(Framed<'a>);
+
+impl fmt::Display for First<'_> {
+    fn fmt<W: fmt::Write>(&self, f: &mut fmt::Formatter<W>) -> fmt::Result {
+        match self.0 {
+            Framed::Packet(content) => write!(f, "packet {}", Hex(content)),
+            Framed::NeedMore => f.write_str("more"),
+            Framed::Broken { at } => write!(f, "broken {at}"),
         }
-        Framed::NeedMore => String::from_str(alloc, "more"),
-        Framed::Broken { at } => format!(in alloc; "broken {at}"),
     }
 }
 
 /// How many bytes come, one by one, before something stands first, and what this is.
-fn by_bytes(arguments: &mut Arguments<'_>) -> Result<String, Fault> {
+fn by_bytes(arguments: &mut Arguments<'_>) -> Result<String, AllocError> {
     let alloc = arguments.alloc();
-    let bytes = arguments.bytes()?;
+    let bytes = arguments.bytes();
     let mut framer = Framer::new(alloc);
     let mut count: u64 = 0;
     for byte in bytes.as_slice() {
@@ -51,28 +53,26 @@ fn by_bytes(arguments: &mut Arguments<'_>) -> Result<String, Fault> {
             count = count.saturating_add(1);
         }
     }
-    let first = first(alloc, &framer)?;
-    Ok(format!(in alloc; "{count} {first}")?)
+    format!(in alloc; "{count} {}", First(framer.next()))
 }
 
-/// The packets in these pieces, each passed as soon as it is whole, and what stands behind them.
-fn packets(arguments: &mut Arguments<'_>) -> Result<String, Fault> {
+/// The packets in these pieces, each passed as soon as it is whole, and what stands after them.
+fn packets(arguments: &mut Arguments<'_>) -> Result<String, AllocError> {
     let alloc = arguments.alloc();
     let mut framer = Framer::new(alloc);
     let mut answer = String::new(alloc);
-    for text in arguments.others()? {
-        framer.feed(bytes_in(alloc, text)?.as_slice())?;
-        take_packets(alloc, &mut framer, &mut answer)?;
+    for text in arguments.others() {
+        framer.feed(arguments.bytes_in(text).as_slice())?;
+        take_packets(&mut framer, &mut answer)?;
     }
-    answer.push_str(first(alloc, &framer)?.as_str())?;
+    write!(answer, "{}", First(framer.next()))?;
     Ok(answer)
 }
 
 /// Passes the packets that are whole, and adds each to the answer.
-fn take_packets(alloc: Global, framer: &mut Framer, answer: &mut String) -> Result<(), AllocError> {
+fn take_packets(framer: &mut Framer, answer: &mut String) -> Result<(), AllocError> {
     while let Framed::Packet(content) = framer.next() {
-        let content = hexed(alloc, content)?;
-        write!(answer, "{content} ")?;
+        write!(answer, "{} ", Hex(content))?;
         framer.pass();
     }
     Ok(())

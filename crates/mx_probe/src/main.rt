@@ -4,6 +4,7 @@
 mod answers;
 mod arguments;
 mod base;
+mod display;
 mod fault;
 mod frame;
 mod key;

@@ -1,10 +1,10 @@
-//! The calls of `mx_reply`. A reply begins with the bytes that it is written behind, its sync and the
+//! The calls of `mx_reply`. A reply begins with the bytes that it is written after, its sync and the
 //! version of the schema.
 
-use crate::answers::hexed;
-use crate::arguments::{Arguments, bytes_in, unfit};
+use crate::answers::no_call;
+use crate::arguments::Arguments;
 use crate::base::refusal_of;
-use crate::fault::Fault;
+use crate::display::Hex;
 use crate::vclock::clock_of;
 use hex::FromHex;
 use mx_base::SyncId;
@@ -12,17 +12,16 @@ use mx_msgpack::{Bytes, Tuples};
 use mx_reply::{ReplyBody, write_error, write_greeting, write_id, write_ok};
 use std::alloc::AllocError;
 
-/// The answer of a call of this name, where there is one.
-pub fn answer(call: &str, arguments: &mut Arguments<'_>) -> Result<Option<String>, Fault> {
-    let answer = match call {
-        "ok" => answered(arguments)?,
-        "error" => refused(arguments)?,
-        "error_size" => refused_in(arguments)?,
-        "id" => identified(arguments)?,
-        "greeting" => greeting(arguments)?,
-        _ => return Ok(None),
-    };
-    Ok(Some(answer))
+/// The answer of the call of this name.
+pub fn answer(call: &str, arguments: &mut Arguments<'_>) -> Result<String, AllocError> {
+    match call {
+        "ok" => answered(arguments),
+        "error" => refused(arguments),
+        "error_size" => refused_in(arguments),
+        "id" => identified(arguments),
+        "greeting" => greeting(arguments),
+        _ => no_call(arguments),
+    }
 }
 
 /// How a reply begins.
@@ -33,80 +32,85 @@ struct Start {
     schema: u32,
 }
 
-fn start_of(arguments: &mut Arguments<'_>) -> Result<Start, Fault> {
-    Ok(Start {
-        out: arguments.bytes()?,
-        sync: SyncId(arguments.number()?),
-        schema: arguments.number()?,
-    })
-}
-
-fn answered(arguments: &mut Arguments<'_>) -> Result<String, Fault> {
-    let alloc = arguments.alloc();
-    let mut start = start_of(arguments)?;
-    let body = body_of(arguments)?;
-    write_ok(alloc, start.sync, start.schema, &body, &mut start.out)?;
-    Ok(hexed(alloc, start.out.as_slice())?)
-}
-
-/// The next arguments as the body of a reply.
-fn body_of(arguments: &mut Arguments<'_>) -> Result<ReplyBody, Fault> {
-    let alloc = arguments.alloc();
-    let text = arguments.text()?;
-    match text {
-        "Empty" => Ok(ReplyBody::Empty),
-        "Tuples" => {
-            let mut tuples = Tuples::new(alloc);
-            for text in arguments.others()? {
-                tuples.push(bytes_in(alloc, text)?)?;
-            }
-            Ok(ReplyBody::Tuples(tuples))
-        }
-        "Clock" => Ok(ReplyBody::Clock(clock_of(arguments)?)),
-        _ => Err(unfit(alloc, "body", text)),
+fn start_of(arguments: &mut Arguments<'_>) -> Start {
+    Start {
+        out: arguments.bytes(),
+        sync: SyncId(arguments.number()),
+        schema: arguments.number(),
     }
 }
 
-fn refused(arguments: &mut Arguments<'_>) -> Result<String, Fault> {
+fn answered(arguments: &mut Arguments<'_>) -> Result<String, AllocError> {
     let alloc = arguments.alloc();
-    let mut start = start_of(arguments)?;
-    let refusal = refusal_of(arguments)?;
+    let mut start = start_of(arguments);
+    let body = body_of(arguments)?;
+    write_ok(alloc, start.sync, start.schema, &body, &mut start.out)?;
+    format!(in alloc; "{}", Hex(start.out.as_slice()))
+}
+
+/// The next arguments as the body of a reply.
+fn body_of(arguments: &mut Arguments<'_>) -> Result<ReplyBody, AllocError> {
+    match arguments.text() {
+        "Empty" => Ok(ReplyBody::Empty),
+        "Tuples" => Ok(ReplyBody::Tuples(tuples_of(arguments)?)),
+        "Clock" => Ok(ReplyBody::Clock(clock_of(arguments))),
+        text => {
+            arguments.refuse_text("body", text);
+            Ok(ReplyBody::Empty)
+        }
+    }
+}
+
+/// All arguments that are left as tuples.
+fn tuples_of(arguments: &mut Arguments<'_>) -> Result<Tuples, AllocError> {
+    let mut tuples = Tuples::new(arguments.alloc());
+    for text in arguments.others() {
+        tuples.push(arguments.bytes_in(text))?;
+    }
+    Ok(tuples)
+}
+
+fn refused(arguments: &mut Arguments<'_>) -> Result<String, AllocError> {
+    let alloc = arguments.alloc();
+    let mut start = start_of(arguments);
+    let refusal = refusal_of(arguments);
     write_error(alloc, start.sync, start.schema, &refusal, &mut start.out)?;
-    Ok(hexed(alloc, start.out.as_slice())?)
+    format!(in alloc; "{}", Hex(start.out.as_slice()))
 }
 
 /// As `refused`, by how many bytes there are, and the first so many of them; and the bytes as they were
 /// where the text is too long.
-fn refused_in(arguments: &mut Arguments<'_>) -> Result<String, Fault> {
+fn refused_in(arguments: &mut Arguments<'_>) -> Result<String, AllocError> {
     let alloc = arguments.alloc();
-    let shown: usize = arguments.number()?;
-    let mut start = start_of(arguments)?;
-    let refusal = refusal_of(arguments)?;
+    let shown: usize = arguments.number();
+    let mut start = start_of(arguments);
+    let refusal = refusal_of(arguments);
     let written = write_error(alloc, start.sync, start.schema, &refusal, &mut start.out);
     let size = start.out.len();
     start.out.truncate(shown);
-    let first = hexed(alloc, start.out.as_slice())?;
+    let first = Hex(start.out.as_slice());
     match written {
-        Ok(()) => Ok(format!(in alloc; "ok {size} {first}")?),
-        Err(AllocError) => Ok(format!(in alloc; "err NoMemory {first}")?),
+        Ok(()) => format!(in alloc; "ok {size} {first}"),
+        Err(AllocError) => format!(in alloc; "err NoMemory {first}"),
     }
 }
 
-fn identified(arguments: &mut Arguments<'_>) -> Result<String, Fault> {
+fn identified(arguments: &mut Arguments<'_>) -> Result<String, AllocError> {
     let alloc = arguments.alloc();
-    let mut start = start_of(arguments)?;
+    let mut start = start_of(arguments);
     write_id(alloc, start.sync, start.schema, &mut start.out)?;
-    Ok(hexed(alloc, start.out.as_slice())?)
+    format!(in alloc; "{}", Hex(start.out.as_slice()))
 }
 
 /// The greeting of an instance, with a salt of 32 bytes.
-fn greeting(arguments: &mut Arguments<'_>) -> Result<String, Fault> {
+fn greeting(arguments: &mut Arguments<'_>) -> Result<String, AllocError> {
     let alloc = arguments.alloc();
-    let instance = arguments.uuid()?;
-    let text = arguments.text()?;
+    let instance = arguments.uuid();
+    let text = arguments.text();
     let Ok(salt) = <[u8; 32] as FromHex>::from_hex(text) else {
-        return Err(unfit(alloc, "salt of 32 bytes", text));
+        arguments.refuse_text("salt of 32 bytes", text);
+        return Ok(String::new(alloc));
     };
     let greeting = write_greeting(alloc, &instance, &salt)?;
-    Ok(hexed(alloc, &greeting)?)
+    format!(in alloc; "{}", Hex(&greeting))
 }

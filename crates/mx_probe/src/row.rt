@@ -1,44 +1,45 @@
 //! The calls of `mx_row`.
 
-use crate::answers::hexed;
+use crate::answers::no_call;
 use crate::arguments::Arguments;
-use crate::fault::Fault;
+use crate::display::Hex;
 use mx_row::read_tx;
+use std::alloc::AllocError;
 
-/// The answer of a call of this name, where there is one.
-pub fn answer(call: &str, arguments: &mut Arguments<'_>) -> Result<Option<String>, Fault> {
-    let answer = match call {
-        "read" => read(arguments)?,
-        "size" => sized(arguments)?,
-        _ => return Ok(None),
-    };
-    Ok(Some(answer))
+/// The answer of the call of this name.
+pub fn answer(call: &str, arguments: &mut Arguments<'_>) -> Result<String, AllocError> {
+    match call {
+        "read" => read(arguments),
+        "size" => sized(arguments),
+        _ => no_call(arguments),
+    }
 }
 
 /// The transaction that stands first: its replica id, lsn, space and tuple, and the bytes after it.
-fn read(arguments: &mut Arguments<'_>) -> Result<String, Fault> {
+fn read(arguments: &mut Arguments<'_>) -> Result<String, AllocError> {
     let alloc = arguments.alloc();
-    let bytes = arguments.bytes()?;
-    let Some((tx, rest)) = read_tx(bytes.as_slice()) else {
-        return Ok(String::from_str(alloc, "none")?);
-    };
-    let replica = tx.replica;
-    let lsn = tx.lsn;
-    let space = tx.space;
-    let tuple = hexed(alloc, tx.tuple)?;
-    let rest = hexed(alloc, rest)?;
-    Ok(format!(in alloc; "ok {replica} {lsn} {space} {tuple} {rest}")?)
+    let bytes = arguments.bytes();
+    match read_tx(bytes.as_slice()) {
+        Some((tx, rest)) => {
+            let replica = tx.replica;
+            let lsn = tx.lsn;
+            let space = tx.space;
+            format!(in alloc;
+                "ok {replica} {lsn} {space} {} {}",
+                Hex(tx.tuple),
+                Hex(rest)
+            )
+        }
+        None => String::from_str(alloc, "none"),
+    }
 }
 
 /// How many bytes the tuple has of the transaction that stands first.
-fn sized(arguments: &mut Arguments<'_>) -> Result<String, Fault> {
+fn sized(arguments: &mut Arguments<'_>) -> Result<String, AllocError> {
     let alloc = arguments.alloc();
-    let bytes = arguments.bytes()?;
+    let bytes = arguments.bytes();
     match read_tx(bytes.as_slice()) {
-        Some((tx, _)) => {
-            let count = tx.tuple.len();
-            Ok(format!(in alloc; "ok {count}")?)
-        }
-        None => Ok(String::from_str(alloc, "none")?),
+        Some((tx, _)) => format!(in alloc; "ok {}", tx.tuple.len()),
+        None => String::from_str(alloc, "none"),
     }
 }

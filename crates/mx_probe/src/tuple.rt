@@ -1,131 +1,142 @@
 //! The calls of `mx_tuple`. A format is written as a count and entries, as in `0 Unsigned,String?`; a
 //! `?` says that the field takes Nil.
 
-use crate::answers::hexed;
-use crate::arguments::{Arguments, bytes_in, unfit};
+use crate::answers::no_call;
+use crate::arguments::Arguments;
+use crate::display::Hex;
 use crate::fault::Fault;
 use mx_msgpack::Bytes;
 use mx_tuple::{
     FieldFault, FieldKind, Format, FormatEntries, FormatEntry, Tuple, TupleBad, check, from_bytes,
 };
-use std::alloc::Global;
+use std::alloc::{AllocError, Global};
+use std::fmt;
 
-/// The answer of a call of this name, where there is one.
-pub fn answer(call: &str, arguments: &mut Arguments<'_>) -> Result<Option<String>, Fault> {
-    let answer = match call {
-        "fields" => fields(arguments)?,
-        "places" => places(arguments)?,
-        "check" => checked(arguments)?,
-        _ => return Ok(None),
-    };
-    Ok(Some(answer))
+/// The answer of the call of this name.
+pub fn answer(call: &str, arguments: &mut Arguments<'_>) -> Result<String, AllocError> {
+    match call {
+        "fields" => fields(arguments),
+        "places" => places(arguments),
+        "check" => checked(arguments),
+        _ => no_call(arguments),
+    }
 }
 
-/// The bytes of a tuple, its fields, two behind the last, which are none, and the bytes again.
-fn fields(arguments: &mut Arguments<'_>) -> Result<String, Fault> {
+/// The bytes of a tuple, its fields, two after the last, which are none, and the bytes again.
+fn fields(arguments: &mut Arguments<'_>) -> Result<String, AllocError> {
     let alloc = arguments.alloc();
-    let bytes = arguments.bytes()?;
+    let bytes = arguments.bytes();
     match from_bytes(alloc, bytes.as_slice()) {
-        Ok(tuple) => {
-            let fields = fields_shown(alloc, &tuple)?;
-            let bytes = hexed(alloc, tuple.into_bytes().as_slice())?;
-            Ok(format!(in alloc; "{fields} {bytes}")?)
-        }
-        Err(TupleBad::Bad) => Ok(String::from_str(alloc, "err Bad")?),
-        Err(TupleBad::NoMemory) => Err(Fault::NoMemory),
+        Ok(tuple) => taken_apart(alloc, tuple),
+        Err(TupleBad::Bad) => String::from_str(alloc, "err Bad"),
+        Err(TupleBad::NoMemory) => Err(AllocError),
     }
 }
 
-fn fields_shown(alloc: Global, tuple: &Tuple) -> Result<String, Fault> {
-    let bytes = hexed(alloc, tuple.bytes())?;
-    let count = tuple.count();
-    let mut answer = format!(in alloc; "ok {bytes} {count}")?;
-    for number in 0..count {
-        let field = field_shown(alloc, tuple, number)?;
-        write!(answer, " {field}")?;
+fn taken_apart(alloc: Global, tuple: Tuple) -> Result<String, AllocError> {
+    let mut answer = format!(in alloc; "ok {} {}", Hex(tuple.bytes()), tuple.count())?;
+    for number in 0..tuple.count() {
+        write!(answer, " {}", Field(tuple.field(number)))?;
     }
-    let behind = field_shown(alloc, tuple, count)?;
-    let last = field_shown(alloc, tuple, u32::MAX)?;
+    let behind = Field(tuple.field(tuple.count()));
+    let last = Field(tuple.field(u32::MAX));
     write!(answer, " {behind} {last}")?;
+    write!(answer, " {}", Hex(tuple.into_bytes().as_slice()))?;
     Ok(answer)
 }
 
-fn field_shown(alloc: Global, tuple: &Tuple, number: u32) -> Result<String, Fault> {
-    match tuple.field(number) {
-        Some(field) => Ok(hexed(alloc, field)?),
-        None => Ok(String::from_str(alloc, "none")?),
+/// The bytes of a field, if there is one.
+#[derive(Clone, Copy)]
+struct Field<'a>(Option<&'a [u8]>);
+
+impl fmt::Display for Field<'_> {
+    fn fmt<W: fmt::Write>(&self, f: &mut fmt::Formatter<W>) -> fmt::Result {
+        match self.0 {
+            Some(bytes) => write!(f, "{}", Hex(bytes)),
+            None => f.write_str("none"),
+        }
     }
 }
 
-/// The next argument as a tuple.
-fn tuple_of(arguments: &mut Arguments<'_>) -> Result<Tuple, Fault> {
-    let alloc = arguments.alloc();
-    let text = arguments.text()?;
-    let bytes = bytes_in(alloc, text)?;
-    match from_bytes(alloc, bytes.as_slice()) {
-        Ok(tuple) => Ok(tuple),
-        Err(TupleBad::Bad) => Err(unfit(alloc, "tuple", text)),
-        Err(TupleBad::NoMemory) => Err(Fault::NoMemory),
+/// The next argument as a tuple, if it isn't refused.
+fn tuple_of(arguments: &mut Arguments<'_>) -> Option<Tuple> {
+    let text = arguments.text();
+    let bytes = arguments.bytes_in(text);
+    match from_bytes(arguments.alloc(), bytes.as_slice()) {
+        Ok(tuple) => return Some(tuple),
+        Err(TupleBad::Bad) => arguments.refuse_text("tuple", text),
+        Err(TupleBad::NoMemory) => arguments.refuse(Fault::NoMemory),
     }
+    None
 }
 
 /// The places where the fields of a tuple begin, and where the last one ends.
-fn places(arguments: &mut Arguments<'_>) -> Result<String, Fault> {
-    let tuple = tuple_of(arguments)?;
+fn places(arguments: &mut Arguments<'_>) -> Result<String, AllocError> {
+    let alloc = arguments.alloc();
+    let Some(tuple) = tuple_of(arguments) else {
+        return Ok(String::new(alloc));
+    };
     let places = tuple.places();
-    Ok(format!(in arguments.alloc(); "{places:?}")?)
+    format!(in alloc; "{places:?}")
 }
 
 /// The next arguments as a format.
-fn format_of(arguments: &mut Arguments<'_>) -> Result<Format, Fault> {
-    let alloc = arguments.alloc();
-    let count: u32 = arguments.number()?;
-    let mut entries = FormatEntries::new(alloc);
-    for text in arguments.items()? {
-        entries.push(entry_in(alloc, text)?)?;
+fn format_of(arguments: &mut Arguments<'_>) -> Result<Format, AllocError> {
+    let count: u32 = arguments.number();
+    let mut entries = Vec::new(arguments.alloc());
+    for text in arguments.items() {
+        entries.push(entry_in(arguments, text))?;
     }
+    // No line that fits into memory has too many entries.
+    let Some(entries) = FormatEntries::from_vec(entries) else {
+        return Err(AllocError);
+    };
     Ok(Format { count, entries })
 }
 
-fn entry_in(alloc: Global, text: &str) -> Result<FormatEntry, Fault> {
-    let (text, nullable) = match text.strip_suffix('?') {
-        Some(text) => (text, true),
+fn entry_in(arguments: &mut Arguments<'_>, text: &str) -> FormatEntry {
+    let (kind, nullable) = match text.strip_suffix('?') {
+        Some(kind) => (kind, true),
         None => (text, false),
     };
-    Ok(FormatEntry {
-        name: Bytes::new(alloc),
-        kind: field_kind(alloc, text)?,
+    FormatEntry {
+        name: Bytes::new(arguments.alloc()),
+        kind: field_kind(arguments, kind),
         nullable,
-    })
+    }
 }
 
-fn field_kind(alloc: Global, text: &str) -> Result<FieldKind, Fault> {
+fn field_kind(arguments: &mut Arguments<'_>, text: &str) -> FieldKind {
     match text {
-        "Any" => Ok(FieldKind::Any),
-        "Unsigned" => Ok(FieldKind::Unsigned),
-        "Integer" => Ok(FieldKind::Integer),
-        "String" => Ok(FieldKind::String),
-        "Boolean" => Ok(FieldKind::Boolean),
-        "Varbinary" => Ok(FieldKind::Varbinary),
-        "Scalar" => Ok(FieldKind::Scalar),
-        "Array" => Ok(FieldKind::Array),
-        "Map" => Ok(FieldKind::Map),
-        _ => Err(unfit(alloc, "type of a field", text)),
+        "Any" => FieldKind::Any,
+        "Unsigned" => FieldKind::Unsigned,
+        "Integer" => FieldKind::Integer,
+        "String" => FieldKind::String,
+        "Boolean" => FieldKind::Boolean,
+        "Varbinary" => FieldKind::Varbinary,
+        "Scalar" => FieldKind::Scalar,
+        "Array" => FieldKind::Array,
+        "Map" => FieldKind::Map,
+        _ => {
+            arguments.refuse_text("type of a field", text);
+            FieldKind::Any
+        }
     }
 }
 
 /// Whether a tuple meets a format.
-fn checked(arguments: &mut Arguments<'_>) -> Result<String, Fault> {
+fn checked(arguments: &mut Arguments<'_>) -> Result<String, AllocError> {
     let alloc = arguments.alloc();
     let format = format_of(arguments)?;
-    let tuple = tuple_of(arguments)?;
-    let answer = match check(&format, &tuple) {
-        Ok(()) => String::from_str(alloc, "ok")?,
-        Err(FieldFault::Missing { field }) => format!(in alloc; "missing {field}")?,
-        Err(FieldFault::Wrong { field, expected }) => {
-            format!(in alloc; "wrong {field} {expected:?}")?
-        }
-        Err(FieldFault::Count { has, expected }) => format!(in alloc; "count {has} {expected}")?,
+    let Some(tuple) = tuple_of(arguments) else {
+        return Ok(String::new(alloc));
     };
-    Ok(answer)
+    match check(&format, &tuple) {
+        Ok(()) => String::from_str(alloc, "ok"),
+        Err(FieldFault::Missing { field }) => format!(in alloc; "missing {field}"),
+        Err(FieldFault::Wrong { field, expected }) => {
+            format!(in alloc; "wrong {field} {expected:?}")
+        }
+        Err(FieldFault::Count { has, expected }) => format!(in alloc; "count {has} {expected}"),
+    }
 }

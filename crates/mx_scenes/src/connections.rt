@@ -1,23 +1,24 @@
 //! Connections that come and go, side by side.
 
-use crate::harness::{GREETING, NONE, ON_ONE, TO_ONE, TRACE, joined, packet, reply, run_on, unit};
+use crate::harness::{
+    GREETING, NONE, ON_ONE, TO_ONE, TRACE, check_run, joined, new_directory, packet, reply, run_on,
+    unit,
+};
 use std::alloc::{AllocError, Global};
 use std::test::Fail;
+
+/// What stands in a packet of two mebibytes before the last value of its body: the header, the key and
+/// the value's length. It is a PING.
+const LONG_PING: &[u8] = b"\xce\x00\x20\x00\x00\x82\x00\x40\x01\x01\x81\x7e\xc6\x00\x1f\xff\xf4";
 
 #[test]
 fn a_packet_may_have_two_mebibytes(rt: HostRuntime) -> Result<(), Fail> {
     let alloc = rt.alloc();
     let bytes = Vec::from_elem(alloc, 0, 2_097_140)?;
-    let ping = joined(
-        alloc,
-        &[
-            b"\xce\x00\x20\x00\x00\x82\x00\x40\x01\x01\x81\x7e\xc6\x00\x1f\xff\xf4",
-            &bytes,
-        ],
-    )?;
-    let ran = run_on(alloc, &TRACE, &unit(alloc, ON_ONE, &[&ping])?, NONE)?;
+    let input = unit(alloc, ON_ONE, &[LONG_PING, &bytes])?;
     let told = reply(alloc, 0, 1, b"\x80")?;
-    assert_eq!(rt; ran.output, unit(alloc, TO_ONE, &[GREETING, &told])?);
+    let output = unit(alloc, TO_ONE, &[GREETING, &told])?;
+    check_run(&rt, alloc, new_directory(alloc), &input, &output)?;
     Ok(())
 }
 

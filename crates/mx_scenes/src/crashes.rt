@@ -1,8 +1,8 @@
-//! Tests of what a run finds in a directory where an earlier one was stopped.
+//! What a run finds in a directory where an earlier one was stopped.
 
 use crate::harness::{
     BLOCK, END, FIRST, GREETING, HEADER, NEXT_HEADER, NONE, ON_ONE, Ran, SECOND, TO_ONE, TRACE,
-    append, directory_of, file, found, joined, packet, reply, run_in, unit,
+    check_file, directory_of, directory_with, found, joined, packet, reply, run_in, unit,
 };
 use mx_fake::MemoryDir;
 use mx_outside::{Dir, DirFault};
@@ -73,50 +73,43 @@ fn answers(alloc: Global, keys: &[u8], prefix: u8) -> Result<Vec<u8>, AllocError
     Ok(output)
 }
 
-/// A directory whose one journal has these bytes.
-fn directory_with(alloc: Global, bytes: &[u8]) -> Result<MemoryDir, DirFault> {
-    let mut dir = MemoryDir::new(alloc, Vec::new(alloc));
-    dir.create(alloc, FIRST)?;
-    append(alloc, &mut dir, FIRST, bytes)?;
-    Ok(dir)
+/// Checks that a run on a journal of the first block and this end finds the keys up to `prefix`, which
+/// is 1 or 2.
+fn check_end(rt: &impl Abort, alloc: Global, end: &[u8], prefix: u8) -> Result<(), Fail> {
+    let dir = directory_with(alloc, &[(FIRST, &[HEADER, BLOCK, end])])?;
+    let ran = run_in(alloc, dir, &TRACE, &selects(alloc, &[1, 2])?, NONE)?;
+    let output = answers(alloc, &[1, 2], prefix)?;
+    assert_eq!(rt; ran.status.as_str(), "Ok", "after the block {end:?}");
+    assert_eq!(rt; ran.output, output, "after the block {end:?}");
+    check_journals(rt, alloc, directory_of(ran)?, end, prefix)
 }
 
-/// Checks that a run on a journal of the first block and this end finds the keys up to `prefix`, which
-/// is 1 or 2, that it begins its own journal after them, and that it leaves the other one as it was.
-fn check_end(rt: &impl Abort, alloc: Global, end: &[u8], prefix: u8) -> Result<(), Fail> {
-    let old = joined(alloc, &[HEADER, BLOCK, end])?;
-    let dir = directory_with(alloc, &old)?;
-    let ran = run_in(alloc, dir, &TRACE, &selects(alloc, &[1, 2])?, NONE)?;
-    assert_eq!(rt; ran.status.as_str(), "Ok", "after the block {end:?}");
-    assert_eq!(rt;
-        ran.output,
-        answers(alloc, &[1, 2], prefix)?,
-        "after the block {end:?}"
-    );
-    let (name, header) = if prefix == 2 {
+/// Checks that this run began its own journal after the keys, and left the other one as it was.
+fn check_journals(
+    rt: &impl Abort,
+    alloc: Global,
+    mut dir: MemoryDir,
+    end: &[u8],
+    prefix: u8,
+) -> Result<(), Fail> {
+    let (name, header): (&str, &[u8]) = if prefix == 2 {
         (THIRD, THIRD_HEADER)
     } else {
         (SECOND, NEXT_HEADER)
     };
-    let mut dir = directory_of(ran)?;
     let names = dir.list(alloc)?;
     assert_eq!(rt; names.as_slice().len(), 2, "after the block {end:?}");
-    assert_eq!(rt; file(alloc, &mut dir, FIRST)?, old);
-    assert_eq!(rt;
-        file(alloc, &mut dir, name)?,
-        joined(alloc, &[header, END])?,
-        "after the block {end:?}"
-    );
+    check_file(rt, alloc, &mut dir, FIRST, &[HEADER, BLOCK, end])?;
+    check_file(rt, alloc, &mut dir, name, &[header, END])?;
     Ok(())
 }
 
 #[test]
 fn a_block_that_is_cut_anywhere_counts_for_nothing(rt: HostRuntime) -> Result<(), Fail> {
-    let alloc = rt.alloc();
     for count in 0..36 {
-        check_end(&rt, alloc, &SECOND_BLOCK[..count], 1)?;
+        check_end(&rt, rt.alloc(), &SECOND_BLOCK[..count], 1)?;
     }
-    check_end(&rt, alloc, SECOND_BLOCK, 2)
+    check_end(&rt, rt.alloc(), SECOND_BLOCK, 2)
 }
 
 /// The prefix of a block without data, whose checksum is 0.
@@ -124,7 +117,7 @@ const NO_DATA: &[u8] = b"\xd5\xba\x0b\xab\xce\0\0\0\0\0\xce\0\0\0\0\xa3\0\0\0";
 
 /// Ends of the first journal: bytes, so many of the second block, and bytes after these; and the
 /// last key that is found.
-const ENDS: [(&[u8], usize, &[u8], u8); 18] = [
+const ENDS: &[(&[u8], usize, &[u8], u8)] = &[
     (b"", 0, &[0], 1),
     (b"", 0, &[0; 40], 1),
     (b"", 0, &[0xff], 1),
@@ -149,9 +142,9 @@ const ENDS: [(&[u8], usize, &[u8], u8); 18] = [
 fn other_ends_count_for_nothing(rt: HostRuntime) -> Result<(), Fail> {
     let alloc = rt.alloc();
     for (before, count, after, prefix) in ENDS {
-        let block = SECOND_BLOCK.get(..count).unwrap_or(b"");
+        let block = SECOND_BLOCK.get(..*count).unwrap_or(b"");
         let end = joined(alloc, &[before, block, after])?;
-        check_end(&rt, alloc, &end, prefix)?;
+        check_end(&rt, alloc, &end, *prefix)?;
     }
     Ok(())
 }
@@ -162,22 +155,23 @@ type Runs = &'static [&'static [u8]];
 /// More calls than any of these runs make on the directory.
 const MAX_CALLS: u64 = 100;
 
-const RUNS: [Runs; 3] = [&[&[1, 2, 3]], &[&[1], &[2, 3, 4]], &[&[], &[1, 2, 3]]];
-
 /// One key more than any of these runs REPLACEs.
 const KEYS: [u8; 5] = [1, 2, 3, 4, 5];
 
-/// How a directory goes on after the stop: as it is, or restarted by this choice. A block has 36
-/// bytes, and a header 118.
-const CHOICES: [Option<u32>; 8] = [
+/// How a directory goes on after the stop: as it is, or restarted by this choice. Its low byte says
+/// which names are as they were when the names were synced, a bit each, and the rest of it how many
+/// bytes of each file stay beyond its synced ones. A block has 36 bytes, and a header 118.
+const CHOICES: &[Option<u32>] = &[
     None,
-    Some(0),
-    Some(1),
-    Some(2),
-    Some(39),
-    Some(70),
-    Some(72),
-    Some(2001),
+    Some(0x0000),
+    Some(0x00ff),
+    Some(0x0100),
+    Some(0x13ff),
+    Some(0x2300),
+    Some(0x2400),
+    Some(0x3_e8ff),
+    Some(0x3_e801),
+    Some(0x3_e802),
 ];
 
 /// What was seen of runs that were stopped at a call, and of those that came after them.
@@ -200,7 +194,7 @@ impl Seen {
         let (Some(least), Some(found)) = (self.acknowledged, self.found) else {
             return false;
         };
-        let is_cut = choice.is_some_and(|choice| choice / 2 < 36);
+        let is_cut = choice.is_some_and(|choice| choice / 256 < 36);
         let next = least.saturating_add(1).min(last_key(runs));
         let most = if is_cut { least } else { next };
         least <= found && found <= most && self.found_again == self.found
@@ -247,41 +241,62 @@ fn last_found(alloc: Global, dir: MemoryDir) -> Result<(Option<u8>, MemoryDir), 
     Ok((last, directory_of(ran)?))
 }
 
-/// Runs over a new directory, of whose calls this one fails, up to the run that it stops. Says
-/// whether none was stopped, and the last key whose reply went out, and hands on the directory.
-fn stopped(
-    alloc: Global,
-    runs: Runs,
-    call: u64,
-) -> Result<(bool, Option<u8>, MemoryDir), AllocError> {
-    let mut failing = Vec::new(alloc);
-    failing.push(call)?;
-    let mut dir = MemoryDir::new(alloc, failing);
-    let mut acknowledged = Some(0);
+/// Runs up to one that was stopped.
+#[derive(Drop)]
+struct Stopped {
+    /// Whether none was stopped.
+    has_ended: bool,
+    /// The last key whose reply went out, if all that went out were the replies up to it.
+    acknowledged: Option<u8>,
+    /// The directory as they left it.
+    dir: MemoryDir,
+}
+
+impl Stopped {
+    /// One run more, which REPLACEs these keys.
+    fn and_run(self, alloc: Global, keys: &[u8]) -> Result<Stopped, AllocError> {
+        let ran = run_in(alloc, self.dir, &TRACE, &replaces(alloc, keys)?, NONE)?;
+        let acknowledged = match self.acknowledged {
+            Some(before) => last_answered(alloc, &ran.output, keys, before)?,
+            None => None,
+        };
+        Ok(Stopped {
+            has_ended: ran.status.as_str() == "Ok",
+            acknowledged,
+            dir: directory_of(ran)?,
+        })
+    }
+}
+
+/// Runs over a new directory, of whose calls this one fails, up to the run that it stops.
+fn stopped_at(alloc: Global, runs: Runs, call: u64) -> Result<Stopped, AllocError> {
+    let mut stopped = Stopped {
+        has_ended: true,
+        acknowledged: Some(0),
+        dir: MemoryDir::new(alloc, vec![in alloc; call]?),
+    };
     for keys in runs {
-        let ran = run_in(alloc, dir, &TRACE, &replaces(alloc, keys)?, NONE)?;
-        if let Some(before) = acknowledged {
-            acknowledged = last_answered(alloc, &ran.output, keys, before)?;
-        }
-        let has_ended = ran.status.as_str() == "Ok";
-        dir = directory_of(ran)?;
-        if !has_ended {
-            return Ok((false, acknowledged, dir));
+        if stopped.has_ended {
+            stopped = stopped.and_run(alloc, keys)?;
         }
     }
     // The first call that no run made may be the one that fails, so it is one that changes nothing.
-    let _names = dir.list(alloc);
-    Ok((true, acknowledged, dir))
+    let _names = stopped.dir.list(alloc);
+    Ok(stopped)
 }
 
 /// Stops runs at this call, crashes by the choice, and looks at what further runs find.
 fn look_after(alloc: Global, runs: Runs, call: u64, choice: Option<u32>) -> Result<Seen, DirFault> {
-    let (has_ended, acknowledged, mut dir) = stopped(alloc, runs, call)?;
+    let Stopped {
+        has_ended,
+        acknowledged,
+        mut dir,
+    } = stopped_at(alloc, runs, call)?;
     if let Some(choice) = choice {
         dir.restart(alloc, choice)?;
     }
     let (found, mut dir) = last_found(alloc, dir)?;
-    dir.restart(alloc, 1)?;
+    dir.restart(alloc, 0xff)?;
     let (found_again, _) = last_found(alloc, dir)?;
     Ok(Seen {
         has_ended,
@@ -291,28 +306,55 @@ fn look_after(alloc: Global, runs: Runs, call: u64, choice: Option<u32>) -> Resu
     })
 }
 
-#[test]
-fn what_was_acknowledged_is_found_after_a_stop_at_any_call(rt: HostRuntime) -> Result<(), Fail> {
-    let alloc = rt.alloc();
-    for runs in RUNS {
-        let mut has_ended = false;
-        let mut is_more_found = false;
-        for call in 1..MAX_CALLS {
-            if has_ended {
-                break;
-            }
-            for choice in CHOICES {
-                let seen = look_after(alloc, runs, call, choice)?;
-                assert!(rt;
-                    seen.is_right(runs, choice),
-                    "{runs:?} stopped at call {call}, and {choice:?}: {seen:?}"
-                );
-                has_ended = seen.has_ended;
-                is_more_found |= seen.found > seen.acknowledged;
-            }
-        }
-        assert!(rt; has_ended, "{runs:?} made more than {MAX_CALLS} calls");
-        assert!(rt; is_more_found, "{runs:?} left no block without its reply");
+/// Looks at runs that are stopped at this call, by each choice: whether none was stopped, and whether
+/// a commit was found whose reply didn't go out.
+fn check_call(
+    rt: &impl Abort,
+    alloc: Global,
+    runs: Runs,
+    call: u64,
+) -> Result<(bool, bool), DirFault> {
+    let mut has_ended = false;
+    let mut is_more_found = false;
+    for choice in CHOICES {
+        let seen = look_after(alloc, runs, call, *choice)?;
+        assert!(rt;
+            seen.is_right(runs, *choice),
+            "{runs:?} stopped at call {call}, and {choice:?}: {seen:?}"
+        );
+        has_ended = seen.has_ended;
+        is_more_found |= seen.found > seen.acknowledged;
     }
+    Ok((has_ended, is_more_found))
+}
+
+/// Stops runs at each call that they make.
+fn check_runs(rt: &impl Abort, alloc: Global, runs: Runs) -> Result<(), DirFault> {
+    let mut has_ended = false;
+    let mut is_more_found = false;
+    for call in 1..MAX_CALLS {
+        if !has_ended {
+            let (ended, more) = check_call(rt, alloc, runs, call)?;
+            has_ended = ended;
+            is_more_found |= more;
+        }
+    }
+    assert!(rt; has_ended, "{runs:?} made more than {MAX_CALLS} calls");
+    assert!(rt; is_more_found, "{runs:?} left no block without its reply");
     Ok(())
+}
+
+#[test]
+fn what_was_acknowledged_is_found_after_a_stop_of_one_run(rt: HostRuntime) -> Result<(), Fail> {
+    Ok(check_runs(&rt, rt.alloc(), &[&[1, 2, 3]])?)
+}
+
+#[test]
+fn what_was_acknowledged_is_found_after_a_stop_of_two_runs(rt: HostRuntime) -> Result<(), Fail> {
+    Ok(check_runs(&rt, rt.alloc(), &[&[1], &[2, 3, 4]])?)
+}
+
+#[test]
+fn what_was_acknowledged_is_found_after_an_idle_run(rt: HostRuntime) -> Result<(), Fail> {
+    Ok(check_runs(&rt, rt.alloc(), &[&[], &[1, 2, 3]])?)
 }

@@ -1,122 +1,90 @@
 //! What runs leave in a directory, and find there.
 
 use crate::harness::{
-    BLOCK, END, FIRST, Failing, GREETING, HEADER, NEXT_HEADER, NONE, ON_ONE, REPLACE, SECOND,
-    SELECT, TO_ONE, append, directory_of, file, found, joined, packet, reply, run_in, run_on, unit,
+    BLOCK, END, Exchange, FIRST, FOUND, Failing, File, HEADER, NEXT_HEADER, NONE, ON_ONE, PUT,
+    REPLACE, SECOND, TRACE, check_exchanges, check_file, directory_of, directory_with,
+    new_directory, run_in, run_on, unit,
 };
 use mx_fake::MemoryDir;
-use mx_outside::{Dir, DirFault};
 use std::alloc::{AllocError, Global};
+use std::process::Abort;
 use std::test::Fail;
+
+/// The tuple [1, "a"].
+const ONE: &[u8] = b"\x92\x01\xa1a";
+
+const PUT_ONE: &[Exchange] = &[Exchange {
+    asked: &[PUT, ONE],
+    sync: 1,
+    kind: 0,
+    told: &[FOUND, ONE],
+}];
+
+const FIND_ONE: &[Exchange] = &[Exchange {
+    asked: &[b"\x82\x00\x01\x01\x02\x84\x10\xcd\x02\x00\x12\x0a\x14\x00\x20\x91\x01"],
+    sync: 2,
+    kind: 0,
+    told: &[FOUND, ONE],
+}];
+
+/// Runs one after the other over one directory: what is asked, and a file that is there then.
+const RUNS: &[(&[Exchange], File<'static>)] = &[
+    (&[], (FIRST, &[HEADER, END])),
+    (PUT_ONE, (FIRST, &[HEADER, BLOCK, END])),
+    (FIND_ONE, (SECOND, &[NEXT_HEADER, END])),
+];
 
 #[test]
 fn commits_are_found_by_the_next_run(rt: HostRuntime) -> Result<(), Fail> {
     let alloc = rt.alloc();
-    let trace = ["trace", "d"];
-    let empty = run_on(alloc, &trace, &[], NONE)?;
-    let mut dir = directory_of(empty)?;
-    assert_eq!(rt;
-        file(alloc, &mut dir, FIRST)?,
-        joined(alloc, &[HEADER, END])?
-    );
-    let input = unit(alloc, ON_ONE, &[REPLACE])?;
-    let put = run_in(alloc, dir, &trace, &input, NONE)?;
-    assert_eq!(rt; put.status.as_str(), "Ok");
-    let mut dir = directory_of(put)?;
-    assert_eq!(rt;
-        file(alloc, &mut dir, FIRST)?,
-        joined(alloc, &[HEADER, BLOCK, END])?
-    );
-    let input = unit(alloc, ON_ONE, &[SELECT])?;
-    let again = run_in(alloc, dir, &trace, &input, NONE)?;
-    let tuple = found(alloc, 2, b"\x92\x01\xa1a")?;
-    assert_eq!(rt; again.status.as_str(), "Ok");
-    assert_eq!(rt; again.output, unit(alloc, TO_ONE, &[GREETING, &tuple])?);
-    let mut dir = directory_of(again)?;
-    assert_eq!(rt;
-        file(alloc, &mut dir, SECOND)?,
-        joined(alloc, &[NEXT_HEADER, END])?
-    );
+    let mut dir = new_directory(alloc);
+    for (exchanges, (name, parts)) in RUNS {
+        dir = check_exchanges(&rt, alloc, dir, exchanges)?;
+        check_file(&rt, alloc, &mut dir, name, parts)?;
+    }
     Ok(())
 }
 
-/// A tuple with a value of every kind: numbers, nil, a truth, bytes, texts, a float, an extension,
-/// and an array and a map of wide heads.
-const EVERY_KIND: &[u8] =
-    b"\x9c\x01\xc0\xc3\xff\xd0\xdf\xc4\x01\x00\xa0\xd9\x01a\xca\x3f\x80\x00\x00\
-    \xd4\x07\x00\xdc\x00\x01\xc2\xde\x00\x01\x01\xc0";
-
-#[test]
-fn tuples_hold_values_of_every_kind(rt: HostRuntime) -> Result<(), Fail> {
-    let alloc = rt.alloc();
-    let trace = ["trace", "d"];
-    let replace = packet(
-        alloc,
-        &[b"\x82\x00\x03\x01\x01\x82\x10\xcd\x02\x00\x21", EVERY_KIND],
-    )?;
-    let put = run_on(alloc, &trace, &unit(alloc, ON_ONE, &[&replace])?, NONE)?;
-    let answer = found(alloc, 1, EVERY_KIND)?;
-    assert_eq!(rt; put.output, unit(alloc, TO_ONE, &[GREETING, &answer])?);
-    let dir = directory_of(put)?;
-    let again = run_in(alloc, dir, &trace, &unit(alloc, ON_ONE, &[SELECT])?, NONE)?;
-    let answer = found(alloc, 2, EVERY_KIND)?;
-    assert_eq!(rt; again.output, unit(alloc, TO_ONE, &[GREETING, &answer])?);
+/// Compares the status of a run with a REPLACE, of whose calls on the directory this one fails, and
+/// whether it wrote anything.
+fn check_failing(
+    rt: &impl Abort,
+    alloc: Global,
+    call: u64,
+    status: &str,
+    is_written: bool,
+) -> Result<(), AllocError> {
+    let dir = MemoryDir::new(alloc, vec![in alloc; call]?);
+    let ran = run_in(alloc, dir, &TRACE, &unit(alloc, ON_ONE, &[REPLACE])?, NONE)?;
+    assert_eq!(rt; ran.status.as_str(), status, "call {call}");
+    assert_eq!(rt; !ran.output.is_empty(), is_written, "call {call}");
     Ok(())
 }
 
 #[test]
 fn each_call_on_the_directory_may_fail(rt: HostRuntime) -> Result<(), Fail> {
-    let alloc = rt.alloc();
-    let input = unit(alloc, ON_ONE, &[REPLACE])?;
     // Opening makes 8 calls, the commit 2 and the end 2; the output waits for the commit's.
-    for call in 1..=13 {
-        let mut failing = Vec::new(alloc);
-        failing.push(call)?;
-        let dir = MemoryDir::new(alloc, failing);
-        let ran = run_in(alloc, dir, &["trace", "d"], &input, NONE)?;
-        let status = if call == 13 { "Ok" } else { "DiskFault" };
-        assert_eq!(rt; ran.status.as_str(), status, "call {call}");
-        assert_eq!(rt; ran.output.is_empty(), call < 11, "call {call}");
+    for call in 1..=12 {
+        check_failing(&rt, rt.alloc(), call, "DiskFault", call > 10)?;
     }
+    check_failing(&rt, rt.alloc(), 13, "Ok", true)?;
     Ok(())
 }
+
+const FIRST_WRITE: Failing = Failing {
+    reads: &[],
+    writes: &[1],
+};
 
 #[test]
 fn a_commit_is_kept_though_its_reply_is_lost(rt: HostRuntime) -> Result<(), Fail> {
     let alloc = rt.alloc();
     let input = unit(alloc, ON_ONE, &[REPLACE])?;
-    let first_write = Failing {
-        reads: &[],
-        writes: &[1],
-    };
-    let ran = run_on(alloc, &["trace", "d"], &input, first_write)?;
+    let ran = run_on(alloc, &TRACE, &input, FIRST_WRITE)?;
     assert_eq!(rt; ran.status.as_str(), "WriteFault");
     let mut dir = directory_of(ran)?;
-    assert_eq!(rt;
-        file(alloc, &mut dir, FIRST)?,
-        joined(alloc, &[HEADER, BLOCK])?
-    );
+    check_file(&rt, alloc, &mut dir, FIRST, &[HEADER, BLOCK])?;
     Ok(())
-}
-
-/// The status of a run without input on a directory that has these two files, or only the first one
-/// where the other has no bytes.
-fn opened(
-    alloc: Global,
-    name: &str,
-    bytes: &[u8],
-    other: &str,
-    more: &[u8],
-) -> Result<String, DirFault> {
-    let mut dir = MemoryDir::new(alloc, Vec::new(alloc));
-    dir.create(alloc, name)?;
-    append(alloc, &mut dir, name, bytes)?;
-    if !more.is_empty() {
-        dir.create(alloc, other)?;
-        append(alloc, &mut dir, other, more)?;
-    }
-    let ran = run_in(alloc, dir, &["trace", "d"], &[], NONE)?;
-    Ok(ran.status)
 }
 
 /// Blocks as the first one of replica 1: REPLACEs of [] and of [-1], which have no primary key.
@@ -126,79 +94,76 @@ const NO_KEY_BLOCK: &[u8; 33] = b"\xd5\xba\x0b\xab\xce\0\0\0\x0e\0\xce\x65\x8c\x
 const WRONG_KEY_BLOCK: &[u8; 34] = b"\xd5\xba\x0b\xab\xce\0\0\0\x0f\0\xce\xd1\x4f\xde\x54\xa3\0\0\0\
     \x83\x00\x03\x02\x01\x03\x01\x82\x10\xcd\x02\x00\x21\x91\xff";
 
+/// The block of the first commit without its last byte.
+const CUT_BLOCK: &[u8; 35] = b"\xd5\xba\x0b\xab\xce\0\0\0\x11\0\xce\xa3\xd2\x78\x98\xa3\0\0\0\
+    \x83\x00\x03\x02\x01\x03\x01\x82\x10\xcd\x02\x00\x21\x92\x01\xa1";
+
+/// The header of the second journal, of another node.
+const OTHER_HEADER: &[u8; 122] = b"XLOG\n0.13\nInstance: 00010203-0405-4607-8809-0a0b0c0d0e0e\n\
+    ReplicaSet: 10111213-1415-4617-9819-1a1b1c1d1e1f\nVClock: {1: 1}\n\n";
+
+const SNAPSHOT: &str = "00000000000000000000.snap";
+
+/// Files of a directory, and the status of a run without input on it.
+const OPENED: &[(&[File<'static>], &str)] = &[
+    (
+        &[(FIRST, &[HEADER, NO_KEY_BLOCK])],
+        "Damaged 00000000000000000000.xlog 118 row",
+    ),
+    (
+        &[(FIRST, &[HEADER, WRONG_KEY_BLOCK])],
+        "Damaged 00000000000000000000.xlog 118 row",
+    ),
+    (
+        &[(FIRST, &[HEADER, BLOCK, BLOCK])],
+        "Damaged 00000000000000000000.xlog 154 row",
+    ),
+    (
+        &[(FIRST, &[BLOCK])],
+        "Damaged 00000000000000000000.xlog 0 head",
+    ),
+    (
+        &[(FIRST, &[HEADER, BLOCK]), (SECOND, &[OTHER_HEADER])],
+        "Damaged 00000000000000000001.xlog 0 head",
+    ),
+    (
+        &[(FIRST, &[HEADER]), (SECOND, &[NEXT_HEADER])],
+        "Damaged 00000000000000000001.xlog 0 gap {} {1: 1}",
+    ),
+    (
+        &[(FIRST, &[NEXT_HEADER])],
+        "Damaged 00000000000000000000.xlog 0 head",
+    ),
+    (
+        &[(FIRST, &[HEADER]), (SNAPSHOT, &[BLOCK])],
+        "Damaged 00000000000000000000.snap 0 head",
+    ),
+    (
+        &[
+            (FIRST, &[HEADER, BLOCK, CUT_BLOCK]),
+            (SECOND, &[NEXT_HEADER]),
+        ],
+        "Ok",
+    ),
+];
+
+/// Compares the status of a run without input on a directory of these files.
+fn check_opened(
+    rt: &impl Abort,
+    alloc: Global,
+    files: &[File<'_>],
+    status: &str,
+) -> Result<(), Fail> {
+    let dir = directory_with(alloc, files)?;
+    let ran = run_in(alloc, dir, &TRACE, &[], NONE)?;
+    assert_eq!(rt; ran.status.as_str(), status);
+    Ok(())
+}
+
 #[test]
 fn damage_is_told_with_its_place(rt: HostRuntime) -> Result<(), Fail> {
-    let alloc = rt.alloc();
-    let snapshot = "00000000000000000000.snap";
-    let first = joined(alloc, &[HEADER, BLOCK])?;
-    let lsn_again = joined(alloc, &[HEADER, BLOCK, BLOCK])?;
-    let cut = joined(alloc, &[HEADER, BLOCK, &BLOCK[..35]])?;
-    let mut other_node = NEXT_HEADER.to_vec(alloc)?;
-    other_node[55] = b'e';
-    let no_key = joined(alloc, &[HEADER, NO_KEY_BLOCK])?;
-    let wrong_key = joined(alloc, &[HEADER, WRONG_KEY_BLOCK])?;
-    let cases: [(&str, &[u8], &str, &[u8], &str); 9] = [
-        (
-            FIRST,
-            &no_key,
-            SECOND,
-            &[],
-            "Damaged 00000000000000000000.xlog 118 row",
-        ),
-        (
-            FIRST,
-            &wrong_key,
-            SECOND,
-            &[],
-            "Damaged 00000000000000000000.xlog 118 row",
-        ),
-        (
-            FIRST,
-            &lsn_again,
-            SECOND,
-            &[],
-            "Damaged 00000000000000000000.xlog 154 row",
-        ),
-        (
-            FIRST,
-            BLOCK,
-            SECOND,
-            &[],
-            "Damaged 00000000000000000000.xlog 0 head",
-        ),
-        (
-            FIRST,
-            &first,
-            SECOND,
-            &other_node,
-            "Damaged 00000000000000000001.xlog 0 head",
-        ),
-        (
-            FIRST,
-            HEADER,
-            SECOND,
-            NEXT_HEADER,
-            "Damaged 00000000000000000001.xlog 0 gap {} {1: 1}",
-        ),
-        (
-            FIRST,
-            NEXT_HEADER,
-            SECOND,
-            &[],
-            "Damaged 00000000000000000000.xlog 0 head",
-        ),
-        (
-            FIRST,
-            HEADER,
-            snapshot,
-            BLOCK,
-            "Damaged 00000000000000000000.snap 0 head",
-        ),
-        (FIRST, &cut, SECOND, NEXT_HEADER, "Ok"),
-    ];
-    for (name, bytes, other, more, status) in cases {
-        let told = opened(alloc, name, bytes, other, more)?;
-        assert_eq!(rt; told.as_str(), status);
+    for (files, status) in OPENED {
+        check_opened(&rt, rt.alloc(), files, status)?;
     }
     Ok(())
 }
@@ -212,47 +177,21 @@ const LONGEST: &[u8] = b"\xd5\xba\x0b\xab\xce\x00\x10\x00\x0d\0\xce\x95\x25\xf3\
 const TOO_LONG: &[u8] = b"\xd5\xba\x0b\xab\xce\x00\x10\x00\x0e\0\xce\x94\x6b\xa0\xdc\xa3\0\0\0\
     \x83\x00\x03\x02\x01\x03\x01\x82\x10\xcd\x02\x00\x21\x92\x01\xc6\x00\x0f\xff\xfa";
 
-/// A journal of the prefix of a block, and so many letters a after it.
-fn journal_with(alloc: Global, prefix: &[u8], count: usize) -> Result<Vec<u8>, AllocError> {
-    let mut bytes = HEADER.to_vec(alloc)?;
-    bytes.extend_from_slice(prefix)?;
-    bytes.extend_from_slice(Vec::from_elem(alloc, b'a', count)?.as_slice())?;
-    Ok(bytes)
+/// Compares the status of a run on a journal of the prefix of a block, and so many letters a after it.
+fn check_long(
+    rt: &impl Abort,
+    alloc: Global,
+    prefix: &[u8],
+    count: usize,
+    status: &str,
+) -> Result<(), Fail> {
+    let letters = Vec::from_elem(alloc, b'a', count)?;
+    check_opened(rt, alloc, &[(FIRST, &[HEADER, prefix, &letters])], status)
 }
 
 #[test]
 fn a_tuple_of_a_journal_may_have_a_mebibyte(rt: HostRuntime) -> Result<(), Fail> {
-    let alloc = rt.alloc();
-    let bytes = journal_with(alloc, LONGEST, 1_048_569)?;
-    let told = opened(alloc, FIRST, &bytes, SECOND, &[])?;
-    assert_eq!(rt; told.as_str(), "Ok");
-    let bytes = journal_with(alloc, TOO_LONG, 1_048_570)?;
-    let told = opened(alloc, FIRST, &bytes, SECOND, &[])?;
-    assert_eq!(rt; told.as_str(), "Damaged 00000000000000000000.xlog 118 row");
-    Ok(())
-}
-
-#[test]
-fn a_replica_takes_no_writes(rt: HostRuntime) -> Result<(), Fail> {
-    let alloc = rt.alloc();
-    let header = b"XLOG\n0.13\nInstance: 00010203-0405-4607-8809-0a0b0c0d0e0f\n\
-        ReplicaSet: 10111213-1415-4617-9819-1a1b1c1d1e1f\nReplica: 2\nVClock: {}\n\n";
-    let mut dir = MemoryDir::new(alloc, Vec::new(alloc));
-    dir.create(alloc, FIRST)?;
-    append(alloc, &mut dir, FIRST, &joined(alloc, &[header, BLOCK])?)?;
-    let input = unit(alloc, ON_ONE, &[REPLACE, SELECT])?;
-    let ran = run_in(alloc, dir, &["trace", "d"], &input, NONE)?;
-    let refused = reply(
-        alloc,
-        0x8007,
-        1,
-        b"\x81\x31\xd9\x29Node is read-only, the writable node is 1",
-    )?;
-    let tuple = found(alloc, 2, b"\x92\x01\xa1a")?;
-    assert_eq!(rt; ran.status.as_str(), "Ok");
-    assert_eq!(rt;
-        ran.output,
-        unit(alloc, TO_ONE, &[GREETING, &refused, &tuple])?
-    );
-    Ok(())
+    let damaged = "Damaged 00000000000000000000.xlog 118 row";
+    check_long(&rt, rt.alloc(), LONGEST, 1_048_569, "Ok")?;
+    check_long(&rt, rt.alloc(), TOO_LONG, 1_048_570, damaged)
 }

@@ -1,3 +1,5 @@
+//! Journals that tests write themselves.
+
 ghost use Rattle.std.specs.Prelude.{◌≡◌, ◌∷◌, [], false, true, List, Some, IfOk, replicate};
 ghost use Rattle.mx_outside.specs.Disks.{Disk};
 ghost use Rattle.mx_fake.specs.Changes.{no_files};
@@ -9,6 +11,7 @@ ghost use Rattle.mx_row.specs.Clocks.{follows};
 ghost use Rattle.mx_journal.specs.Written.{IsWritten, Waits};
 ghost use Rattle.mx_images.specs.Changes.{IsNow};
 
+use crate::harness::{BLOCK, END, file, joined};
 use mx_fake::MemoryDir;
 use mx_journal::{Journal, JournalFault};
 use mx_msgpack::Bytes;
@@ -17,7 +20,8 @@ use mx_row::{Row, Rows, Tx};
 use mx_vclock::Vclock;
 use mx_xlog::Head;
 use std::alloc::{AllocError, Global};
-use std::test::*;
+use std::process::Abort;
+use std::test::Fail;
 use uuid::Uuid;
 
 const NAME: &str = "00000000000000000000.xlog";
@@ -25,13 +29,6 @@ const NAME: &str = "00000000000000000000.xlog";
 /// The header of the journal that begins at the empty vclock.
 const HEADER: &[u8; 118] = b"XLOG\n0.13\nInstance: 00010203-0405-4607-8809-0a0b0c0d0e0f\n\
     ReplicaSet: f0f1f2f3-f4f5-46f7-88f9-fafbfcfdfeff\nVClock: {}\n\n";
-
-/// The block of the transaction that is the first one of the replica 1.
-const BLOCK: [u8; 36] = [
-    0xd5, 0xba, 0x0b, 0xab, 0xce, 0x00, 0x00, 0x00, 0x11, 0x00, 0xce, 0xa3, 0xd2, 0x78, 0x98, 0xa3,
-    0x00, 0x00, 0x00, 0x83, 0x00, 0x03, 0x02, 0x01, 0x03, 0x01, 0x82, 0x10, 0xcd, 0x02, 0x00, 0x21,
-    0x92, 0x01, 0xa1, 0x61,
-];
 
 /// What the header of a journal tells that begins at the empty vclock.
 fn first_head() -> Head
@@ -90,41 +87,43 @@ fn commit(alloc: Global, dir: &mut MemoryDir, journal: &mut Journal) -> Result<u
     Ok(count)
 }
 
-/// The bytes of the journal's file, if it is the one file of a directory, at the start of `into`.
-fn file<'a>(alloc: Global, dir: &mut MemoryDir, into: &'a mut [u8]) -> Result<&'a [u8], DirFault>
+/// Compares the one file of a directory with these parts.
+fn check_bytes(
+    rt: &impl Abort,
+    alloc: Global,
+    dir: &mut MemoryDir,
+    parts: &[&[u8]],
+) -> Result<(), DirFault>
     ensures { dir_states dir.new ≡ dir_states dir.old }
 {
     let names = dir.list(alloc)?;
-    if names.as_slice().len() != 1 {
-        return Ok(&[]);
-    }
-    let Ok(true) = dir.has(alloc, NAME) else {
-        return Ok(&[]);
-    };
-    let count = dir.read(alloc, NAME, 0, into)?;
-    Ok(into.get(..count).unwrap_or(&[]))
+    assert_eq!(rt; names.as_slice().len(), 1);
+    let bytes = file(alloc, dir, NAME)?;
+    assert_eq!(rt; bytes, joined(alloc, parts)?);
+    Ok(())
+}
+
+/// Compares what a journal tells that began at the empty vclock: how many bytes it has, and how many
+/// commits.
+fn check_journal(rt: &impl Abort, journal: &Journal, length: u64, commits: u64) {
+    assert_eq!(rt; journal.length(), length);
+    assert_eq!(rt; journal.first().signature(), 0);
+    assert_eq!(rt; journal.clock().signature(), commits);
 }
 
 #[test]
 fn writes(rt: HostRuntime) -> Result<(), Fail> {
     let alloc = rt.alloc();
     let mut dir = MemoryDir::new(alloc, Vec::new(alloc));
-    let mut buffer = [0; 200];
     let mut journal = begin(alloc, &mut dir)?;
-    assert_eq!(rt; file(alloc, &mut dir, &mut buffer)?, HEADER.as_slice());
-    assert_eq!(rt; journal.length(), 118);
-    assert_eq!(rt; journal.clock().signature(), 0);
-    assert_eq!(rt; commit(alloc, &mut dir, &mut journal)?, 1);
-    let bytes = file(alloc, &mut dir, &mut buffer)?;
-    assert_eq!(rt; bytes.len(), 154);
-    assert!(rt; bytes.starts_with(HEADER) && bytes.ends_with(&BLOCK));
-    assert_eq!(rt; journal.length(), 154);
-    assert_eq!(rt; journal.first().signature(), 0);
-    assert_eq!(rt; journal.clock().signature(), 1);
+    check_journal(&rt, &journal, 118, 0);
+    check_bytes(&rt, alloc, &mut dir, &[HEADER])?;
+    let count = commit(alloc, &mut dir, &mut journal)?;
+    assert_eq!(rt; count, 1);
+    check_journal(&rt, &journal, 154, 1);
+    check_bytes(&rt, alloc, &mut dir, &[HEADER, BLOCK])?;
     journal.end(alloc, &mut dir)?;
-    let bytes = file(alloc, &mut dir, &mut buffer)?;
-    assert_eq!(rt; bytes.len(), 158);
-    assert!(rt; bytes.ends_with(&[0xd5, 0x10, 0xad, 0xed]));
+    check_bytes(&rt, alloc, &mut dir, &[HEADER, BLOCK, END])?;
     Ok(())
 }
 
@@ -138,21 +137,24 @@ fn run(alloc: Global, dir: &mut MemoryDir) -> Result<u64, JournalFault>
     Ok(count)
 }
 
+/// Compares how that ends where this call on the directory fails.
+fn check_failing(
+    rt: &impl Abort,
+    alloc: Global,
+    call: u64,
+    answer: Result<u64, JournalFault>,
+) -> Result<(), AllocError> {
+    let mut dir = MemoryDir::new(alloc, vec![in alloc; call]?);
+    let told = run(alloc, &mut dir);
+    assert_eq!(rt; told, answer, "where the call {call} fails");
+    Ok(())
+}
+
 #[test]
 fn fails_with_the_directory(rt: HostRuntime) -> Result<(), Fail> {
-    let alloc = rt.alloc();
-    for failing in 1..11 {
-        let mut dir = MemoryDir::new(alloc, vec![in alloc; failing]?);
-        let answer = if failing < 10 {
-            Err(JournalFault::Failed)
-        } else {
-            Ok(1)
-        };
-        assert_eq!(rt;
-            run(alloc, &mut dir),
-            answer,
-            "where the call {failing} fails"
-        );
+    for call in 1..10 {
+        check_failing(&rt, rt.alloc(), call, Err(JournalFault::Failed))?;
     }
+    check_failing(&rt, rt.alloc(), 10, Ok(1))?;
     Ok(())
 }

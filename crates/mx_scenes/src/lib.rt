@@ -1,4 +1,5 @@
-//! Runs of the whole server, from units of bytes to units of bytes, over streams and directories in memory.
+//! Tests that need public calls alone: of whole runs over streams and directories in memory, and of the
+//! layers below them.
 #![tactic(auto)]
 
 #[cfg(test)]
@@ -6,11 +7,11 @@ mod connections;
 #[cfg(test)]
 mod crashes;
 #[cfg(test)]
+mod database;
+#[cfg(test)]
 mod directories;
 #[cfg(test)]
 mod engine;
-#[cfg(test)]
-mod first_connection;
 #[cfg(test)]
 mod harness;
 #[cfg(test)]
@@ -18,6 +19,10 @@ mod journals;
 #[cfg(test)]
 mod model;
 #[cfg(test)]
-mod model_limits;
+mod replace;
+#[cfg(test)]
+mod requests;
 #[cfg(test)]
 mod select;
+#[cfg(test)]
+mod statuses;

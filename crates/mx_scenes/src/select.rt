@@ -1,14 +1,630 @@
-//! What SELECTs find of the tuples that this run and the ones before it put.
+//! What a SELECT finds: of a state, of the slow program and of the engine, and over runs.
 
-use crate::harness::{
-    GREETING, NONE, ON_ONE, TO_ONE, TRACE, directory_of, packet, reply, run_in, run_on, unit,
+use crate::database::{
+    ALL, Asked, Database, EQ, GE, GT, LE, LT, NO_KEY, REQ, Step, Told, bytes_of, check_refusal,
+    expect, play_at, play_both,
 };
+use crate::harness::{
+    Exchange, PUT, check_refusals, found, joined, new_directory, packet, reply, talk,
+};
+use crate::replace::{longest_tuple, put, state_of};
+use mx_fake::MemoryDir;
+use mx_key::{IterKind, KeyRange, comparable};
+use mx_model::{Pick, Reply, SelectStop, State, bootstrap, iterator_of, misfit_refusal};
+use mx_msgpack::{Bytes, Tuples, Value, Values};
 use std::alloc::{AllocError, Global};
+use std::process::Abort;
 use std::test::Fail;
+
+#[test]
+fn iterators_have_their_numbers(rt: HostRuntime) {
+    let table = [
+        IterKind::Eq,
+        IterKind::Req,
+        IterKind::All,
+        IterKind::Lt,
+        IterKind::Le,
+        IterKind::Ge,
+        IterKind::Gt,
+    ];
+    for (number, iterator) in table.iter().enumerate() {
+        assert_eq!(rt; iterator_of(number as u8), *iterator, "at {number}");
+    }
+}
+
+/// Tuples in the order in which they are put in: a key, which may be spelled longer than it need be,
+/// and the letter that names it below. The tuple with the letter `x` gives way to the one of `b`.
+const TUPLES: &[&[u8]] = &[
+    b"\x92\xcd\xff\xff\xa1h",
+    b"\x92\x01\xa1x",
+    b"\x92\xcf\x80\0\0\0\0\0\0\0\xa1k",
+    b"\x92\xd1\0\x80\xa1e",
+    b"\x92\xcf\0\0\0\0\0\0\0\x07\xa1c",
+    b"\x92\xce\0\x01\0\0\xa1i",
+    b"\x92\0\xa1a",
+    b"\x92\xcf\xff\xff\xff\xff\xff\xff\xff\xff\xa1l",
+    b"\x92\xcd\0\xff\xa1f",
+    b"\x92\x7f\xa1d",
+    b"\x92\xcf\0\0\0\x01\0\0\0\0\xa1j",
+    b"\x92\xce\0\0\x01\0\xa1g",
+    b"\x92\xcc\x01\xa1b",
+];
+
+/// Numbers in order with their names: letters where a tuple has the key, and digits where none has.
+/// A text is above all of them; its name is `9`.
+const KEYS: &[(u8, i128)] = &[
+    (b'0', -1),
+    (b'a', 0),
+    (b'b', 1),
+    (b'1', 2),
+    (b'c', 7),
+    (b'd', 127),
+    (b'e', 128),
+    (b'2', 200),
+    (b'f', 255),
+    (b'g', 256),
+    (b'3', 1000),
+    (b'h', 65_535),
+    (b'i', 65_536),
+    (b'j', 0x1_0000_0000),
+    (b'4', 0x4000_0000_0000_0000),
+    (b'k', 0x8000_0000_0000_0000),
+    (b'5', 0xffff_ffff_ffff_fffe),
+    (b'l', 0xffff_ffff_ffff_ffff),
+];
+
+// Keys as requests give them.
+const ZERO: &[u8] = b"\x91\0";
+
+const TWO: &[u8] = b"\x91\x02";
+
+const SEVEN: &[u8] = b"\x91\x07";
+
+const LONG_SEVEN: &[u8] = b"\xdc\0\x01\xcf\0\0\0\0\0\0\0\x07";
+
+const BYTE: &[u8] = b"\x91\xcc\xff";
+
+const TWO_BYTES: &[u8] = b"\x91\xce\0\x01\0\0";
+
+const FOUR_BYTES: &[u8] = b"\x91\xcf\0\0\0\x01\0\0\0\0";
+
+const HALF: &[u8] = b"\x91\xcf\x80\0\0\0\0\0\0\0";
+
+const MOST: &[u8] = b"\x91\xcf\xff\xff\xff\xff\xff\xff\xff\xff";
+
+// The names of all tuples, upwards and downwards, and of all keys of the tables.
+const UP: &[u8] = b"abcdefghijkl";
+
+const DOWN: &[u8] = b"lkjihgfedcba";
+
+const EACH: &[u8] = b"0ab1cde2fg3hij4k5l9";
+
+/// An iterator, a key, an offset and a limit; the tuples that are picked, and the keys that are read.
+type Picked = (
+    u8,
+    &'static [u8],
+    u32,
+    u32,
+    &'static [u8],
+    Option<&'static [u8]>,
+);
+
+/// Picks without a key.
+const WITHOUT_KEY: &[Picked] = &[
+    (EQ, NO_KEY, 0, 99, UP, Some(EACH)),
+    (REQ, NO_KEY, 0, 99, DOWN, Some(EACH)),
+    (ALL, NO_KEY, 0, 99, UP, Some(EACH)),
+    (LT, NO_KEY, 0, 99, DOWN, Some(EACH)),
+    (LE, NO_KEY, 0, 99, DOWN, Some(EACH)),
+    (GE, NO_KEY, 0, 99, UP, Some(EACH)),
+    (GT, NO_KEY, 0, 99, UP, Some(EACH)),
+    (EQ, b"\xdd\0\0\0\0", 0, 99, UP, Some(EACH)),
+    (EQ, NO_KEY, 3, 4, b"defg", Some(b"0ab1cde2fg")),
+    (GT, NO_KEY, 0, 1, b"a", Some(b"0a")),
+    (LT, NO_KEY, 0, 1, b"l", Some(b"l9")),
+    (LE, NO_KEY, 0, 2, b"lk", Some(b"k5l9")),
+    (REQ, NO_KEY, 1, 3, b"kji", Some(b"ij4k5l9")),
+    (REQ, NO_KEY, 10, 5, b"ba", Some(EACH)),
+    (GE, NO_KEY, 11, 1, b"l", Some(b"0ab1cde2fg3hij4k5l")),
+    (GE, NO_KEY, 12, 1, b"", Some(EACH)),
+    (ALL, NO_KEY, 0, 12, UP, Some(b"0ab1cde2fg3hij4k5l")),
+    (LE, NO_KEY, 0, 12, DOWN, Some(b"ab1cde2fg3hij4k5l9")),
+    (EQ, NO_KEY, 0, 0, b"", None),
+    (LT, NO_KEY, 5, 0, b"", None),
+    (GT, NO_KEY, u32::MAX, u32::MAX, b"", Some(EACH)),
+];
+
+/// Picks by a key that a tuple has, and by one that none has.
+const IN_THE_MIDDLE: &[Picked] = &[
+    (EQ, SEVEN, 0, 9, b"c", Some(b"c")),
+    (REQ, SEVEN, 0, 9, b"c", Some(b"c")),
+    (ALL, SEVEN, 0, 99, b"cdefghijkl", Some(b"cde2fg3hij4k5l9")),
+    (GE, SEVEN, 0, 99, b"cdefghijkl", Some(b"cde2fg3hij4k5l9")),
+    (GT, SEVEN, 0, 99, b"defghijkl", Some(b"de2fg3hij4k5l9")),
+    (LE, SEVEN, 0, 99, b"cba", Some(b"0ab1c")),
+    (LT, SEVEN, 0, 99, b"ba", Some(b"0ab1")),
+    (EQ, LONG_SEVEN, 0, 9, b"c", Some(b"c")),
+    (GE, LONG_SEVEN, 0, 2, b"cd", Some(b"cd")),
+    (LT, LONG_SEVEN, 0, 9, b"ba", Some(b"0ab1")),
+    (ALL, SEVEN, 2, 2, b"ef", Some(b"cde2f")),
+    (GE, SEVEN, 1, 2, b"de", Some(b"cde")),
+    (GT, SEVEN, 0, 1, b"d", Some(b"d")),
+    (GT, SEVEN, 8, 9, b"l", Some(b"de2fg3hij4k5l9")),
+    (LE, SEVEN, 1, 1, b"b", Some(b"b1c")),
+    (LT, SEVEN, 0, 1, b"b", Some(b"b1")),
+    (LT, SEVEN, 2, 1, b"", Some(b"0ab1")),
+    (EQ, SEVEN, 0, 1, b"c", Some(b"c")),
+    (EQ, SEVEN, 1, 1, b"", Some(b"c")),
+    (REQ, SEVEN, 0, 1, b"c", Some(b"c")),
+    (REQ, SEVEN, 1, 9, b"", Some(b"c")),
+    (EQ, SEVEN, 0, 0, b"", None),
+    (EQ, TWO, 0, 9, b"", Some(b"1")),
+    (REQ, TWO, 0, 9, b"", Some(b"1")),
+    (ALL, TWO, 0, 3, b"cde", Some(b"1cde")),
+    (GE, TWO, 0, 1, b"c", Some(b"1c")),
+    (GT, TWO, 0, 1, b"c", Some(b"c")),
+    (LE, TWO, 0, 1, b"b", Some(b"b1")),
+    (LT, TWO, 0, 1, b"b", Some(b"b")),
+];
+
+/// Picks by the least key and the greatest, and by those where spellings grow.
+const AT_ENDS: &[Picked] = &[
+    (LT, ZERO, 0, 9, b"", Some(b"0")),
+    (LE, ZERO, 0, 9, b"a", Some(b"0a")),
+    (EQ, ZERO, 0, 9, b"a", Some(b"a")),
+    (GE, ZERO, 0, 3, b"abc", Some(b"ab1c")),
+    (GT, ZERO, 0, 2, b"bc", Some(b"b1c")),
+    (GT, MOST, 0, 9, b"", Some(b"9")),
+    (GE, MOST, 0, 9, b"l", Some(b"l9")),
+    (REQ, MOST, 0, 9, b"l", Some(b"l")),
+    (LE, MOST, 0, 3, b"lkj", Some(b"j4k5l")),
+    (LT, MOST, 0, 1, b"k", Some(b"k5")),
+    (GE, HALF, 0, 9, b"kl", Some(b"k5l9")),
+    (GT, HALF, 0, 9, b"l", Some(b"5l9")),
+    (LT, HALF, 0, 2, b"ji", Some(b"ij4")),
+    (EQ, HALF, 0, 9, b"k", Some(b"k")),
+    (EQ, FOUR_BYTES, 0, 9, b"j", Some(b"j")),
+    (GT, FOUR_BYTES, 0, 9, b"kl", Some(b"4k5l9")),
+    (GE, TWO_BYTES, 0, 9, b"ijkl", Some(b"ij4k5l9")),
+    (LT, TWO_BYTES, 0, 1, b"h", Some(b"h")),
+    (EQ, b"\x91\xcd\xff\xff", 0, 9, b"h", Some(b"h")),
+    (LE, b"\x91\xcd\x01\0", 2, 3, b"edc", Some(b"cde2fg")),
+    (GT, BYTE, 0, 1, b"g", Some(b"g")),
+    (LE, BYTE, 0, 2, b"fe", Some(b"e2f")),
+    (GE, b"\x91\xcc\xc8", 0, 2, b"fg", Some(b"2fg")),
+    (REQ, b"\x91\xd1\0\x7f", 0, 9, b"d", Some(b"d")),
+];
+
+/// All picks from these tuples.
+const PICKS: &[&[Picked]] = &[WITHOUT_KEY, IN_THE_MIDDLE, AT_ENDS];
+
+/// The bytes of the tuples with these names, one after the other.
+fn tuples_named(alloc: Global, names: &[u8]) -> Result<Bytes, AllocError> {
+    let mut bytes = Bytes::new(alloc);
+    for name in names {
+        for tuple in TUPLES {
+            if tuple.last() == Some(name) {
+                bytes.extend_from_slice(tuple)?;
+            }
+        }
+    }
+    Ok(bytes)
+}
+
+/// The names of the keys that a range holds.
+fn keys_in(alloc: Global, range: &KeyRange) -> Result<Bytes, AllocError> {
+    let mut names = Bytes::new(alloc);
+    for (name, number) in KEYS {
+        if holds(alloc, range, Value::Int(*number))? {
+            names.extend_from_slice(&[*name])?;
+        }
+    }
+    if holds(alloc, range, Value::Str(Bytes::new(alloc)))? {
+        names.extend_from_slice(b"9")?;
+    }
+    Ok(names)
+}
+
+/// Whether a range holds the key of this one part.
+fn holds(alloc: Global, range: &KeyRange, part: Value) -> Result<bool, AllocError> {
+    let mut key = Values::new(alloc);
+    key.push(part)?;
+    Ok(range.holds(comparable(alloc, &key)?.as_slice()))
+}
+
+/// Compares what a state picks with what is expected.
+fn check_pick(
+    rt: &impl Abort,
+    alloc: Global,
+    state: &State,
+    picked: &Picked,
+) -> Result<(), AllocError> {
+    let (iterator, key, offset, limit, names, read) = *picked;
+    let pick = Pick {
+        iterator: iterator_of(iterator),
+        key,
+        offset,
+        limit,
+    };
+    assert!(rt; state.misfit(key).is_none(), "at {pick:?}");
+    let selected = state.select(alloc, &pick).expect(rt, "no tuples");
+    check_tuples(rt, alloc, &pick, &selected.tuples, names)?;
+    check_read(rt, alloc, &pick, &selected.read, read)
+}
+
+fn check_tuples(
+    rt: &impl Abort,
+    alloc: Global,
+    pick: &Pick<'_>,
+    tuples: &Tuples,
+    names: &[u8],
+) -> Result<(), AllocError> {
+    let bytes = bytes_of(alloc, tuples)?;
+    assert_eq!(rt; bytes, tuples_named(alloc, names)?, "at {pick:?}");
+    Ok(())
+}
+
+/// Compares the keys that were read, if any were, with what is expected.
+fn check_read(
+    rt: &impl Abort,
+    alloc: Global,
+    pick: &Pick<'_>,
+    range: &Option<KeyRange>,
+    names: Option<&[u8]>,
+) -> Result<(), AllocError> {
+    let Some(range) = range else {
+        assert!(rt; names.is_none(), "at {pick:?}");
+        return Ok(());
+    };
+    let keys = keys_in(alloc, range)?;
+    assert_eq!(rt; Some(keys.as_slice()), names, "at {pick:?}");
+    Ok(())
+}
+
+fn check_picks(
+    rt: &impl Abort,
+    alloc: Global,
+    state: &State,
+    table: &[Picked],
+) -> Result<(), AllocError> {
+    for picked in table {
+        check_pick(rt, alloc, state, picked)?;
+    }
+    Ok(())
+}
+
+#[test]
+fn state_selects(rt: HostRuntime) -> Result<(), Fail> {
+    let alloc = rt.alloc();
+    let state = state_of(&rt, alloc, TUPLES)?;
+    for table in PICKS {
+        check_picks(&rt, alloc, &state, table)?;
+    }
+    Ok(())
+}
+
+/// Puts the tuples, and compares the replies.
+fn put_all(rt: &impl Abort, alloc: Global, database: &mut Database) -> Result<(), AllocError> {
+    for tuple in TUPLES {
+        let asked = Asked::Replace(512, tuple);
+        expect(rt, alloc, database, asked, Told::Tuples(tuple))?;
+    }
+    Ok(())
+}
+
+/// Asks for picks, and compares the replies.
+fn ask_picks(
+    rt: &impl Abort,
+    alloc: Global,
+    database: &mut Database,
+    table: &[Picked],
+) -> Result<(), AllocError> {
+    for (iterator, key, offset, limit, names, _) in table {
+        let tuples = tuples_named(alloc, names)?;
+        let asked = Asked::Pick(*iterator, key, *offset, *limit);
+        expect(rt, alloc, database, asked, Told::Tuples(tuples.as_slice()))?;
+    }
+    Ok(())
+}
+
+/// Puts the tuples, asks for all picks, and compares the replies.
+fn ask_all(rt: &impl Abort, alloc: Global, database: &mut Database) -> Result<(), AllocError> {
+    put_all(rt, alloc, database)?;
+    for table in PICKS {
+        ask_picks(rt, alloc, database, table)?;
+    }
+    Ok(())
+}
+
+#[test]
+fn slow_program_selects(rt: HostRuntime) -> Result<(), Fail> {
+    let mut database = Database::slow(rt.alloc())?;
+    Ok(ask_all(&rt, rt.alloc(), &mut database)?)
+}
+
+#[test]
+fn engine_selects(rt: HostRuntime) -> Result<(), Fail> {
+    let mut database = Database::engine(&rt, rt.alloc())?;
+    Ok(ask_all(&rt, rt.alloc(), &mut database)?)
+}
+
+const ONE: &[u8] = b"\x91\x01";
+
+const THREE: &[u8] = b"\x91\x03";
+
+const FOUR: &[u8] = b"\x91\x04";
+
+/// Tuples of one field: [5], [3], [300], [1] and [1] again, spelled longer; and each iterator without
+/// a key, by a key that a tuple has, and by one that none has.
+const FEW: &[Step<'static>] = &[
+    (Asked::Replace(512, b"\x91\x05"), Told::Tuples(b"\x91\x05")),
+    (Asked::Replace(512, b"\x91\x03"), Told::Tuples(b"\x91\x03")),
+    (
+        Asked::Replace(512, b"\x91\xcd\x01\x2c"),
+        Told::Tuples(b"\x91\xcd\x01\x2c"),
+    ),
+    (Asked::Replace(512, b"\x91\x01"), Told::Tuples(b"\x91\x01")),
+    (
+        Asked::Replace(512, b"\x91\xcc\x01"),
+        Told::Tuples(b"\x91\xcc\x01"),
+    ),
+    (
+        Asked::Pick(EQ, NO_KEY, 0, 9),
+        Told::Tuples(b"\x91\xcc\x01\x91\x03\x91\x05\x91\xcd\x01\x2c"),
+    ),
+    (
+        Asked::Pick(GE, NO_KEY, 1, 2),
+        Told::Tuples(b"\x91\x03\x91\x05"),
+    ),
+    (
+        Asked::Pick(GT, NO_KEY, 3, 9),
+        Told::Tuples(b"\x91\xcd\x01\x2c"),
+    ),
+    (Asked::Pick(ALL, NO_KEY, 4, 9), Told::Tuples(b"")),
+    (
+        Asked::Pick(REQ, NO_KEY, 0, 9),
+        Told::Tuples(b"\x91\xcd\x01\x2c\x91\x05\x91\x03\x91\xcc\x01"),
+    ),
+    (
+        Asked::Pick(LE, NO_KEY, 0, 1),
+        Told::Tuples(b"\x91\xcd\x01\x2c"),
+    ),
+    (
+        Asked::Pick(LT, NO_KEY, 2, 9),
+        Told::Tuples(b"\x91\x03\x91\xcc\x01"),
+    ),
+    (Asked::Pick(EQ, THREE, 0, 9), Told::Tuples(b"\x91\x03")),
+    (Asked::Pick(EQ, THREE, 1, 9), Told::Tuples(b"")),
+    (Asked::Pick(REQ, THREE, 0, 9), Told::Tuples(b"\x91\x03")),
+    (
+        Asked::Pick(ALL, THREE, 0, 2),
+        Told::Tuples(b"\x91\x03\x91\x05"),
+    ),
+    (
+        Asked::Pick(GE, THREE, 0, 9),
+        Told::Tuples(b"\x91\x03\x91\x05\x91\xcd\x01\x2c"),
+    ),
+    (
+        Asked::Pick(GT, THREE, 0, 9),
+        Told::Tuples(b"\x91\x05\x91\xcd\x01\x2c"),
+    ),
+    (
+        Asked::Pick(GT, THREE, 1, 9),
+        Told::Tuples(b"\x91\xcd\x01\x2c"),
+    ),
+    (
+        Asked::Pick(LE, THREE, 0, 9),
+        Told::Tuples(b"\x91\x03\x91\xcc\x01"),
+    ),
+    (Asked::Pick(LE, THREE, 1, 1), Told::Tuples(b"\x91\xcc\x01")),
+    (Asked::Pick(LT, THREE, 0, 9), Told::Tuples(b"\x91\xcc\x01")),
+    (Asked::Pick(LT, THREE, 1, 9), Told::Tuples(b"")),
+    (Asked::Pick(EQ, FOUR, 0, 9), Told::Tuples(b"")),
+    (Asked::Pick(REQ, FOUR, 0, 9), Told::Tuples(b"")),
+    (Asked::Pick(GE, FOUR, 0, 1), Told::Tuples(b"\x91\x05")),
+    (Asked::Pick(LE, FOUR, 0, 1), Told::Tuples(b"\x91\x03")),
+    (Asked::Pick(GT, FOUR, 0, 0), Told::Tuples(b"")),
+    (
+        Asked::Pick(GE, b"\x91\xcd\x01\x2c", 0, 9),
+        Told::Tuples(b"\x91\xcd\x01\x2c"),
+    ),
+];
+
+#[test]
+fn few_tuples_are_selected(rt: HostRuntime) -> Result<(), Fail> {
+    Ok(play_both(&rt, rt.alloc(), FEW)?)
+}
+
+// Refusals.
+const NO_SPACE: Told<'static> = Told::Refused(36, b"Space 513 does not exist");
+
+const NO_INDEX: Told<'static> = Told::Refused(35, b"No index 1 in space \"test\"");
+
+const TWO_PARTS: Told<'static> = Told::Refused(19, b"Key of 2 parts, index of 1");
+
+const WRONG_PART: Told<'static> = Told::Refused(18, b"Key part 0: unsigned expected");
+
+/// SELECTs that are refused. Those above others tell of what comes first.
+const REFUSED: &[Step<'static>] = &[
+    (Asked::Select(513, 1, b"\x92\xff\x01"), NO_SPACE),
+    (Asked::Select(513, 0, ONE), NO_SPACE),
+    (
+        Asked::Select(0, 0, NO_KEY),
+        Told::Refused(36, b"Space 0 does not exist"),
+    ),
+    (
+        Asked::Select(u32::MAX, 0, SEVEN),
+        Told::Refused(36, b"Space 4294967295 does not exist"),
+    ),
+    (Asked::Select(512, 1, b"\x92\xff\x01"), NO_INDEX),
+    (
+        Asked::Select(512, u32::MAX, NO_KEY),
+        Told::Refused(35, b"No index 4294967295 in space \"test\""),
+    ),
+    (Asked::Select(512, 0, b"\x92\x01\x01"), TWO_PARTS),
+    (Asked::Select(512, 0, b"\x92\xff\x01"), TWO_PARTS),
+    (
+        Asked::Select(512, 0, b"\xdc\0\x03\x01\x02\x03"),
+        Told::Refused(19, b"Key of 3 parts, index of 1"),
+    ),
+    (Asked::Pick(GE, b"\x92\x01\x01", 9, 0), TWO_PARTS),
+    (Asked::Select(512, 0, b"\x91\xff"), WRONG_PART),
+    (
+        Asked::Select(512, 0, b"\x91\xd3\x80\0\0\0\0\0\0\0"),
+        WRONG_PART,
+    ),
+    (Asked::Select(512, 0, b"\x91\xa11"), WRONG_PART),
+    (Asked::Select(512, 0, b"\x91\xc4\x01\x01"), WRONG_PART),
+    (Asked::Select(512, 0, b"\x91\xc0"), WRONG_PART),
+    (Asked::Select(512, 0, b"\x91\xc3"), WRONG_PART),
+    (Asked::Select(512, 0, b"\x91\x91\x01"), WRONG_PART),
+    (Asked::Select(512, 0, b"\x91\xca\x3f\x80\0\0"), WRONG_PART),
+    // The refusal comes though nothing would be answered.
+    (Asked::Pick(LT, b"\x91\xff", 0, 0), WRONG_PART),
+    (Asked::Pick(LT, b"\x91\xa11", 0, 9), WRONG_PART),
+];
+
+#[test]
+fn slow_program_and_engine_refuse(rt: HostRuntime) -> Result<(), Fail> {
+    Ok(play_both(&rt, rt.alloc(), REFUSED)?)
+}
+
+/// What a request that writes nothing is told doesn't depend on the node.
+#[test]
+fn read_only_nodes_refuse_the_same(rt: HostRuntime) -> Result<(), Fail> {
+    Ok(play_at(&rt, rt.alloc(), "{}", 2, REFUSED)?)
+}
+
+/// Compares why a key doesn't fit with what a SELECT of it is told.
+fn check_misfit(
+    rt: &impl Abort,
+    alloc: Global,
+    state: &State,
+    key: &[u8],
+    told: Told<'_>,
+) -> Result<(), AllocError> {
+    let misfit = state.misfit(key).expect(rt, "the key fits");
+    check_refusal(rt, alloc, &misfit_refusal(misfit), told)
+}
+
+#[test]
+fn state_tells_misfits(rt: HostRuntime) -> Result<(), Fail> {
+    let alloc = rt.alloc();
+    let state = state_of(&rt, alloc, &[])?;
+    for (asked, told) in REFUSED {
+        if let Asked::Select(512, 0, key) = *asked {
+            check_misfit(&rt, alloc, &state, key, *told)?;
+        }
+    }
+    Ok(())
+}
+
+/// What is picked of sixteen tuples of 1,048,576 bytes and one of 2 bytes after them: an iterator, a
+/// key, an offset and a limit; how many tuples there are, or none where they are too long together.
+const OF_LONG_TUPLES: &[(u8, &[u8], u32, u32, Option<usize>)] = &[
+    (GE, NO_KEY, 0, 16, Some(16)),
+    (GE, NO_KEY, 0, 17, None),
+    (LE, b"\x91\x20", 0, 99, None),
+    (LT, NO_KEY, 15, 99, Some(2)),
+    (GT, b"\x91\x0f", 0, 99, Some(1)),
+    (EQ, NO_KEY, 17, 99, Some(0)),
+    (REQ, NO_KEY, 0, 0, Some(0)),
+];
+
+/// The tuple of 2 bytes.
+const SMALL: &[u8] = b"\x91\x10";
+
+/// How many tuples a reply has, or none where it says that they are too long together.
+fn count_in(rt: &impl Abort, alloc: Global, reply: &Reply) -> Result<Option<usize>, AllocError> {
+    let too_long = Told::Refused(207, b"Result is longer than 16777216 bytes");
+    match reply {
+        Reply::Tuples(tuples) => return Ok(Some(tuples.len())),
+        Reply::Refused(refusal) => check_refusal(rt, alloc, refusal, too_long)?,
+        Reply::Empty | Reply::Id => assert!(rt; false, "a reply without tuples"),
+    }
+    Ok(None)
+}
+
+/// Puts the long tuples and the small one, and compares the replies.
+fn put_long(rt: &impl Abort, alloc: Global, database: &mut Database) -> Result<(), AllocError> {
+    for key in 0..16 {
+        let tuple = longest_tuple(alloc, key)?;
+        let asked = Asked::Replace(512, tuple.as_slice());
+        expect(rt, alloc, database, asked, Told::Tuples(tuple.as_slice()))?;
+    }
+    let asked = Asked::Replace(512, SMALL);
+    expect(rt, alloc, database, asked, Told::Tuples(SMALL))
+}
+
+/// Puts these tuples, asks for all picks, and compares.
+fn ask_long(rt: &impl Abort, alloc: Global, database: &mut Database) -> Result<(), AllocError> {
+    put_long(rt, alloc, database)?;
+    for (iterator, key, offset, limit, count) in OF_LONG_TUPLES {
+        let asked = Asked::Pick(*iterator, key, *offset, *limit);
+        let reply = database.ask(rt, alloc, asked)?;
+        let counted = count_in(rt, alloc, &reply)?;
+        assert_eq!(rt; counted, *count, "at {asked:?}");
+    }
+    let asked = Asked::Pick(GE, NO_KEY, 16, 2);
+    expect(rt, alloc, database, asked, Told::Tuples(SMALL))
+}
+
+#[test]
+fn slow_program_bounds_results(rt: HostRuntime) -> Result<(), Fail> {
+    let mut database = Database::slow(rt.alloc())?;
+    Ok(ask_long(&rt, rt.alloc(), &mut database)?)
+}
+
+#[test]
+fn engine_bounds_results(rt: HostRuntime) -> Result<(), Fail> {
+    let mut database = Database::engine(&rt, rt.alloc())?;
+    Ok(ask_long(&rt, rt.alloc(), &mut database)?)
+}
+
+/// How many tuples a state picks, or none where they are too long together.
+fn count_picked(
+    alloc: Global,
+    state: &State,
+    pick: &Pick<'_>,
+) -> Result<Option<usize>, AllocError> {
+    match state.select(alloc, pick) {
+        Ok(selected) => Ok(Some(selected.tuples.len())),
+        Err(SelectStop::TooLong) => Ok(None),
+        Err(SelectStop::NoMemory) => Err(AllocError),
+    }
+}
+
+/// A state of the long tuples and the small one.
+fn long_state(rt: &impl Abort, alloc: Global) -> Result<State, AllocError> {
+    let mut state = bootstrap(alloc)?;
+    for key in 0..16 {
+        let tuple = longest_tuple(alloc, key)?;
+        put(rt, alloc, &mut state, tuple.as_slice())?;
+    }
+    put(rt, alloc, &mut state, SMALL)?;
+    Ok(state)
+}
+
+#[test]
+fn state_bounds_results(rt: HostRuntime) -> Result<(), Fail> {
+    let alloc = rt.alloc();
+    let state = long_state(&rt, alloc)?;
+    for (iterator, key, offset, limit, count) in OF_LONG_TUPLES {
+        let pick = Pick {
+            iterator: iterator_of(*iterator),
+            key,
+            offset: *offset,
+            limit: *limit,
+        };
+        let counted = count_picked(alloc, &state, &pick)?;
+        assert_eq!(rt; counted, *count, "at {pick:?}");
+    }
+    Ok(())
+}
 
 /// The tuples that one run puts, in order: a key, which may be spelled longer than it need be, and the
 /// letter that names it below. The tuple with the letter `x` gives way to the one of `b`.
-const FIRST_PUT: [&[u8]; 4] = [
+const FIRST_PUT: &[&[u8]] = &[
     b"\x92\xcd\x01\x2c\xa1d",
     b"\x92\x01\xa1x",
     b"\x92\xcf\xff\xff\xff\xff\xff\xff\xff\xff\xa1e",
@@ -16,174 +632,152 @@ const FIRST_PUT: [&[u8]; 4] = [
 ];
 
 /// The tuples that the next one puts.
-const THEN_PUT: [&[u8]; 2] = [b"\x92\xcd\0\x01\xa1b", b"\x92\0\xa1a"];
+const THEN_PUT: &[&[u8]] = &[b"\x92\xcd\0\x01\xa1b", b"\x92\0\xa1a"];
 
 /// An iterator, a key, an offset and a limit; and the tuples that are found.
-type Pick = (u8, &'static [u8], u8, u8, &'static [u8]);
+type Found = (u8, &'static [u8], u8, u8, &'static [u8]);
 
-const PICKS: [Pick; 13] = [
-    (0, b"\x90", 0, 99, b"abcde"),
-    (1, b"\x90", 1, 2, b"dc"),
-    (0, b"\x91\xcc\x80", 0, 9, b"c"),
-    (1, b"\x91\x01", 0, 9, b"b"),
-    (2, b"\x91\x02", 0, 9, b"cde"),
-    (3, b"\x91\xcc\x80", 0, 9, b"ba"),
-    (4, b"\x91\xcc\x80", 0, 2, b"cb"),
-    (4, b"\x91\xcc\x81", 2, 9, b"a"),
-    (5, b"\x91\xcd\x01\x2c", 0, 9, b"de"),
-    (6, b"\x91\xcd\x01\x2c", 0, 9, b"e"),
-    (6, b"\x91\0", 1, 1, b"c"),
-    (4, b"\x91\0", 0, 0, b""),
-    (3, b"\x91\0", 0, 9, b""),
+/// What SELECTs find of the tuples of both runs.
+const OVER_RUNS: &[Found] = &[
+    (EQ, b"\x90", 0, 99, b"abcde"),
+    (REQ, b"\x90", 1, 2, b"dc"),
+    (EQ, b"\x91\xcc\x80", 0, 9, b"c"),
+    (REQ, b"\x91\x01", 0, 9, b"b"),
+    (ALL, b"\x91\x02", 0, 9, b"cde"),
+    (LT, b"\x91\xcc\x80", 0, 9, b"ba"),
+    (LE, b"\x91\xcc\x80", 0, 2, b"cb"),
+    (LE, b"\x91\xcc\x81", 2, 9, b"a"),
+    (GE, b"\x91\xcd\x01\x2c", 0, 9, b"de"),
+    (GT, b"\x91\xcd\x01\x2c", 0, 9, b"e"),
+    (GT, b"\x91\0", 1, 1, b"c"),
+    (LE, b"\x91\0", 0, 0, b""),
+    (LT, b"\x91\0", 0, 9, b""),
 ];
 
 /// A REPLACE of each of the tuples.
 fn replaces(alloc: Global, tuples: &[&[u8]]) -> Result<Vec<u8>, AllocError> {
-    let mut asked = Vec::new(alloc);
+    let mut packets = Vec::new(alloc);
     for tuple in tuples {
-        let prefix = b"\x82\x00\x03\x01\x00\x82\x10\xcd\x02\x00\x21";
-        asked.extend_from_slice(&packet(alloc, &[prefix, tuple])?)?;
+        packets.extend_from_slice(&packet(alloc, &[PUT, tuple])?)?;
     }
-    Ok(asked)
+    Ok(packets)
 }
 
 /// The replies to these.
 fn replaced(alloc: Global, tuples: &[&[u8]]) -> Result<Vec<u8>, AllocError> {
-    let mut told = Vec::new(alloc);
+    let mut replies = Vec::new(alloc);
     for tuple in tuples {
-        let mut body = b"\x81\x30\xdd\x00\x00\x00\x01".to_vec(alloc)?;
-        body.extend_from_slice(tuple)?;
-        told.extend_from_slice(&reply(alloc, 0, 0, &body)?)?;
+        replies.extend_from_slice(&found(alloc, 1, tuple)?)?;
     }
-    Ok(told)
+    Ok(replies)
 }
 
-/// A SELECT for each of the picks; its place is its sync.
+/// A SELECT of each of the rows; its place is its sync.
 fn selects(alloc: Global) -> Result<Vec<u8>, AllocError> {
-    let mut asked = Vec::new(alloc);
-    for (sync, (iterator, key, offset, limit, _)) in PICKS.iter().enumerate() {
-        let header = [0x82, 0x00, 0x01, 0x01, sync as u8];
-        let body = [
-            0x85, 0x10, 0xcd, 0x02, 0x00, 0x12, *limit, 0x13, *offset, 0x14, *iterator, 0x20,
-        ];
-        let mut request = header.to_vec(alloc)?;
-        request.extend_from_slice(&body)?;
-        request.extend_from_slice(key)?;
-        asked.extend_from_slice(&packet(alloc, &[&request])?)?;
+    let mut packets = Vec::new(alloc);
+    for (sync, row) in OVER_RUNS.iter().enumerate() {
+        let request = select(alloc, sync as u8, row)?;
+        packets.extend_from_slice(&packet(alloc, &[&request])?)?;
     }
-    Ok(asked)
+    Ok(packets)
+}
+
+/// The header and the body of a SELECT.
+fn select(alloc: Global, sync: u8, row: &Found) -> Result<Vec<u8>, AllocError> {
+    let (iterator, key, offset, limit, _) = *row;
+    let prefix = [
+        0x82, 0x00, 0x01, 0x01, sync, 0x85, 0x10, 0xcd, 0x02, 0x00, 0x12, limit, 0x13, offset,
+        0x14, iterator, 0x20,
+    ];
+    let mut request = prefix.to_vec(alloc)?;
+    request.extend_from_slice(key)?;
+    Ok(request)
 }
 
 /// The replies to these.
 fn selected(alloc: Global) -> Result<Vec<u8>, AllocError> {
-    let mut told = Vec::new(alloc);
-    for (sync, (_, _, _, _, names)) in PICKS.iter().enumerate() {
-        let mut body = b"\x81\x30\xdd\x00\x00\x00".to_vec(alloc)?;
-        body.extend_from_slice(&[names.len() as u8])?;
-        for name in *names {
-            body.extend_from_slice(tuple_named(name))?;
-        }
-        told.extend_from_slice(&reply(alloc, 0, sync as u8, &body)?)?;
+    let mut replies = Vec::new(alloc);
+    for (sync, (_, _, _, _, names)) in OVER_RUNS.iter().enumerate() {
+        let body = body_of(alloc, names)?;
+        replies.extend_from_slice(&reply(alloc, 0, sync as u8, &body)?)?;
     }
-    Ok(told)
+    Ok(replies)
 }
 
-/// The tuple with this name.
-fn tuple_named(name: &u8) -> &'static [u8] {
-    for tuple in FIRST_PUT {
-        if tuple.last() == Some(name) {
-            return tuple;
-        }
+/// The body of a reply of the tuples with these names.
+fn body_of(alloc: Global, names: &[u8]) -> Result<Vec<u8>, AllocError> {
+    let mut body = b"\x81\x30\xdd\x00\x00\x00".to_vec(alloc)?;
+    body.extend_from_slice(&[u8::try_from(names.len()).unwrap_or(0)])?;
+    for name in names {
+        body.extend_from_slice(put_tuple(name))?;
     }
-    for tuple in THEN_PUT {
-        if tuple.last() == Some(name) {
-            return tuple;
+    Ok(body)
+}
+
+/// The tuple with this name, of those that the runs put.
+fn put_tuple(name: &u8) -> &'static [u8] {
+    for tuples in [FIRST_PUT, THEN_PUT] {
+        for tuple in tuples {
+            if tuple.last() == Some(name) {
+                return tuple;
+            }
         }
     }
     &[]
 }
 
+/// REPLACEs of these tuples and the SELECTs after them in a run, and the replies.
+fn put_and_select(
+    rt: &impl Abort,
+    alloc: Global,
+    dir: MemoryDir,
+    tuples: &[&[u8]],
+) -> Result<MemoryDir, AllocError> {
+    let packets = joined(alloc, &[&replaces(alloc, tuples)?, &selects(alloc)?])?;
+    let replies = joined(alloc, &[&replaced(alloc, tuples)?, &selected(alloc)?])?;
+    talk(rt, alloc, dir, &packets, &replies)
+}
+
 #[test]
 fn iterators_find_what_earlier_runs_put(rt: HostRuntime) -> Result<(), Fail> {
     let alloc = rt.alloc();
-    let input = unit(alloc, ON_ONE, &[&replaces(alloc, &FIRST_PUT)?])?;
-    let put = run_on(alloc, &TRACE, &input, NONE)?;
-    assert_eq!(rt; put.status.as_str(), "Ok");
-    let (asked, told) = (selects(alloc)?, selected(alloc)?);
-    let dir = directory_of(put)?;
+    let (packets, replies) = (replaces(alloc, FIRST_PUT)?, replaced(alloc, FIRST_PUT)?);
+    let dir = talk(&rt, alloc, new_directory(alloc), &packets, &replies)?;
     // What this run puts is found by itself, and by the next one.
-    let more = replaces(alloc, &THEN_PUT)?;
-    let seen = replaced(alloc, &THEN_PUT)?;
-    let input = unit(alloc, ON_ONE, &[&more, &asked])?;
-    let put = run_in(alloc, dir, &TRACE, &input, NONE)?;
-    assert_eq!(rt; put.status.as_str(), "Ok");
-    assert_eq!(rt; put.output, unit(alloc, TO_ONE, &[GREETING, &seen, &told])?);
-    let dir = directory_of(put)?;
-    let input = unit(alloc, ON_ONE, &[&asked])?;
-    let again = run_in(alloc, dir, &TRACE, &input, NONE)?;
-    assert_eq!(rt; again.status.as_str(), "Ok");
-    assert_eq!(rt; again.output, unit(alloc, TO_ONE, &[GREETING, &told])?);
+    let dir = put_and_select(&rt, alloc, dir, THEN_PUT)?;
+    put_and_select(&rt, alloc, dir, &[])?;
     Ok(())
 }
 
-/// Requests that are refused, with sync 1: header and body, and type and body of the reply.
-const REFUSED: [(&[u8], u16, &[u8]); 7] = [
-    (
-        b"\x82\x00\x01\x01\x01\x83\x10\xcd\x02\x01\x11\x01\x20\x92\xff\x01",
-        0x8024,
-        b"\x81\x31\xb8Space 513 does not exist",
-    ),
-    (
-        b"\x82\x00\x01\x01\x01\x83\x10\xcd\x02\x00\x11\x01\x20\x92\xff\x01",
-        0x8023,
-        b"\x81\x31\xbaNo index 1 in space \"test\"",
-    ),
-    (
-        b"\x82\x00\x01\x01\x01\x82\x10\xcd\x02\x00\x20\x92\xff\x01",
-        0x8013,
-        b"\x81\x31\xbaKey of 2 parts, index of 1",
-    ),
-    (
-        b"\x82\x00\x01\x01\x01\x82\x10\xcd\x02\x00\x20\x91\xff",
-        0x8012,
-        b"\x81\x31\xbdKey part 0: unsigned expected",
-    ),
-    (
-        b"\x82\x00\x03\x01\x01\x82\x10\xcd\x02\x00\x21\x90",
-        0x8027,
-        b"\x81\x31\xb2Field 0 is missing",
-    ),
-    (
-        b"\x82\x00\x03\x01\x01\x82\x10\xcd\x02\x00\x21\x91\xff",
-        0x8017,
-        b"\x81\x31\xbaField 0: unsigned expected",
-    ),
-    (
-        b"\x82\x00\x0e\x01\x01\x80",
-        0x8030,
-        b"\x81\x31\xb7Unknown request type 14",
-    ),
+/// SELECTs that are refused.
+const REFUSED_IN_RUNS: &[Exchange] = &[
+    Exchange {
+        asked: &[b"\x82\x00\x01\x01\x01\x83\x10\xcd\x02\x01\x11\x01\x20\x92\xff\x01"],
+        sync: 1,
+        kind: 0x8024,
+        told: &[b"\x81\x31\xb8Space 513 does not exist"],
+    },
+    Exchange {
+        asked: &[b"\x82\x00\x01\x01\x01\x83\x10\xcd\x02\x00\x11\x01\x20\x92\xff\x01"],
+        sync: 1,
+        kind: 0x8023,
+        told: &[b"\x81\x31\xbaNo index 1 in space \"test\""],
+    },
+    Exchange {
+        asked: &[b"\x82\x00\x01\x01\x01\x82\x10\xcd\x02\x00\x20\x92\xff\x01"],
+        sync: 1,
+        kind: 0x8013,
+        told: &[b"\x81\x31\xbaKey of 2 parts, index of 1"],
+    },
+    Exchange {
+        asked: &[b"\x82\x00\x01\x01\x01\x82\x10\xcd\x02\x00\x20\x91\xff"],
+        sync: 1,
+        kind: 0x8012,
+        told: &[b"\x81\x31\xbdKey part 0: unsigned expected"],
+    },
 ];
 
 #[test]
-fn refusals_are_told_and_leave_nothing(rt: HostRuntime) -> Result<(), Fail> {
-    let alloc = rt.alloc();
-    let mut asked = Vec::new(alloc);
-    let mut told = GREETING.to_vec(alloc)?;
-    for (request, kind, body) in REFUSED {
-        asked.extend_from_slice(&packet(alloc, &[request])?)?;
-        told.extend_from_slice(&reply(alloc, kind, 1, body)?)?;
-    }
-    let ran = run_on(alloc, &TRACE, &unit(alloc, ON_ONE, &[&asked])?, NONE)?;
-    assert_eq!(rt; ran.status.as_str(), "Ok");
-    assert_eq!(rt; ran.output, unit(alloc, TO_ONE, &[&told])?);
-    let all = packet(
-        alloc,
-        &[b"\x82\x00\x01\x01\x02\x83\x10\xcd\x02\x00\x12\x09\x20\x90"],
-    )?;
-    let none = reply(alloc, 0, 2, b"\x81\x30\xdd\x00\x00\x00\x00")?;
-    let dir = directory_of(ran)?;
-    let again = run_in(alloc, dir, &TRACE, &unit(alloc, ON_ONE, &[&all])?, NONE)?;
-    assert_eq!(rt; again.output, unit(alloc, TO_ONE, &[GREETING, &none])?);
-    Ok(())
+fn refusals_are_told_in_runs(rt: HostRuntime) -> Result<(), Fail> {
+    Ok(check_refusals(&rt, rt.alloc(), REFUSED_IN_RUNS)?)
 }

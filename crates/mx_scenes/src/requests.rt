@@ -1,0 +1,96 @@
+//! Requests that are no statements, and those that aren't built yet.
+
+use crate::database::{Asked, NO_KEY, Step, Told, play_at, play_both};
+use crate::harness::{Exchange, check_refusals};
+use std::test::Fail;
+
+/// Requests without key and tuple.
+const BARE: &[Step<'static>] = &[
+    (Asked::Nop, Told::Empty),
+    (Asked::Ping, Told::Empty),
+    (Asked::Id, Told::Id),
+];
+
+#[test]
+fn bare_requests_are_answered(rt: HostRuntime) -> Result<(), Fail> {
+    Ok(play_both(&rt, rt.alloc(), BARE)?)
+}
+
+const SEVEN: &[u8] = b"\x91\x07";
+
+/// Requests that aren't built yet and write nothing, and that nothing was changed.
+const NOT_BUILT: &[Step<'static>] = &[
+    (Asked::Begin, Told::Refused(48, b"Unknown request type 14")),
+    (Asked::Commit, Told::Refused(48, b"Unknown request type 15")),
+    (
+        Asked::Rollback,
+        Told::Refused(48, b"Unknown request type 16"),
+    ),
+    (Asked::Join, Told::Refused(48, b"Unknown request type 65")),
+    (
+        Asked::Subscribe,
+        Told::Refused(48, b"Unknown request type 66"),
+    ),
+    (Asked::Ack, Told::Refused(48, b"Unknown request type 0")),
+    (Asked::Select(512, 0, NO_KEY), Told::Tuples(b"")),
+];
+
+/// Writes that aren't built yet, and that nothing was changed.
+const NOT_BUILT_WRITES: &[Step<'static>] = &[
+    (
+        Asked::Insert(SEVEN),
+        Told::Refused(48, b"Unknown request type 2"),
+    ),
+    (
+        Asked::Update(SEVEN),
+        Told::Refused(48, b"Unknown request type 4"),
+    ),
+    (
+        Asked::Delete(512, SEVEN),
+        Told::Refused(48, b"Unknown request type 5"),
+    ),
+    (
+        Asked::Delete(513, NO_KEY),
+        Told::Refused(48, b"Unknown request type 5"),
+    ),
+    (
+        Asked::Upsert(SEVEN),
+        Told::Refused(48, b"Unknown request type 9"),
+    ),
+    (Asked::Select(512, 0, NO_KEY), Told::Tuples(b"")),
+];
+
+#[test]
+fn requests_that_are_not_built_are_refused(rt: HostRuntime) -> Result<(), Fail> {
+    play_both(&rt, rt.alloc(), NOT_BUILT)?;
+    Ok(play_both(&rt, rt.alloc(), NOT_BUILT_WRITES)?)
+}
+
+const READ_ONLY: Told<'static> = Told::Refused(7, b"Node is read-only, the writable node is 1");
+
+/// What a node that may not be written tells.
+const ON_READ_ONLY: &[Step<'static>] = &[
+    (Asked::Insert(b"\x91\x01"), READ_ONLY),
+    (Asked::Delete(513, NO_KEY), READ_ONLY),
+    (Asked::Select(512, 0, NO_KEY), Told::Tuples(b"")),
+    (Asked::Ping, Told::Empty),
+];
+
+#[test]
+fn read_only_nodes_refuse_writes(rt: HostRuntime) -> Result<(), Fail> {
+    play_at(&rt, rt.alloc(), "{}", 2, ON_READ_ONLY)?;
+    Ok(play_at(&rt, rt.alloc(), "{}", 2, NOT_BUILT)?)
+}
+
+/// BEGIN.
+const NOT_BUILT_IN_RUNS: &[Exchange] = &[Exchange {
+    asked: &[b"\x82\x00\x0e\x01\x01\x80"],
+    sync: 1,
+    kind: 0x8030,
+    told: &[b"\x81\x31\xb7Unknown request type 14"],
+}];
+
+#[test]
+fn refusals_leave_nothing(rt: HostRuntime) -> Result<(), Fail> {
+    Ok(check_refusals(&rt, rt.alloc(), NOT_BUILT_IN_RUNS)?)
+}
