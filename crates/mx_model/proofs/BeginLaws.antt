@@ -10,11 +10,10 @@ use Rattle.std.specs.FinMap.{entries_sorted, get-entries}
 use Rattle.std.specs.FinMap.Entries.{find, put, where_key, is_sorted-where_key, is_sorted-put, find-put, by_order}
 use Rattle.std.proofs.lemmas.Map.Text.{is_eq-slice_cmp}
 use Rattle.std.proofs.lemmas.Bool.{cases_lt}
-use Rattle.std.proofs.lemmas.List.{append-nil}
 use Rattle.mx_vclock.specs.Vclocks.{IsVclock}
 use Rattle.mx_outside.specs.Disks.{File, Files}
 use Rattle.mx_model.specs.Histories.{Base}
-use Rattle.mx_model.specs.Directories.{Named, Reached, Continues, IsDirectoryState, nothing_yet, after_files, directory_state, without_snapshot}
+use Rattle.mx_model.specs.Directories.{Named, Reached, ReadAll, Continues, IsDirectoryState, nothing_yet, new_database, origin_by, origin_of, after_origin, after_files, directory_state}
 use Rattle.mx_xlog.specs.Files.{ReadsAs}
 use Rattle.mx_files.specs.Names.{is_journal, is_snapshot, journal_name, same_bytes}
 use Rattle.mx_files.proofs.NameLaws.{journal_name-is_journal, snapshot_is_no_journal, name_order, front_order-at_most, signature_fits}

@@ -1,5 +1,5 @@
 -- What a directory recovers to as it reads now, whether it is synced or not.
-use Rattle.std.proofs.Common.{◌≡◌, ℕ, ◌≤◌, Bool, true, false, cond, List, [], ◌∷◌, ◌++◌, length, take, Option, Some, None, Result, refl, sym, ap, ◌∙◌, subst, arith}
+use Rattle.std.proofs.Common.{◌≡◌, ℕ, ◌≤◌, Bool, true, false, cond, List, [], ◌∷◌, length, take, Option, Some, None, Result, refl, sym, ap, ◌∙◌, subst, arith}
 use Rattle.std.specs.Prelude.{⊤, is_some, IfSome}
 use Rattle.std.specs.List.{filter, AllByRecursion}
 use Rattle.std.specs.Option.{option_map}
@@ -18,8 +18,8 @@ use Rattle.mx_images.proofs.MomentLaws.{Steps, both_moments, seen_from, weaker}
 use Rattle.mx_images.proofs.ToldLaws.{told_both, told_weaker}
 use Rattle.mx_xlog.specs.Files.{ReadsAs}
 use Rattle.mx_model.specs.declared.damage.Damage.{Damage}
-use Rattle.mx_model.specs.Directories.{Named, Reached, IsDirectoryState, directory_state}
-use Rattle.mx_model.specs.Survival.{FollowFromNew, NoFewerSurvive, ReadsMost, StandsAfter, Survive}
+use Rattle.mx_model.specs.Directories.{Named, Reached, ReadAll, Origin, IsDirectoryState, directory_state}
+use Rattle.mx_model.specs.Survival.{FollowFrom, NoFewerSurvive, ReadsMost, StandsAfter, Survive}
 use Rattle.mx_model.proofs.CountLaws.{counted_once, front_longer}
 use Rattle.mx_model.proofs.DirectoryLaws.{ReadAll, names_of, names_same}
 use Rattle.mx_model.proofs.ImageLaws.{journal_counts, snapshot_counts}
@@ -69,7 +69,8 @@ stands_alike older newer outcome same (journals, unread, reads, enough, is) =
       is ∙ ap (λ found. directory_state found journals) (sym snapshots),
     )
 
-pub after_alike : (transactions : List Tx) (older newer : Files) → SameContents older newer → StandsAfter transactions older → StandsAfter transactions newer
+pub after_alike : {origin : Origin} (transactions : List Tx) (older newer : Files) → SameContents older newer → StandsAfter origin transactions older
+    → StandsAfter origin transactions newer
 after_alike transactions older newer same after = record {
   reached = after.reached;
   stands = stands_alike older newer _ same after.stands;
@@ -80,8 +81,8 @@ after_alike transactions older newer same after = record {
 -- ---- what is read is what a crash may leave
 
 -- a bound for what survives is one for what is read
-pub least_read : (transactions : List Tx) (least : ℕ) (disk : Disk) → FollowFromNew transactions → Survive transactions least disk
-    → (m : ReadsMost transactions disk) → least ≤ m.count
+pub least_read : {origin : Origin} (transactions : List Tx) (least : ℕ) (disk : Disk) → FollowFrom origin transactions
+    → Survive origin transactions least disk → (m : ReadsMost origin transactions disk) → least ≤ m.count
 least_read transactions least disk follow survive m =
     let (count, enough, short, after) = survive (as_read disk.now) (fair_as_read disk) in
     let same : count ≡ m.count = counted_once transactions count m.count (as_read disk.now) follow short m.within after
@@ -89,51 +90,51 @@ least_read transactions least disk follow survive m =
     omega (arith, enough, same)
 
 -- where all that is read is these, and no more survive
-pub reads_these : (earlier transactions : List Tx) (disk : Disk) → IsPrefix earlier transactions → StandsAfter earlier disk.now → Survive earlier 0 disk
-    → ReadsMost transactions disk
-reads_these earlier transactions disk front after survive =
+pub reads_these : {origin : Origin} (earlier transactions : List Tx) (disk : Disk) → IsPrefix earlier transactions → StandsAfter origin earlier disk.now
+    → Survive origin earlier 0 disk → ReadsMost origin transactions disk
+reads_these {origin} earlier transactions disk front after survive =
     let all : take (length earlier) earlier ≡ earlier = take_all (length earlier) earlier (omega arith) in
     let longer = front_longer earlier transactions (length earlier) front (omega arith) in
     record {
       count = length earlier;
       within = longer.1;
-      reads = subst (λ txs. StandsAfter txs disk.now) (sym all ∙ longer.0) after;
+      reads = subst (λ txs. StandsAfter origin txs disk.now) (sym all ∙ longer.0) after;
       most = λ image fair.
           let (fewer, none, few, stands) = survive image fair in
-          (fewer, few, subst (λ txs. StandsAfter txs image) (front_longer earlier transactions fewer front few).0 stands);
+          (fewer, few, subst (λ txs. StandsAfter origin txs image) (front_longer earlier transactions fewer front few).0 stands);
     }
 
 -- where all of these survive, they are what is read
-pub reads_survivors : (earlier transactions : List Tx) (disk : Disk) → IsPrefix earlier transactions → Survive earlier (length earlier) disk
-    → ReadsMost transactions disk
-reads_survivors earlier transactions disk front survive =
+pub reads_survivors : {origin : Origin} (earlier transactions : List Tx) (disk : Disk) → IsPrefix earlier transactions
+    → Survive origin earlier (length earlier) disk → ReadsMost origin transactions disk
+reads_survivors {origin} earlier transactions disk front survive =
     let (count, enough, few, after) = survive (as_read disk.now) (fair_as_read disk) in
     let all : take count earlier ≡ earlier = take_all count earlier enough in
     reads_these earlier transactions disk front
     (after_alike earlier (as_read disk.now) disk.now (contents_back disk.now (as_read disk.now) (same_as_read disk.now))
-    (subst (λ txs. StandsAfter txs (as_read disk.now)) all after))
+    (subst (λ txs. StandsAfter origin txs (as_read disk.now)) all after))
     (λ image fair. let (count, enough, few, after) = survive image fair in (count, omega arith, few, after))
 
 -- ---- the states of calls
 
 -- the directory reads as a prefix of the transactions at each moment, and no more survive
-abbrev pub ReadMost : List Tx → (old new : Option (List Disk)) → Type 0
-ReadMost transactions old new = IfKnown old (λ disk past. Moments (ReadsMost transactions) (λ older newer. ⊤) new disk past)
+abbrev pub ReadMost : Origin → List Tx → (old new : Option (List Disk)) → Type 0
+ReadMost origin transactions old new = IfKnown old (λ disk past. Moments (ReadsMost origin transactions) (λ older newer. ⊤) new disk past)
 
 -- calls since which a crash leaves nothing new, and which change no contents
-pub clean_reads_most : (earlier transactions : List Tx) (old new : Option (List Disk)) → IsPrefix earlier transactions
-    → IfKnown old (λ disk past. StandsAfter earlier disk.now × Survive earlier 0 disk)
+pub clean_reads_most : (origin : Origin) (earlier transactions : List Tx) (old new : Option (List Disk)) → IsPrefix earlier transactions
+    → IfKnown old (λ disk past. StandsAfter origin earlier disk.now × Survive origin earlier 0 disk)
     → IfKnown old (λ disk past. Moments (LeavesNoOther disk) LeavesNoOther new disk past)
-    → Steps (λ older newer. SameContents older.now newer.now) old new → ReadMost transactions old new
-clean_reads_most earlier transactions old new front recovers leaves reads =
+    → Steps (λ older newer. SameContents older.now newer.now) old new → ReadMost origin transactions old new
+clean_reads_most origin earlier transactions old new front recovers leaves reads =
     told_both old by_steps recovers (told_both old (λ disk past one other. (one, other)) leaves reads)
   where
     Alike : Disk → Disk → Type 0
     Alike older newer = SameContents older.now newer.now
 
-    by_steps : (disk : Disk) (past : List Disk) → StandsAfter earlier disk.now × Survive earlier 0 disk
+    by_steps : (disk : Disk) (past : List Disk) → StandsAfter origin earlier disk.now × Survive origin earlier 0 disk
         → Moments (LeavesNoOther disk) LeavesNoOther new disk past × Moments (λ state. ⊤) Alike new disk past
-        → Moments (ReadsMost transactions) (λ older newer. ⊤) new disk past
+        → Moments (ReadsMost origin transactions) (λ older newer. ⊤) new disk past
     by_steps disk past known steps =
         weaker (λ next here. reads_these earlier transactions next front (after_alike earlier disk.now next.now here.1 known.0)
         (λ image fair. known.1 image (here.0 image fair)))
@@ -143,7 +144,8 @@ clean_reads_most earlier transactions old new front recovers leaves reads =
         new disk past steps.1))
 
 -- calls of which all of these survive
-pub survivors_read : (earlier transactions : List Tx) (old new : Option (List Disk)) → IsPrefix earlier transactions
-    → IfKnown old (λ disk past. Moments (Survive earlier (length earlier)) (NoFewerSurvive earlier) new disk past) → ReadMost transactions old new
-survivors_read earlier transactions old new front = told_weaker old (λ disk past.
+pub survivors_read : (origin : Origin) (earlier transactions : List Tx) (old new : Option (List Disk)) → IsPrefix earlier transactions
+    → IfKnown old (λ disk past. Moments (Survive origin earlier (length earlier)) (NoFewerSurvive origin earlier) new disk past)
+    → ReadMost origin transactions old new
+survivors_read origin earlier transactions old new front = told_weaker old (λ disk past.
     weaker (λ next. reads_survivors earlier transactions next front) (λ older newer here step. tt) new disk past)

@@ -1,5 +1,5 @@
 mod BlockLaws
-mod FileLaws
+pub mod FileLaws
 mod HeaderLaws
 mod LastLaws
 mod LineLaws
