@@ -1,11 +1,11 @@
 -- Only private functions and proofs need these: the journals of a directory, read one after the other.
 use Rattle.std.specs.Prelude.{◌≡◌, ◌⊎◌, ℕ, true, false, List, ◌++◌, map, Option, Result, Ok, IfSome}
-use Rattle.std.specs.List.{filter, AllByRecursion}
+use Rattle.std.specs.List.{filter}
 use Rattle.std.specs.FinMap as finite
 use Rattle.mx_outside.specs.Disks.{Disk, File, Files, IfKnown}
 use Rattle.mx_model.specs.declared.damage.Damage.{Damage}
 use Rattle.mx_model.specs.Directories as files
-use Rattle.mx_model.specs.Directories.{Named, IsDirectoryState, nothing_yet, after_file, after_files}
+use Rattle.mx_model.specs.Directories.{Named, ReadAll, IsDirectoryState, nothing_yet, after_file, after_files}
 use Rattle.mx_xlog.specs.Files.{FileRead, ReadsAs}
 use Rattle.mx_files.specs.Names.{is_journal}
 use Rattle.mx_recover.specs.declared.replay.Recovered.{Recovered}
@@ -25,7 +25,7 @@ pub record IsUnderway (found : Files) (left : List (List ℕ)) (reached : files.
   pub journals : List Named
   pub split : passed ++ left ≡ finite.keys found
   pub names : map (λ (journal : Named). journal.0) journals ≡ filter is_journal passed
-  pub each : AllByRecursion (λ (journal : Named). IfSome (finite.get found journal.0) (λ (file : File). ReadsAs file.bytes journal.1)) journals
+  pub each : ReadAll found journals
   pub after : after_files journals nothing_yet ≡ Ok reached
 
 -- The memory has what the directory recovers to, where its files are known; all of its journals and names are durable.
