@@ -9,20 +9,20 @@ use Rattle.std.proofs.lemmas.List.{length-take, nil_from_length, take-take}
 use Rattle.mx_msgpack.proofs.Options.{same_some}
 use Rattle.mx_outside.specs.Disks.{Disk, File, Leaves, IsImage, synced_file}
 use Rattle.mx_row.specs.declared.tx.Tx.{Tx}
-use Rattle.mx_model.specs.State.{first_state}
-use Rattle.mx_model.specs.Directories.{directory_state, nothing_yet}
+use Rattle.mx_model.specs.Directories.{Origin, directory_state, new_database, nothing_yet}
 use Rattle.mx_files.specs.Names.{is_journal, is_snapshot}
 use Rattle.mx_images.specs.Fair.{IsFairEnd, AllDurable}
-use Rattle.mx_model.specs.Survival.{FollowFromNew, ReadsMost, Recovers, StandsAfter, Survive}
+use Rattle.mx_model.specs.Survival.{FollowFrom, ReadsMost, Recovers, StandsAfter, Survive}
 use Rattle.mx_model.proofs.ReadLaws.{least_read}
+use Rattle.mx_model.proofs.WalkLaws.{nothing_is_sound}
 use Rattle.mx_node.proofs.OpenLaws.{none_older}
 use Rattle.mx_node.proofs.RecoveryLaws.{all_taken, found_again}
 use Rattle.mx_node.proofs.ServingLaws.{all_follow-take}
 
 -- a directory all of which is durable recovers all of its transactions
-recovers_all : (transactions : List Tx) (disk : Disk) → FollowFromNew transactions → AllDurable disk → disk.older ≡ finite.empty
-    → StandsAfter transactions disk.now → Recovers transactions (Some (disk ∷ []))
-recovers_all transactions disk follow whole no_older after = record {
+recovers_all : {origin : Origin} (transactions : List Tx) (disk : Disk) → FollowFrom origin transactions → AllDurable disk → disk.older ≡ finite.empty
+    → StandsAfter origin transactions disk.now → Recovers origin transactions (Some (disk ∷ []))
+recovers_all {origin} transactions disk follow whole no_older after = record {
   follow = follow;
   told = (
     after,
@@ -30,7 +30,7 @@ recovers_all transactions disk follow whole no_older after = record {
       length transactions,
       omega arith,
       omega arith,
-      subst (λ txs. StandsAfter txs image) (sym (all_taken transactions)) (record {
+      subst (λ txs. StandsAfter origin txs image) (sym (all_taken transactions)) (record {
         reached = after.reached;
         stands = found_again disk after.reached whole no_older after.stands image fair;
         state = after.state;
@@ -38,6 +38,13 @@ recovers_all transactions disk follow whole no_older after = record {
       }),
     ),
   );
+}
+
+-- what follows from the origin has prefixes that do
+follow-take : {origin : Origin} (transactions : List Tx) (count : ℕ) → FollowFrom origin transactions → FollowFrom origin (take count transactions)
+follow-take {origin} transactions count follow = record {
+  clock = follow.clock;
+  each = all_follow-take origin.state origin.clock transactions count follow.each;
 }
 
 -- ---- a new directory
@@ -53,16 +60,15 @@ no_names =
     ap (map (λ (e : List ℕ × File). e.0))
     (nil_from_length (finite.entries no_files.now) (sym (len-entries no_files.now) ∙ len-empty (slice_cmp nat_cmp) File))
 
-pub none_recovers : Recovers [] (Some (no_files ∷ []))
-none_recovers = recovers_all [] no_files tt none_on_disk refl (record {
+pub none_recovers : Recovers new_database [] (Some (no_files ∷ []))
+none_recovers = recovers_all [] no_files (record { clock = nothing_is_sound; each = tt }) none_on_disk refl (record {
   reached = nothing_yet;
-  stands = (
-    [],
-    [],
-    record { names = ap (filter is_journal) (sym no_names); each = tt },
-    refl,
-    ap (λ names. directory_state (filter is_snapshot names) []) (sym no_names),
-  );
+  stands = record {
+    journals = [];
+    names = ap (filter is_journal) (sym no_names);
+    each = tt;
+    is = ap (λ names. directory_state (filter is_snapshot names) []) (sym no_names);
+  };
   state = refl;
   clock = refl;
 })
@@ -81,29 +87,28 @@ left_on_disk disk image left name file kind there =
     let (place, was, below, is, leaves) = left.each name in
     (left_synced was (finite.get image.now name) file leaves there, none_older image name left.durable)
 
-pub left_recovers : (transactions : List Tx) (least : ℕ) (disk image : Disk) → FollowFromNew transactions → Survive transactions least disk
-    → IsImage IsFairEnd disk image
-    → (count : ℕ) × (least ≤ count) × (count ≤ length transactions) × Recovers (take count transactions) (Some (image ∷ []))
-left_recovers transactions least disk image follow survive left =
+pub left_recovers : (origin : Origin) (transactions : List Tx) (least : ℕ) (disk image : Disk) → FollowFrom origin transactions
+    → Survive origin transactions least disk → IsImage IsFairEnd disk image
+    → (count : ℕ) × (least ≤ count) × (count ≤ length transactions) × Recovers origin (take count transactions) (Some (image ∷ []))
+left_recovers origin transactions least disk image follow survive left =
     let (count, enough, short, after) = survive image.now (λ name counted. left.each name) in (
       count,
       enough,
       short,
-      recovers_all (take count transactions) image (all_follow-take first_state nothing_yet.clock transactions count follow)
-          (left_on_disk disk image left) left.durable after,
+      recovers_all (take count transactions) image (follow-take transactions count follow) (left_on_disk disk image left) left.durable after,
     )
 
 -- ---- after a kill
 
-pub read_recovers : (transactions : List Tx) (least : ℕ) (disk : Disk) (past : List Disk) → FollowFromNew transactions → Survive transactions least disk
-    → ReadsMost transactions disk
-    → (count : ℕ) × (least ≤ count) × (count ≤ length transactions) × Recovers (take count transactions) (Some (disk ∷ past))
-read_recovers transactions least disk past follow survive m = (
+pub read_recovers : (origin : Origin) (transactions : List Tx) (least : ℕ) (disk : Disk) (past : List Disk) → FollowFrom origin transactions
+    → Survive origin transactions least disk → ReadsMost origin transactions disk
+    → (count : ℕ) × (least ≤ count) × (count ≤ length transactions) × Recovers origin (take count transactions) (Some (disk ∷ past))
+read_recovers origin transactions least disk past follow survive m = (
   m.count,
   least_read transactions least disk follow survive m,
   m.within,
   record {
-    follow = all_follow-take first_state nothing_yet.clock transactions m.count follow;
+    follow = follow-take transactions m.count follow;
     told = (
       m.reads,
       λ image fair.
@@ -111,7 +116,7 @@ read_recovers transactions least disk past follow survive m = (
             fewer,
             omega arith,
             omega (arith, few, m.within, length-take m.count transactions),
-            subst (λ txs. StandsAfter txs image) (sym (take-take fewer m.count transactions few)) after,
+            subst (λ txs. StandsAfter origin txs image) (sym (take-take fewer m.count transactions few)) after,
           ),
     );
   },

@@ -14,11 +14,11 @@ use Rattle.mx_node.proofs.ServingLaws.{behind_keeps}
 
 pub ready_keeps : (base : Base) (history : History) (engine : Engine) (journal : Journal) (states : Option (List Disk))
     → Ready base history engine journal states → StepsSurvive base history history states
-ready_keeps base history engine journal states ready = λ transactions all.
+ready_keeps base history engine journal states ready = λ origin transactions all.
     let commits = journal_of base history in
     let taken : taken_of base history ≡ commits = ap (λ n. take n commits) ready.taken ∙ take_all (length commits) commits (omega arith) in
-    subst (λ txs. IfKnown states (λ disk past. Survive transactions (length (all.earlier ++ txs)) disk)) taken
-    (behind_keeps base history engine journal states ready.behind transactions all)
+    subst (λ txs. IfKnown states (λ disk past. Survive origin transactions (length (all.earlier ++ txs)) disk)) taken
+    (behind_keeps base history engine journal states ready.behind origin transactions all)
 
 -- ---- steps without a reply
 
@@ -54,8 +54,8 @@ no_reply_no_commit base (Looked ∷ more) history few =
 -- so all that was committed still is durable after them
 pub keep_unreplied : (base : Base) (more history : History) (old new : Option (List Disk)) → replies_in (more ++ history) ≡ replies_in history
     → StepsSurvive base history history old → Lasts base (more ++ history) old new → StepsSurvive base (more ++ history) (more ++ history) new
-keep_unreplied base more history old new told keep lasts = λ transactions all.
+keep_unreplied base more history old new told keep lasts = λ origin transactions all.
     let few = ap length told in
     let same : journal_of base (more ++ history) ≡ journal_of base history = no_reply_no_commit base more history (omega arith) in
     let kept = keep_on base (more ++ history) history old new (keep_longer base more history history old keep) lasts in
-    subst (λ txs. IfKnown new (λ disk past. Survive transactions (length (all.earlier ++ txs)) disk)) (sym same) (kept transactions all)
+    subst (λ txs. IfKnown new (λ disk past. Survive origin transactions (length (all.earlier ++ txs)) disk)) (sym same) (kept origin transactions all)

@@ -11,6 +11,7 @@ use Rattle.mx_row.specs.declared.tx.Tx.{Tx}
 use Rattle.mx_base.specs.declared.ids.TxnName.{TxnName}
 use Rattle.mx_request.specs.declared.request.Ask.{Ask}
 use Rattle.mx_model.specs.declared.reply.Reply.{Reply}
+use Rattle.mx_model.specs.Directories.{Origin}
 use Rattle.mx_model.specs.Histories.{Base, History, Asked, Left, Took, Confirmed, Looked, IsLegal, commits_of, journal_of, ledger_of}
 use Rattle.mx_model.proofs.HistoryLaws.{steps_of_ledger}
 use Rattle.mx_model.specs.Order.{Step, RequestStep, TakeStep, ConfirmStep, order_in}
@@ -38,8 +39,8 @@ journal_grows base (Confirmed upto ∷ more) history = journal_grows base more h
 journal_grows base (Looked ∷ more) history = journal_grows base more history
 
 -- transactions that extend a history extend its earlier part
-pub extend_earlier : (base : Base) (more history : History) (transactions : List Tx) → Extend base (more ++ history) transactions
-    → Extend base history transactions
+pub extend_earlier : {origin : Origin} (base : Base) (more history : History) (transactions : List Tx) → Extend origin base (more ++ history) transactions
+    → Extend origin base history transactions
 extend_earlier base more history transactions all =
     let (others, is) = journal_grows base more history in
     let journal = journal_of base history in
@@ -60,25 +61,25 @@ extend_earlier base more history transactions all =
 pub lasts_none : (base : Base) (history : History) (states : Option (List Disk)) → Lasts base history states states
 lasts_none base history states = record {
   told = (λ told. told, λ told. told);
-  moments = λ transactions all. no_moments (λ disk. Survive transactions 0) (NoFewerSurvive transactions) states;
-  reads = λ transactions all. no_moments (λ disk. ReadsMost transactions) (λ older newer. ⊤) states;
+  moments = λ origin transactions all. no_moments (λ disk. Survive origin transactions 0) (NoFewerSurvive origin transactions) states;
+  reads = λ origin transactions all. no_moments (λ disk. ReadsMost origin transactions) (λ older newer. ⊤) states;
 }
 
 pub lasts_longer : (base : Base) (more history : History) (old new : Option (List Disk)) → Lasts base history old new → Lasts base (more ++ history) old new
 lasts_longer base more history old new lasts = record {
   told = lasts.told;
-  moments = λ transactions all. lasts.moments transactions (extend_earlier base more history transactions all);
-  reads = λ transactions all. lasts.reads transactions (extend_earlier base more history transactions all);
+  moments = λ origin transactions all. lasts.moments origin transactions (extend_earlier base more history transactions all);
+  reads = λ origin transactions all. lasts.reads origin transactions (extend_earlier base more history transactions all);
 }
 
 pub lasts_on : (base : Base) (more history : History) (old middle new : Option (List Disk)) → Lasts base history old middle
     → Lasts base (more ++ history) middle new → Lasts base (more ++ history) old new
 lasts_on base more history old middle new one two = record {
   told = (λ told. two.told.0 (one.told.0 told), λ told. one.told.1 (two.told.1 told));
-  moments = λ transactions all. joined (Survive transactions 0) (NoFewerSurvive transactions) old middle new
-      (one.moments transactions (extend_earlier base more history transactions all)) (two.moments transactions all);
-  reads = λ transactions all. joined (ReadsMost transactions) (λ older newer. ⊤) old middle new
-      (one.reads transactions (extend_earlier base more history transactions all)) (two.reads transactions all);
+  moments = λ origin transactions all. joined (Survive origin transactions 0) (NoFewerSurvive origin transactions) old middle new
+      (one.moments origin transactions (extend_earlier base more history transactions all)) (two.moments origin transactions all);
+  reads = λ origin transactions all. joined (ReadsMost origin transactions) (λ older newer. ⊤) old middle new
+      (one.reads origin transactions (extend_earlier base more history transactions all)) (two.reads origin transactions all);
 }
 
 told_kept : (P Q : Disk → Type 0) (R : Disk → Disk → Type 0) → ((older newer : Disk) → R older newer → Q older → Q newer)
@@ -91,14 +92,14 @@ told_kept P Q R keeps old new alike moments holds =
 
 pub keep_longer : (base : Base) (more history first : History) (states : Option (List Disk)) → StepsSurvive base history first states → StepsSurvive base (more ++ history) first states
 unfolding extend_earlier
-keep_longer base more history first states keep = λ transactions all. keep transactions (extend_earlier base more history transactions all)
+keep_longer base more history first states keep = λ origin transactions all. keep origin transactions (extend_earlier base more history transactions all)
 
 pub keep_on : (base : Base) (history first : History) (old new : Option (List Disk)) → StepsSurvive base history first old → Lasts base history old new
     → StepsSurvive base history first new
-keep_on base history first old new keep lasts = λ transactions all.
+keep_on base history first old new keep lasts = λ origin transactions all.
     let least = length (all.earlier ++ journal_of base first) in
-    told_kept (Survive transactions 0) (Survive transactions least) (NoFewerSurvive transactions) (λ older newer no_fewer held. no_fewer least held)
-    old new lasts.told (lasts.moments transactions all) (keep transactions all)
+    told_kept (Survive origin transactions 0) (Survive origin transactions least) (NoFewerSurvive origin transactions) (λ older newer no_fewer held. no_fewer least held)
+    old new lasts.told (lasts.moments origin transactions all) (keep origin transactions all)
 
 -- ---- how many steps are confirmed
 
@@ -136,12 +137,12 @@ where_err (Err error) shown = shown
 -- the steps among which all commits are durable still are, where fewer of them are meant
 fewer_steps : (base : Base) (whole first fewer : History) (states : Option (List Disk)) → length (journal_of base fewer) ≤ length (journal_of base first)
     → StepsSurvive base whole first states → StepsSurvive base whole fewer states
-fewer_steps base whole first fewer states shorter keep = λ transactions all.
+fewer_steps base whole first fewer states shorter keep = λ origin transactions all.
     told_weaker states
     (λ disk past survive. λ image fair.
     let (count, enough, short, after) = survive image fair in
     (count, omega (arith, shorter, enough, length-append all.earlier (journal_of base first), length-append all.earlier (journal_of base fewer)), short, after))
-    (keep transactions all)
+    (keep origin transactions all)
 
 -- an earlier part of a history committed no more
 part_commits : (base : Base) (count : ℕ) (history : History) → length (journal_of base (drop count history)) ≤ length (journal_of base history)

@@ -11,11 +11,11 @@ use Rattle.mx_xlog.specs.declared.head.Head.{Head}
 use Rattle.mx_xlog.specs.Headers.{header_of}
 use Rattle.mx_outside.specs.Disks.{Disk, File, IfKnown, KnownAlike, synced_file, or_none}
 use Rattle.mx_model.specs.declared.ids.Ids.{Ids}
-use Rattle.mx_model.specs.Directories.{Named, Reached, Continues, IsDirectoryState, ids_in, ids_or, directory_state}
+use Rattle.mx_model.specs.Directories.{Named, Reached, ReadAll, Continues, IsDirectoryState, ids_in, ids_or, directory_state}
 use Rattle.mx_xlog.specs.Files.{ReadsAs}
 use Rattle.mx_files.specs.Names.{is_journal, is_snapshot, is_draft, journal_name, same_bytes}
 use Rattle.mx_files.proofs.NameLaws.{draft-is_journal, draft-is_snapshot, draft_is_no_snapshot, snapshot_is_no_journal}
-use Rattle.mx_model.proofs.DirectoryLaws.{ReadAll, names_same}
+use Rattle.mx_model.proofs.DirectoryLaws.{names_same}
 use Rattle.mx_model.proofs.BeginLaws.{begins_again, newest_now}
 use Rattle.mx_journal.specs.declared.journal.Journal.{Journal}
 use Rattle.mx_journal.specs.Written.{IsWritten, IsNewest, Created, name_of, draft_name_of, Waits}
@@ -70,15 +70,14 @@ snapshot_same before after durable q snapshot = by_draft (is_draft q) refl
 -- it recovers to what it did before
 pub durable_stands : (before after : Disk) (reached : Reached) → MadeDurable before after → IsDirectoryState before.now (Ok reached)
     → IsDirectoryState after.now (Ok reached)
-durable_stands before after reached durable (journals, unread, reads, enough, is) =
+durable_stands before after reached durable state =
     let names = names_same is_journal after.now before.now (λ q journal. ap is_some (durable.journals q journal) ∙ is_some_still (finite.get before.now q)) in
-    let snapshots = names_same is_snapshot after.now before.now (λ q snapshot. ap is_some (snapshot_same before after durable q snapshot)) in (
-      journals,
-      unread,
-      record { names = reads.names ∙ sym names; each = reads_still before after durable journals reads.each },
-      enough,
-      is ∙ ap (λ found. directory_state found journals) (sym snapshots),
-    )
+    let snapshots = names_same is_snapshot after.now before.now (λ q snapshot. ap is_some (snapshot_same before after durable q snapshot)) in record {
+      journals = state.journals;
+      names = state.names ∙ sym names;
+      each = reads_still before after durable state.journals state.each;
+      is = state.is ∙ ap (λ found. directory_state found state.journals) (sym snapshots);
+    }
 
 synced_whole : (found : Option File) (file : File) → option_map (λ (f : File). synced_file f.bytes) found ≡ Some file → file.synced ≡ length file.bytes
 synced_whole None file is = absurd cc

@@ -2,7 +2,7 @@
 use Rattle.std.proofs.Common.{◌≡◌, ℕ, ◌≤◌, Bool, true, false, List, [], ◌∷◌, length, sum, take, Option, Some, None, Ok, refl, sym, ap, ◌∙◌, subst, ◌⊎◌, inl, inr, arith}
 use Rattle.std.specs.Prelude.{⊤, IfSome, if◌then◌else◌}
 use Rattle.std.specs.List.{filter, AllByRecursion}
-use Rattle.std.proofs.lemmas.List.{append-nil, take_all}
+use Rattle.std.proofs.lemmas.List.{take_all}
 use Rattle.std.specs.Option.{unwrap_or}
 use Rattle.std.specs.Ordering.{nat_cmp}
 use Rattle.std.specs.Cmp.Lexicographic.{slice_cmp, bytes_decides}
@@ -14,15 +14,14 @@ use Rattle.mx_outside.specs.Moments.{Moments}
 use Rattle.mx_xlog.specs.declared.head.Head.{Head}
 use Rattle.mx_model.specs.declared.ids.Ids.{Ids}
 use Rattle.mx_row.specs.declared.tx.Tx.{Tx}
-use Rattle.mx_model.specs.State.{first_state}
 use Rattle.mx_model.specs.Transactions.{state_after}
 use Rattle.mx_row.specs.Clocks.{clock_after}
 use Rattle.mx_model.specs.Histories.{Base}
-use Rattle.mx_model.specs.Directories.{Named, Reached, IsDirectoryState, ids_in, ids_or, nothing_yet, directory_state}
+use Rattle.mx_model.specs.Directories.{Named, Reached, ReadAll, Origin, IsDirectoryState, ids_in, ids_or, nothing_yet, directory_state}
 use Rattle.mx_xlog.specs.Files.{ReadsAs}
 use Rattle.mx_files.specs.Names.{is_journal, is_snapshot, journal_name, same_bytes, counts}
 use Rattle.mx_files.proofs.NameLaws.{journal_name-is_journal}
-use Rattle.mx_model.proofs.DirectoryLaws.{ReadAll, names_same, names_of, stands_after}
+use Rattle.mx_model.proofs.DirectoryLaws.{names_same, stands_after}
 use Rattle.mx_model.proofs.WalkLaws.{Passed}
 use Rattle.mx_model.proofs.BeginLaws.{sound, begins_again, reached_is_sound}
 use Rattle.mx_model.proofs.OnceLaws.{one_state}
@@ -34,7 +33,7 @@ use Rattle.mx_images.proofs.ToldLaws.{told_both, told_then, told_weaker, where_t
 use Rattle.mx_images.proofs.MomentLaws.{Steps, no_moments, weaker, weaker_from}
 use Rattle.mx_recover.specs.declared.replay.Recovered as memory
 use Rattle.mx_recover.specs.Replay.{IsDurableAt}
-use Rattle.mx_model.specs.Survival.{StandsAfter, Survive, NoFewerSurvive, ReadsMost, FollowFromNew, Recovers}
+use Rattle.mx_model.specs.Survival.{StandsAfter, Survive, NoFewerSurvive, ReadsMost, FollowFrom, Recovers}
 use Rattle.mx_model.proofs.CountLaws.{counted_once, front_longer, survive_longer}
 use Rattle.mx_model.proofs.ImageLaws.{fair_now, leaves_some, read_in_image, journal_counts, snapshot_counts, WasRead, all_were_read}
 use Rattle.mx_model.proofs.ReadLaws.{ReadMost, clean_reads_most}
@@ -44,8 +43,8 @@ use Rattle.mx_node.proofs.OpenLaws.{kept_ids}
 -- ---- the files of a durable directory
 
 -- after any crash the directory recovers these transactions
-abbrev AllStand : List Tx → Disk → Type 0
-AllStand earlier disk = (image : Files) → IsFair disk image → StandsAfter earlier image
+abbrev AllStand : Origin → List Tx → Disk → Type 0
+AllStand origin earlier disk = (image : Files) → IsFair disk image → StandsAfter origin earlier image
 
 module _ (disk : Disk) (found : Reached) (whole : AllDurable disk) (durable : disk.older ≡ finite.empty) (stands : IsDirectoryState disk.now (Ok found)) where
   left_of : (image : Files) → IsFair disk image → (name : List ℕ) → counts name ≡ true → Leaves IsFairEnd (finite.get disk.now name) (finite.get image name)
@@ -83,16 +82,12 @@ module _ (disk : Disk) (found : Reached) (whole : AllDurable disk) (durable : di
   found_again image fair =
       let s = sound disk.now found stands in
       let journals = names_again image fair is_journal journal_counts in
-      let snapshots = names_again image fair is_snapshot snapshot_counts in (
-        s.journals,
-        [],
-        record {
-          names = append-nil (names_of s.journals) ∙ s.names ∙ sym journals;
-          each = all_again image fair s.journals (all_were_read s.journals nothing_yet found s.after) s.on_way.names s.each;
-        },
-        refl,
-        sym s.after ∙ ap (λ names. directory_state names s.journals) (sym (snapshots ∙ s.none)),
-      )
+      let snapshots = names_again image fair is_snapshot snapshot_counts in record {
+        journals = s.journals;
+        names = s.names ∙ sym journals;
+        each = all_again image fair s.journals (all_were_read s.journals nothing_yet found s.after) s.on_way.names s.each;
+        is = sym s.after ∙ ap (λ names. directory_state names s.journals) (sym (snapshots ∙ s.none));
+      }
 
   -- A journal is being begun in it, with the identifiers that it has, or with these where it has none.
   module _ (head : Head) (first : Ids) (begins : head.clock ≡ found.clock) (kind : head.snapshot ≡ false) (ids : ids_in head ≡ ids_or first found.ids) where
@@ -128,16 +123,17 @@ module _ (disk : Disk) (found : Reached) (whole : AllDurable disk) (durable : di
             same q counted differs ∙ ap (λ b. if b then Some file else finite.get was q) (sym differs)
 
     -- so it stands for the same transactions
-    stands_still : (earlier : List Tx) → StandsAfter earlier disk.now → (files : Files) (reached : Reached) → IsDirectoryState files (Ok reached)
-        → reached.state ≡ found.state → reached.clock ≡ found.clock → StandsAfter earlier files
+    stands_still : {origin : Origin} (earlier : List Tx) → StandsAfter origin earlier disk.now → (files : Files) (reached : Reached)
+        → IsDirectoryState files (Ok reached) → reached.state ≡ found.state → reached.clock ≡ found.clock → StandsAfter origin earlier files
     stands_still earlier after files reached is state clock =
         let same = one_state disk.now found after.reached stands after.stands in
         record { reached = reached; stands = is; state = state ∙ same.0 ∙ after.state; clock = clock ∙ same.1 ∙ after.clock }
 
-    all_stand : (earlier : List Tx) → StandsAfter earlier disk.now → (next : Disk) → MayBegin head disk next → AllStand earlier next
-    all_stand earlier after next may image fair = by_image (may image fair)
+    all_stand : {origin : Origin} (earlier : List Tx) → StandsAfter origin earlier disk.now → (next : Disk) → MayBegin head disk next
+        → AllStand origin earlier next
+    all_stand {origin} earlier after next may image fair = by_image (may image fair)
       where
-        by_image : IsFair disk image ⊎ HasBegun head disk image → StandsAfter earlier image
+        by_image : IsFair disk image ⊎ HasBegun head disk image → StandsAfter origin earlier image
         by_image (inl before) = stands_still earlier after image found (found_again image before) refl refl
         by_image (inr begun) = stands_still earlier after image _ (begun_again image begun) refl refl
 
@@ -146,10 +142,10 @@ module _ (disk : Disk) (found : Reached) (whole : AllDurable disk) (durable : di
 pub all_taken : (earlier : List Tx) → take (length earlier) earlier ≡ earlier
 all_taken earlier = take_all (length earlier) earlier (omega arith)
 
-module _ (earlier transactions : List Tx) (front : IsPrefix earlier transactions) (follow : FollowFromNew transactions) where
-  all_survive : (disk : Disk) → AllStand earlier disk → Survive transactions (length earlier) disk
+module _ {origin : Origin} (earlier transactions : List Tx) (front : IsPrefix earlier transactions) (follow : FollowFrom origin transactions) where
+  all_survive : (disk : Disk) → AllStand origin earlier disk → Survive origin transactions (length earlier) disk
   all_survive disk all = survive_longer earlier transactions (length earlier) disk front
-      (λ image fair. (length earlier, omega arith, omega arith, subst (λ txs. StandsAfter txs image) (sym (all_taken earlier)) (all image fair)))
+      (λ image fair. (length earlier, omega arith, omega arith, subst (λ txs. StandsAfter origin txs image) (sym (all_taken earlier)) (all image fair)))
 
   -- these are so many of them all
   earlier_taken : (earlier ≡ take (length earlier) transactions) × (length earlier ≤ length transactions)
@@ -157,8 +153,8 @@ module _ (earlier transactions : List Tx) (front : IsPrefix earlier transactions
       let longer = front_longer earlier transactions (length earlier) front (omega arith) in
       (sym (all_taken earlier) ∙ longer.0, longer.1)
 
-  no_fewer : (older newer : Disk) → AllStand earlier older → AllStand earlier newer → (head : Head) → MayBegin head older newer
-      → NoFewerSurvive transactions older newer
+  no_fewer : (older newer : Disk) → AllStand origin earlier older → AllStand origin earlier newer → (head : Head) → MayBegin head older newer
+      → NoFewerSurvive origin transactions older newer
   no_fewer older newer before now head may least survive image fair =
       let taken = earlier_taken in
       let short = taken.1 in
@@ -166,8 +162,8 @@ module _ (earlier transactions : List Tx) (front : IsPrefix earlier transactions
       let found = survive was its in
       let enough = found.1 in
       let same : length earlier ≡ found.0 = counted_once transactions (length earlier) found.0 was follow short found.2
-      (subst (λ txs. StandsAfter txs was) taken.0 (before was its)) found.3 in
-      (length earlier, omega arith, short, subst (λ txs. StandsAfter txs image) taken.0 (now image fair))
+      (subst (λ txs. StandsAfter origin txs was) taken.0 (before was its)) found.3 in
+      (length earlier, omega arith, short, subst (λ txs. StandsAfter origin txs image) taken.0 (now image fair))
     where
       left_before : IsFair older image ⊎ HasBegun head older image → (was : Files) × IsFair older was
       left_before (inl before) = (image, before)
@@ -175,18 +171,18 @@ module _ (earlier transactions : List Tx) (front : IsPrefix earlier transactions
 
   pub begins_survive : (memory : memory.Recovered) (found : Reached) (old new : Option (List Disk)) (head : Head) (own first : Ids)
       → IsDurableAt memory found old → head.clock ≡ memory.clock → head.snapshot ≡ false → ids_in head ≡ unwrap_or memory.ids own → own ≡ first
-      → IfKnown old (λ disk past. StandsAfter earlier disk.now) → IfKnown old (λ disk past. Moments (MayBegin head disk) (MayBegin head) new disk past)
-      → IfKnown old (λ disk past. Moments (Survive transactions (length earlier)) (NoFewerSurvive transactions) new disk past)
+      → IfKnown old (λ disk past. StandsAfter origin earlier disk.now) → IfKnown old (λ disk past. Moments (MayBegin head disk) (MayBegin head) new disk past)
+      → IfKnown old (λ disk past. Moments (Survive origin transactions (length earlier)) (NoFewerSurvive origin transactions) new disk past)
   begins_survive memory found old new head own first s clock kind ids its after moments = told_both old from_start s.told (told_both old both after moments)
     where
       Known : Disk → List Disk → Type 0
-      Known disk past = StandsAfter earlier disk.now × Moments (MayBegin head disk) (MayBegin head) new disk past
+      Known disk past = StandsAfter origin earlier disk.now × Moments (MayBegin head disk) (MayBegin head) new disk past
 
-      both : (disk : Disk) (past : List Disk) → StandsAfter earlier disk.now → Moments (MayBegin head disk) (MayBegin head) new disk past → Known disk past
+      both : (disk : Disk) (past : List Disk) → StandsAfter origin earlier disk.now → Moments (MayBegin head disk) (MayBegin head) new disk past → Known disk past
       both disk past one other = (one, other)
 
       from_start : (disk : Disk) (past : List Disk) → IsDirectoryState disk.now (Ok found) × AllDurable disk × (disk.older ≡ finite.empty) → Known disk past
-          → Moments (Survive transactions (length earlier)) (NoFewerSurvive transactions) new disk past
+          → Moments (Survive origin transactions (length earlier)) (NoFewerSurvive origin transactions) new disk past
       from_start disk past durable known =
           let all = all_stand disk found durable.1 durable.2 durable.0 head first (clock ∙ s.stands.clock) kind
           (ids ∙ ap (unwrap_or memory.ids) its ∙ kept_ids first memory.ids found.ids s.stands.ids) earlier known.0 in
@@ -201,51 +197,52 @@ told_across X before after alike known = told_then before after (λ disk past. X
     (told_weaker before (λ disk past is. where_told after (λ disk past. X) (λ disk past told. is)) known)
 
 -- the directory recovers the same transactions when it is made durable
-pub made_durable_after : (earlier : List Tx) (memory : memory.Recovered) (found : Reached) (old read middle after : Option (List Disk)) → read ≡ old → middle ≡ read
-    → KnownAlike middle after → Recovers earlier old → IfKnown read (λ disk past. IsDirectoryState disk.now (Ok found)) → IsDurableAt memory found after
-    → IfKnown after (λ disk past. StandsAfter earlier disk.now)
-made_durable_after earlier memory found old read middle after same still alike recovers is s =
+pub made_durable_after : {origin : Origin} (earlier : List Tx) (memory : memory.Recovered) (found : Reached) (old read middle after : Option (List Disk))
+    → read ≡ old → middle ≡ read → KnownAlike middle after → Recovers origin earlier old → IfKnown read (λ disk past. IsDirectoryState disk.now (Ok found))
+    → IsDurableAt memory found after → IfKnown after (λ disk past. StandsAfter origin earlier disk.now)
+made_durable_after {origin} earlier memory found old read middle after same still alike recovers is s =
     told_both after stands s.told
     (told_across Comes middle after alike
     (subst (λ states. IfKnown states (λ disk past. Comes)) (sym (still ∙ same))
     (told_both old comes recovers.told (subst (λ states. IfKnown states (λ disk past. IsDirectoryState disk.now (Ok found))) same is))))
   where
     Comes : Type 0
-    Comes = (found.state ≡ state_after first_state earlier) × (found.clock ≡ clock_after nothing_yet.clock earlier)
+    Comes = (found.state ≡ state_after origin.state earlier) × (found.clock ≡ clock_after origin.clock earlier)
 
-    comes : (disk : Disk) (past : List Disk) → StandsAfter earlier disk.now × Survive earlier 0 disk → IsDirectoryState disk.now (Ok found) → Comes
+    comes : (disk : Disk) (past : List Disk) → StandsAfter origin earlier disk.now × Survive origin earlier 0 disk → IsDirectoryState disk.now (Ok found) → Comes
     comes disk past known is =
         let same = one_state disk.now found known.0.reached is known.0.stands in
         (same.0 ∙ known.0.state, same.1 ∙ known.0.clock)
 
     stands : (disk : Disk) (past : List Disk) → IsDirectoryState disk.now (Ok found) × AllDurable disk × (disk.older ≡ finite.empty) → Comes
-        → StandsAfter earlier disk.now
+        → StandsAfter origin earlier disk.now
     stands disk past durable came = record { reached = found; stands = durable.0; state = came.0; clock = came.1 }
 
 -- what has so many has none or more
-pub some_survive : (transactions : List Tx) (least : ℕ) (old new : Option (List Disk))
-    → IfKnown old (λ disk past. Moments (Survive transactions least) (NoFewerSurvive transactions) new disk past)
-    → IfKnown old (λ disk past. Moments (Survive transactions 0) (NoFewerSurvive transactions) new disk past)
-some_survive transactions least old new = told_weaker old (λ disk past.
+pub some_survive : (origin : Origin) (transactions : List Tx) (least : ℕ) (old new : Option (List Disk))
+    → IfKnown old (λ disk past. Moments (Survive origin transactions least) (NoFewerSurvive origin transactions) new disk past)
+    → IfKnown old (λ disk past. Moments (Survive origin transactions 0) (NoFewerSurvive origin transactions) new disk past)
+some_survive origin transactions least old new = told_weaker old (λ disk past.
     weaker (λ next survive image fair. let found = survive image fair in (found.0, omega arith, found.2, found.3)) (λ older newer survive step. step) new disk past)
 
 -- a call that changed nothing
-pub unchanged_survive : (transactions : List Tx) (old new : Option (List Disk)) → new ≡ old
-    → IfKnown old (λ disk past. Moments (Survive transactions 0) (NoFewerSurvive transactions) new disk past)
-unchanged_survive transactions old new same =
-    subst (λ states. IfKnown old (λ disk past. Moments (Survive transactions 0) (NoFewerSurvive transactions) states disk past)) (sym same)
-    (no_moments (λ start. Survive transactions 0) (NoFewerSurvive transactions) old)
+pub unchanged_survive : (origin : Origin) (transactions : List Tx) (old new : Option (List Disk)) → new ≡ old
+    → IfKnown old (λ disk past. Moments (Survive origin transactions 0) (NoFewerSurvive origin transactions) new disk past)
+unchanged_survive origin transactions old new same =
+    subst (λ states. IfKnown old (λ disk past. Moments (Survive origin transactions 0) (NoFewerSurvive origin transactions) states disk past)) (sym same)
+    (no_moments (λ start. Survive origin transactions 0) (NoFewerSurvive origin transactions) old)
 
 -- and calls since which a crash leaves nothing new
-pub left_survive : (earlier transactions : List Tx) (old middle new : Option (List Disk)) → IsPrefix earlier transactions → middle ≡ old
-    → Recovers earlier old → LeaveNoOther middle new
-    → IfKnown old (λ disk past. Moments (Survive transactions 0) (NoFewerSurvive transactions) new disk past)
-left_survive earlier transactions old middle new front same recovers leave =
+pub left_survive : {origin : Origin} (earlier transactions : List Tx) (old middle new : Option (List Disk)) → IsPrefix earlier transactions → middle ≡ old
+    → Recovers origin earlier old → LeaveNoOther middle new
+    → IfKnown old (λ disk past. Moments (Survive origin transactions 0) (NoFewerSurvive origin transactions) new disk past)
+left_survive {origin} earlier transactions old middle new front same recovers leave =
     told_both old by_steps recovers.told
     (subst (λ states. LeaveNoOther states new) same leave)
   where
-    by_steps : (disk : Disk) (past : List Disk) → StandsAfter earlier disk.now × Survive earlier 0 disk → Moments (LeavesNoOther disk) LeavesNoOther new disk past
-        → Moments (Survive transactions 0) (NoFewerSurvive transactions) new disk past
+    by_steps : (disk : Disk) (past : List Disk) → StandsAfter origin earlier disk.now × Survive origin earlier 0 disk
+        → Moments (LeavesNoOther disk) LeavesNoOther new disk past
+        → Moments (Survive origin transactions 0) (NoFewerSurvive origin transactions) new disk past
     by_steps disk past known =
         let before = survive_longer earlier transactions 0 disk front known.1 in
         weaker (λ next leaves image fair. before image (leaves image fair)) (λ older newer leaves step least survive image fair. survive image (step image fair))
@@ -254,13 +251,14 @@ left_survive earlier transactions old middle new front same recovers leave =
 -- ---- what the directory reads as while it is opened
 
 -- a call that changed nothing
-pub unchanged_reads : (transactions : List Tx) (old new : Option (List Disk)) → new ≡ old → ReadMost transactions old new
-unchanged_reads transactions old new same =
-    subst (ReadMost transactions old) (sym same) (no_moments (λ start. ReadsMost transactions) (λ older newer. ⊤) old)
+pub unchanged_reads : (origin : Origin) (transactions : List Tx) (old new : Option (List Disk)) → new ≡ old → ReadMost origin transactions old new
+unchanged_reads origin transactions old new same =
+    subst (ReadMost origin transactions old) (sym same) (no_moments (λ start. ReadsMost origin transactions) (λ older newer. ⊤) old)
 
 -- calls that clean it
-pub durable_reads : (earlier transactions : List Tx) (old middle new : Option (List Disk)) → IsPrefix earlier transactions → middle ≡ old
-    → Recovers earlier old → LeaveNoOther middle new → Steps (λ older newer. SameContents older.now newer.now) middle new → ReadMost transactions old new
-durable_reads earlier transactions old middle new front same recovers leave reads =
-    clean_reads_most earlier transactions old new front recovers.told (subst (λ states. LeaveNoOther states new) same leave)
+pub durable_reads : {origin : Origin} (earlier transactions : List Tx) (old middle new : Option (List Disk)) → IsPrefix earlier transactions → middle ≡ old
+    → Recovers origin earlier old → LeaveNoOther middle new → Steps (λ older newer. SameContents older.now newer.now) middle new
+    → ReadMost origin transactions old new
+durable_reads {origin} earlier transactions old middle new front same recovers leave reads =
+    clean_reads_most origin earlier transactions old new front recovers.told (subst (λ states. LeaveNoOther states new) same leave)
     (subst (λ states. Steps (λ older newer. SameContents older.now newer.now) states new) same reads)

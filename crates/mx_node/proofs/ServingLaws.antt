@@ -15,12 +15,12 @@ use Rattle.mx_xlog.specs.Headers.{IsHeader, header_of}
 use Rattle.mx_xlog.specs.Reading.{blocks_of}
 use Rattle.mx_xlog.proofs.ReadingLaws.{blocks_of_nothing}
 use Rattle.mx_row.specs.declared.tx.Tx.{Tx}
-use Rattle.mx_model.specs.State.{State, first_state}
+use Rattle.mx_model.specs.State.{State}
 use Rattle.mx_model.specs.Answers.{state_after_rows}
 use Rattle.mx_model.specs.Transactions.{state_after}
 use Rattle.mx_row.specs.Clocks.{clock_after, clock_after_one}
 use Rattle.mx_row.specs.Rows.{transaction_text}
-use Rattle.mx_model.specs.Directories.{Named, Reached, AllFollow, Continues, ids_in, nothing_yet}
+use Rattle.mx_model.specs.Directories.{Named, Reached, ReadAll, Origin, AllFollow, Continues, ids_in, origin_of, reached_at}
 use Rattle.mx_xlog.specs.Files.{ReadsAs}
 use Rattle.mx_files.specs.Names.{is_journal, is_snapshot, same_bytes, counts}
 use Rattle.mx_model.specs.Histories.{Base, History, Took, IsLegal, ledger_of, journal_of}
@@ -28,7 +28,7 @@ use Rattle.mx_files.proofs.NameLaws.{journal_name-is_journal}
 use Rattle.mx_model.proofs.HistoryLaws.{state_after-append}
 use Rattle.mx_row.proofs.ClockLaws.{clock_after-append}
 use Rattle.mx_model.proofs.CommitLaws.{commits_follow}
-use Rattle.mx_model.proofs.DirectoryLaws.{ReadAll, continues_same, names_of, names_same, stands_after, same_itself}
+use Rattle.mx_model.proofs.DirectoryLaws.{continues_same, names_of, names_same, stands_after, same_itself}
 use Rattle.mx_model.proofs.TransactionLaws.{after_blocks_again}
 use Rattle.mx_journal.proofs.BlockLaws.{blocks_again}
 use Rattle.mx_engine.specs.declared.engine.Engine.{Engine}
@@ -40,7 +40,7 @@ use Rattle.mx_images.specs.Changes.{SameOthers}
 use Rattle.mx_images.proofs.MomentLaws.{both_moments, weaker, weaker_from}
 use Rattle.mx_images.proofs.ToldLaws.{told_weaker, told_both}
 use Rattle.mx_node.specs.Ready.{Behind, Ready, taken_of}
-use Rattle.mx_model.specs.Survival.{StandsAfter, Survive, NoFewerSurvive, ReadsMost, FollowFromNew, ComeTo, Extend, Lasts}
+use Rattle.mx_model.specs.Survival.{StandsAfter, Survive, NoFewerSurvive, ReadsMost, FollowFrom, ComeTo, Extend, Lasts}
 use Rattle.mx_model.proofs.CountLaws.{counted_once}
 use Rattle.mx_model.proofs.ImageLaws.{fair_now, leaves_some, reads_again, left_whole, read_in_image, journal_counts, snapshot_counts, WasRead, all_were_read}
 use Rattle.mx_node.proofs.ReadyLaws.{IsOnDisk}
@@ -111,12 +111,13 @@ module _ (name : List ℕ) (disk now : Disk) (image : Files) (synced : AllDurabl
       let are_journals = subst (AllByRecursion (λ q. is_journal q ≡ true)) c.names (all_pass is_journal (finite.keys disk.now)) in
       record {
         earlier = c.earlier;
+        origin = c.origin;
         reached = c.reached;
-        no_snapshot = snapshots ∙ c.no_snapshot;
+        begins = ap origin_of snapshots ∙ c.begins;
         names = journals ∙ c.names;
         others = c.others;
         reads = reads_in_image c.earlier (of_names (λ q. is_journal q ≡ true) c.earlier (name ∷ []) are_journals) c.others
-            (all_were_read c.earlier nothing_yet c.reached c.reaches) c.reads;
+            (all_were_read c.earlier (reached_at c.origin) c.reached c.reaches) c.reads;
         reaches = c.reaches;
         ids = c.ids;
         state = c.state;
@@ -165,9 +166,9 @@ take_behind (x ∷ xs) ys count =
     let one : suc (length xs) + count ≡ suc (length xs + count) = omega arith in
     ap (λ (n : ℕ). take n (x ∷ (xs ++ ys))) one ∙ ap (λ l. x ∷ l) (take_behind xs ys count)
 
--- The journal of this head goes on from the base, to which the earlier transactions came, and it is for these transactions,
--- the first ones of all after the earlier ones.
-pub record Served (base : Base) (head : Head) (txs earlier transactions : List Tx) (disk : Disk) : Type 0 where
+-- The journal of this head goes on from the base, to which the earlier transactions came from the origin, and it is for these
+-- transactions, the first ones of all after the earlier ones.
+pub record Served (origin : Origin) (base : Base) (head : Head) (txs earlier transactions : List Tx) (disk : Disk) : Type 0 where
   pub begins : head.clock ≡ base.clock
   pub whose : ids_in head ≡ base.ids
   pub kind : head.snapshot ≡ false
@@ -176,9 +177,9 @@ pub record Served (base : Base) (head : Head) (txs earlier transactions : List T
   pub synced : AllDurable disk
   pub no_older : disk.older ≡ finite.empty
   pub follow : AllFollow base.state base.clock txs
-  pub comes : ComeTo earlier base
+  pub comes : ComeTo origin earlier base
   pub front : IsPrefix (earlier ++ txs) transactions
-  pub from_new : FollowFromNew transactions
+  pub from_origin : FollowFrom origin transactions
 
 -- no other file changed, and after any crash the journal's file has so many transactions at least
 abbrev pub IsMoment : Head → List Tx → ℕ → Disk → Disk → Type 0
@@ -192,7 +193,8 @@ Writes head txs least disk new past =
 as_it_was : (name : List ℕ) (disk : Disk) → SameOthers name disk disk
 as_it_was name disk = record { files = λ other differs. refl; older = refl }
 
-module _ (base : Base) (head : Head) (txs earlier transactions : List Tx) (disk : Disk) (served : Served base head txs earlier transactions disk) where
+module _ {origin : Origin} (base : Base) (head : Head) (txs earlier transactions : List Tx) (disk : Disk)
+    (served : Served origin base head txs earlier transactions disk) where
   front_of_all : (count : ℕ) → count ≤ length txs
       → (take (length earlier + count) transactions ≡ earlier ++ take count txs) × (length earlier + count ≤ length transactions)
   front_of_all count few =
@@ -204,7 +206,7 @@ module _ (base : Base) (head : Head) (txs earlier transactions : List Tx) (disk 
 
   -- files that go on from the base, where the journal's has the first ones of its transactions
   pub image_stands : (image : Files) (count : ℕ) → Continues base (name_of head) image → count ≤ length txs → HasFile head (take count txs) image
-      → StandsAfter (take (length earlier + count) transactions) image
+      → StandsAfter origin (take (length earlier + count) transactions) image
   image_stands image count continues few (file, there, reads) =
       let some = take count txs in
       let name = name_of head in
@@ -215,20 +217,20 @@ module _ (base : Base) (head : Head) (txs earlier transactions : List Tx) (disk 
         reached = reached;
         stands = stands_after base name image file (read_of head some) (Ok reached) continues there reads served.kind (same_itself name) served.begins
             served.whose (after_blocks_again name (length (header_of head)) some begun (all_follow-take base.state base.clock txs count served.follow));
-        state = ap (λ state. state_after state some) (sym served.comes.state) ∙ sym (state_after-append first_state earlier some)
-            ∙ ap (state_after first_state) all;
-        clock = ap (λ clock. clock_after clock some) (sym served.comes.clock) ∙ sym (clock_after-append nothing_yet.clock earlier some)
-            ∙ ap (clock_after nothing_yet.clock) all;
+        state = ap (λ state. state_after state some) (sym served.comes.state) ∙ sym (state_after-append origin.state earlier some)
+            ∙ ap (state_after origin.state) all;
+        clock = ap (λ clock. clock_after clock some) (sym served.comes.clock) ∙ sym (clock_after-append origin.clock earlier some)
+            ∙ ap (clock_after origin.clock) all;
       }
 
   moment_stands : (now : Disk) (image : Files) (count : ℕ) → SameOthers (name_of head) disk now → IsFair now image → count ≤ length txs
-      → HasFile head (take count txs) image → StandsAfter (take (length earlier + count) transactions) image
+      → HasFile head (take count txs) image → StandsAfter origin (take (length earlier + count) transactions) image
   moment_stands now image count same fair few has =
       image_stands image count
       (continues_in_image (name_of head) disk now image served.synced served.no_older same fair base served.continues served.there (ap is_some has.1)) few has
 
   -- the earlier ones survive, and what the journal's file has
-  pub survives : (now : Disk) (least : ℕ) → IsMoment head txs least disk now → Survive transactions (length earlier + least) now
+  pub survives : (now : Disk) (least : ℕ) → IsMoment head txs least disk now → Survive origin transactions (length earlier + least) now
   survives now least (same, has) image fair =
       let (count, enough, few, file) = has image fair in (
         length earlier + count,
@@ -238,30 +240,30 @@ module _ (base : Base) (head : Head) (txs earlier transactions : List Tx) (disk 
       )
 
   -- a bound for the directory is one for the journal's file
-  bound_of_file : (now : Disk) (least bound : ℕ) → IsMoment head txs least disk now → Survive transactions bound now
+  bound_of_file : (now : Disk) (least bound : ℕ) → IsMoment head txs least disk now → Survive origin transactions bound now
       → HasAtLeast head txs (bound - length earlier) now
   bound_of_file now least bound (same, has) survive image fair =
       let (count, enough, few, file) = has image fair in
       let (number, above, within, stands) = survive image fair in
       let same_number : number ≡ length earlier + count =
-      counted_once transactions number (length earlier + count) image served.from_new within (front_of_all count few).1 stands
+      counted_once transactions number (length earlier + count) image served.from_origin within (front_of_all count few).1 stands
       (moment_stands now image count same fair few file) in
       (count, omega (arith, above, same_number), few, file)
 
-  survive_less : (now : Disk) (least less : ℕ) → less ≤ least → Survive transactions least now → Survive transactions less now
+  survive_less : (now : Disk) (least less : ℕ) → less ≤ least → Survive origin transactions least now → Survive origin transactions less now
   survive_less now least less below survive image fair =
       let (count, enough, few, stands) = survive image fair in
       (count, omega (arith, below, enough), few, stands)
 
   -- where the journal's file has no fewer, no fewer survive
   pub no_fewer_survive : (older newer : Disk) (least : ℕ) → IsMoment head txs least disk older → IsMoment head txs least disk newer
-      → NoFewer head txs older newer → NoFewerSurvive transactions older newer
+      → NoFewer head txs older newer → NoFewerSurvive origin transactions older newer
   no_fewer_survive older newer least before after keeps bound survive =
       let file = keeps (bound - length earlier) (bound_of_file older least bound before survive) in
       survive_less newer (length earlier + (bound - length earlier)) bound (omega arith) (survives newer (bound - length earlier) (after.0, file))
 
   -- the directory reads as the earlier ones, and what the journal's file has
-  moment_reads : (now : Disk) → SameOthers (name_of head) disk now → HasMost head txs now → ReadsMost transactions now
+  moment_reads : (now : Disk) → SameOthers (name_of head) disk now → HasMost head txs now → ReadsMost origin transactions now
   moment_reads now same has =
       let front = front_of_all has.count has.within in
       let goes_on = continues_same base (name_of head) disk.now now.now served.continues same.files served.there (ap is_some has.has.1) in
@@ -277,13 +279,13 @@ module _ (base : Base) (head : Head) (txs earlier transactions : List Tx) (disk 
   -- what the journal's calls leave meanwhile
   pub lasting : (least : ℕ) (new : Option (List Disk)) (past : List Disk) → HasAtLeast head txs least disk
       → Moments (IsMoment head txs least disk) (NoFewer head txs) new disk past
-      → Moments (Survive transactions 0) (NoFewerSurvive transactions) new disk past
+      → Moments (Survive origin transactions 0) (NoFewerSurvive origin transactions) new disk past
   lasting least new past has =
       weaker_from (λ now moment. (moment, survive_less now (length earlier + least) 0 (omega arith) (survives now least moment)))
       (λ older newer before after. no_fewer_survive older newer least before after) new disk past (as_it_was (name_of head) disk, has)
 
   pub reading : (least : ℕ) (new : Option (List Disk)) (past : List Disk) → Writes head txs least disk new past
-      → Moments (ReadsMost transactions) (λ older newer. ⊤) new disk past
+      → Moments (ReadsMost origin transactions) (λ older newer. ⊤) new disk past
   reading least new past (moments, reads) =
       weaker (λ now here. moment_reads now here.0.0 here.1) (λ older newer here step. tt) new disk past
       (both_moments (IsMoment head txs least disk) (HasMost head txs) (NoFewer head txs) (λ older newer. ⊤) new disk past moments reads)
@@ -292,8 +294,8 @@ module _ (base : Base) (head : Head) (txs earlier transactions : List Tx) (disk 
 
 served_by : (base : Base) (history : History) (engine : Engine) (journal : Journal) (states : Option (List Disk)) (disk : Disk)
     → Behind base history engine journal states → IsOnDisk base journal (taken_of base history) disk
-    → (transactions : List Tx) → (all : Extend base history transactions)
-    → Served base journal.head (journal_of base history) all.earlier transactions disk
+    → {origin : Origin} (transactions : List Tx) → (all : Extend origin base history transactions)
+    → Served origin base journal.head (journal_of base history) all.earlier transactions disk
 served_by base history engine journal states disk behind (written, continues, synced, no_older) transactions all = record {
   begins = behind.begins;
   whose = behind.whose;
@@ -305,7 +307,7 @@ served_by base history engine journal states disk behind (written, continues, sy
   follow = commits_follow base history behind.stands.legal;
   comes = all.comes;
   front = all.prefix;
-  from_new = all.follow;
+  from_origin = all.follow;
 }
 
 -- the journal's file has what was taken
@@ -317,12 +319,12 @@ has_taken base history journal disk written =
 
 -- what is durable between two requests survives
 pub behind_keeps : (base : Base) (history : History) (engine : Engine) (journal : Journal) (states : Option (List Disk))
-    → Behind base history engine journal states → (transactions : List Tx) → (all : Extend base history transactions)
-    → IfKnown states (λ disk past. Survive transactions (length (all.earlier ++ taken_of base history)) disk)
-behind_keeps base history engine journal states behind transactions all =
+    → Behind base history engine journal states → (origin : Origin) (transactions : List Tx) → (all : Extend origin base history transactions)
+    → IfKnown states (λ disk past. Survive origin transactions (length (all.earlier ++ taken_of base history)) disk)
+behind_keeps base history engine journal states behind origin transactions all =
     let taken = taken_of base history in
     told_weaker states (λ disk past synced_file.
-    subst (λ (least : ℕ). Survive transactions least disk) (sym (length-append all.earlier taken))
+    subst (λ (least : ℕ). Survive origin transactions least disk) (sym (length-append all.earlier taken))
     (survives base journal.head (journal_of base history) all.earlier transactions disk
     (served_by base history engine journal states disk behind synced_file transactions all) disk (length taken)
     (as_it_was (name_of journal.head) disk, has_taken base history journal disk synced_file.0)))
@@ -336,13 +338,13 @@ pub call_lasts : (base : Base) (history : History) (engine : Engine) (journal : 
     → Lasts base history old new
 call_lasts base history engine journal old new behind alike writes = record {
   told = alike;
-  moments = λ transactions all.
+  moments = λ origin transactions all.
       told_both old (λ disk past synced_file shown.
       lasting base journal.head (journal_of base history) all.earlier transactions disk
       (served_by base history engine journal old disk behind synced_file transactions all) (length (taken_of base history)) new past
       (has_taken base history journal disk synced_file.0) (shown synced_file.0).0)
       behind.written writes;
-  reads = λ transactions all.
+  reads = λ origin transactions all.
       told_both old (λ disk past synced_file shown.
       reading base journal.head (journal_of base history) all.earlier transactions disk
       (served_by base history engine journal old disk behind synced_file transactions all) (length (taken_of base history)) new past

@@ -5,25 +5,27 @@ ghost use Rattle.std.specs.FinMap as finite;
 ghost use Rattle.mx_outside.specs.Disks.{Disk, IsImage};
 ghost use Rattle.mx_row.specs.declared.tx.Tx.{Tx};
 ghost use Rattle.mx_images.specs.Fair.{IsFairEnd};
-ghost use Rattle.mx_model.specs.Survival.{FollowFromNew, ReadsMost, Recovers, Survive};
+ghost use Rattle.mx_model.specs.Directories.{Origin, new_database};
+ghost use Rattle.mx_model.specs.Survival.{FollowFrom, ReadsMost, Recovers, Survive};
 
-/// A theorem, which does nothing when it is called: a directory without files recovers no transaction.
+/// A theorem, which does nothing when it is called: a directory without files recovers to a new
+/// database, with no transaction.
 pub fn an_empty_directory_recovers()
-    ensures { Recovers [] (Some (record { now = finite.empty; older = finite.empty } ∷ [])) }
+    ensures { Recovers new_database [] (Some (record { now = finite.empty; older = finite.empty } ∷ [])) }
 {}
 
 /// A theorem, which does nothing when it is called: a crash image, where so many transactions
 /// survive, recovers a prefix of them, of at least so many.
 pub fn what_a_crash_leaves_recovers()
-    ensures { (transactions : List Tx) (least : ℕ) (disk image : Disk) → FollowFromNew transactions → Survive transactions least disk
+    ensures { (origin : Origin) (transactions : List Tx) (least : ℕ) (disk image : Disk) → FollowFrom origin transactions → Survive origin transactions least disk
         → IsImage IsFairEnd disk image
-        → (count : ℕ) × (least ≤ count) × (count ≤ length transactions) × Recovers (take count transactions) (Some (image ∷ [])) }
+        → (count : ℕ) × (least ≤ count) × (count ≤ length transactions) × Recovers origin (take count transactions) (Some (image ∷ [])) }
 {}
 
 /// A theorem, which does nothing when it is called: a directory as a killed process leaves it, synced
 /// or not, recovers what it reads as, and that is no less than what survives a crash.
 pub fn what_a_kill_leaves_recovers()
-    ensures { (transactions : List Tx) (least : ℕ) (disk : Disk) (past : List Disk) → FollowFromNew transactions → Survive transactions least disk
-        → ReadsMost transactions disk
-        → (count : ℕ) × (least ≤ count) × (count ≤ length transactions) × Recovers (take count transactions) (Some (disk ∷ past)) }
+    ensures { (origin : Origin) (transactions : List Tx) (least : ℕ) (disk : Disk) (past : List Disk) → FollowFrom origin transactions → Survive origin transactions least disk
+        → ReadsMost origin transactions disk
+        → (count : ℕ) × (least ≤ count) × (count ≤ length transactions) × Recovers origin (take count transactions) (Some (disk ∷ past)) }
 {}

@@ -40,9 +40,9 @@ impl Single {
     ghost use Rattle.mx_journal.specs.declared.fault.JournalFault.TheVariants.{Failed as JournalFailed};
     ghost use Rattle.mx_row.specs.declared.tx.Tx.{Tx};
     ghost use Rattle.mx_model.specs.declared.damage.Damage.{Damage};
-    ghost use Rattle.mx_model.specs.Directories.{IsDirectoryState};
+    ghost use Rattle.mx_model.specs.Directories.{IsDirectoryState, Origin};
     ghost use Rattle.mx_model.specs.Histories.{Base, History};
-    ghost use Rattle.mx_model.specs.Survival.{Lasts, Recovers, FollowFromNew, ReadsMost, Survive, NoFewerSurvive};
+    ghost use Rattle.mx_model.specs.Survival.{Lasts, Recovers, FollowFrom, ReadsMost, Survive, NoFewerSurvive};
     ghost use Rattle.mx_recover.specs.declared.fault.RecoverFault.TheVariants.{Damaged, Failed};
     ghost use Rattle.mx_node.specs.Inputs.{InputUnit, Bytes, Close, connection_of, max_connection};
     ghost use Rattle.mx_node.specs.Views.{unit_view};
@@ -67,10 +67,10 @@ impl Single {
         requires { ids.now.me < 32 }
         ensures serves { IfOk result (λ single. (start : Start) × IsStart start ids.now salt.now (D.states dir.old) × Serves start single [] [] (D.states dir.new)) }
         ensures told { KnownAlike (D.states dir.old) (D.states dir.new) }
-        ensures moments { (earlier transactions : List Tx) → Recovers earlier (D.states dir.old) → IsPrefix earlier transactions → FollowFromNew transactions
-            → IfKnown (D.states dir.old) (λ disk past. Moments (Survive transactions 0) (NoFewerSurvive transactions) (D.states dir.new) disk past) }
-        ensures reads { (earlier transactions : List Tx) → Recovers earlier (D.states dir.old) → IsPrefix earlier transactions → FollowFromNew transactions
-            → IfKnown (D.states dir.old) (λ disk past. Moments (ReadsMost transactions) (λ _ _. ⊤) (D.states dir.new) disk past) }
+        ensures moments { (origin : Origin) (earlier transactions : List Tx) → Recovers origin earlier (D.states dir.old) → IsPrefix earlier transactions → FollowFrom origin transactions
+            → IfKnown (D.states dir.old) (λ disk past. Moments (Survive origin transactions 0) (NoFewerSurvive origin transactions) (D.states dir.new) disk past) }
+        ensures reads { (origin : Origin) (earlier transactions : List Tx) → Recovers origin earlier (D.states dir.old) → IsPrefix earlier transactions → FollowFrom origin transactions
+            → IfKnown (D.states dir.old) (λ disk past. Moments (ReadsMost origin transactions) (λ _ _. ⊤) (D.states dir.new) disk past) }
         ensures others { IfKnown (D.states dir.old) (λ disk past. Moments (λ _. ⊤) KeepsOthers (D.states dir.new) disk past) }
         ensures damaged { (damage : Damage) → result ≡ Err (Damaged damage)
             → IfKnown (D.states dir.old) (λ disk past. IsDirectoryState disk.now (Err damage)) × (D.states dir.new ≡ D.states dir.old) }

@@ -10,8 +10,8 @@ ghost use Rattle.mx_journal.specs.declared.fault.JournalFault.TheVariants.{Faile
 ghost use Rattle.mx_row.specs.declared.tx.Tx.{Tx};
 ghost use Rattle.mx_model.specs.declared.damage.Damage.{Damage};
 ghost use Rattle.mx_model.specs.Directories as files;
-ghost use Rattle.mx_model.specs.Directories.{IsDirectoryState};
-ghost use Rattle.mx_model.specs.Survival.{Recovers, StandsAfter, FollowFromNew, ReadsMost, Survive, NoFewerSurvive};
+ghost use Rattle.mx_model.specs.Directories.{IsDirectoryState, Origin};
+ghost use Rattle.mx_model.specs.Survival.{Recovers, StandsAfter, FollowFrom, ReadsMost, Survive, NoFewerSurvive};
 ghost use Rattle.mx_recover.specs.declared.fault.RecoverFault.TheVariants.{Damaged, Failed};
 ghost use Rattle.mx_recover.specs.Replay.{IsDurableAt};
 ghost use Rattle.mx_node.specs.Starts.{Start, IsStart, base_of};
@@ -42,10 +42,10 @@ pub(crate) fn open<D: Dir>(alloc: Global, dir: &mut D, ids: &Ids) -> Result<Open
     ensures opened { (salt : List ℕ) → IfOk result (λ opened. (start : Start) × IsStart start ids.now salt (D.states dir.old)
         × Ready start.base [] opened.engine opened.journal (D.states dir.new)) }
     ensures told { KnownAlike (D.states dir.old) (D.states dir.new) }
-    ensures moments { (earlier transactions : List Tx) → Recovers earlier (D.states dir.old) → IsPrefix earlier transactions → FollowFromNew transactions
-        → IfKnown (D.states dir.old) (λ disk past. Moments (Survive transactions 0) (NoFewerSurvive transactions) (D.states dir.new) disk past) }
-    ensures reads { (earlier transactions : List Tx) → Recovers earlier (D.states dir.old) → IsPrefix earlier transactions → FollowFromNew transactions
-        → IfKnown (D.states dir.old) (λ disk past. Moments (ReadsMost transactions) (λ _ _. ⊤) (D.states dir.new) disk past) }
+    ensures moments { (origin : Origin) (earlier transactions : List Tx) → Recovers origin earlier (D.states dir.old) → IsPrefix earlier transactions → FollowFrom origin transactions
+        → IfKnown (D.states dir.old) (λ disk past. Moments (Survive origin transactions 0) (NoFewerSurvive origin transactions) (D.states dir.new) disk past) }
+    ensures reads { (origin : Origin) (earlier transactions : List Tx) → Recovers origin earlier (D.states dir.old) → IsPrefix earlier transactions → FollowFrom origin transactions
+        → IfKnown (D.states dir.old) (λ disk past. Moments (ReadsMost origin transactions) (λ _ _. ⊤) (D.states dir.new) disk past) }
     ensures others { IfKnown (D.states dir.old) (λ disk past. Moments (λ _. ⊤) KeepsOthers (D.states dir.new) disk past) }
     ensures damaged { (damage : Damage) → result ≡ Err (Damaged damage)
         → IfKnown (D.states dir.old) (λ disk past. IsDirectoryState disk.now (Err damage)) × (D.states dir.new ≡ D.states dir.old) }
@@ -73,9 +73,9 @@ fn begin<D: Dir>(
     ensures ready { (found : files.Reached) → IsDurableAt reached found (D.states dir.old)
         → IfOk result (λ opened. Ready (base_of ids.now found) [] opened.engine opened.journal (D.states dir.new)) }
     ensures told { KnownAlike (D.states dir.old) (D.states dir.new) }
-    ensures moments { (found : files.Reached) (earlier transactions : List Tx) → IsDurableAt reached found (D.states dir.old)
-        → IfKnown (D.states dir.old) (λ disk past. StandsAfter earlier disk.now) → IsPrefix earlier transactions → FollowFromNew transactions
-        → IfKnown (D.states dir.old) (λ disk past. Moments (Survive transactions (length earlier)) (NoFewerSurvive transactions) (D.states dir.new) disk past) }
+    ensures moments { (found : files.Reached) (origin : Origin) (earlier transactions : List Tx) → IsDurableAt reached found (D.states dir.old)
+        → IfKnown (D.states dir.old) (λ disk past. StandsAfter origin earlier disk.now) → IsPrefix earlier transactions → FollowFrom origin transactions
+        → IfKnown (D.states dir.old) (λ disk past. Moments (Survive origin transactions (length earlier)) (NoFewerSurvive origin transactions) (D.states dir.new) disk past) }
     ensures others { IfKnown (D.states dir.old) (λ disk past. Moments (λ _. ⊤) KeepsOthers (D.states dir.new) disk past) }
     ensures cause { HasCauseOf JournalFailed (D.faults dir.old) (D.faults dir.new) result }
 {

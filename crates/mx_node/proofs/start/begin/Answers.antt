@@ -31,16 +31,16 @@ returns-clause-ready g c = λ found s.
     c.create.ensures.told c.in_ok-journal.ensures.created begins.0 begins.1 begins.2 refl ids
 
 pub returns-in_err-journal-clause-moments : goal.returns-in_err-journal-clause-moments
-returns-in_err-journal-clause-moments g c = λ found earlier transactions s after front follow.
+returns-in_err-journal-clause-moments g c = λ found origin earlier transactions s after front follow.
     begins_survive earlier transactions front follow c.args.reached found _ _ _ c.args.ids.now c.args.ids.now s refl refl
     c.unwrap_or-ids.ensures refl after c.create.ensures.moments
 
 pub returns-in_err-engine-clause-moments : goal.returns-in_err-engine-clause-moments
-returns-in_err-engine-clause-moments g c = λ found earlier transactions s after front follow.
+returns-in_err-engine-clause-moments g c = λ found origin earlier transactions s after front follow.
     begins_survive earlier transactions front follow c.args.reached found _ _ _ c.args.ids.now c.args.ids.now s refl refl
     c.unwrap_or-ids.ensures refl after c.create.ensures.moments
 
 pub returns-clause-moments : goal.returns-clause-moments
-returns-clause-moments g c = λ found earlier transactions s after front follow.
+returns-clause-moments g c = λ found origin earlier transactions s after front follow.
     begins_survive earlier transactions front follow c.args.reached found _ _ _ c.args.ids.now c.args.ids.now s refl refl
     c.unwrap_or-ids.ensures refl after c.create.ensures.moments

@@ -26,22 +26,22 @@ returns-in-Ok-clause-opened g c = λ salt.
     (durable_at c.in_ok-reached.reached reached.0 _ _ _ reached.1 reached.2 c.recover.ensures.states c.make_durable.ensures.told c.in_ok-make_durable.ensures.durable))
 
 pub returns-in_err-reached-clause-moments : goal.returns-in_err-reached-clause-moments
-returns-in_err-reached-clause-moments g c = λ earlier transactions recovers front follow.
-    unchanged_survive transactions _ _ c.recover.ensures.states
+returns-in_err-reached-clause-moments g c = λ origin earlier transactions recovers front follow.
+    unchanged_survive origin transactions _ _ c.recover.ensures.states
 
 pub returns-in_err-make_durable-clause-moments : goal.returns-in_err-make_durable-clause-moments
-returns-in_err-make_durable-clause-moments g c = λ earlier transactions recovers front follow.
+returns-in_err-make_durable-clause-moments g c = λ origin earlier transactions recovers front follow.
     left_survive earlier transactions _ _ _ front c.recover.ensures.states recovers c.make_durable.ensures.moments
 
 pub returns-in-Ok-clause-moments : goal.returns-in-Ok-clause-moments
-returns-in-Ok-clause-moments g c = λ earlier transactions recovers front follow.
+returns-in-Ok-clause-moments g c = λ origin earlier transactions recovers front follow.
     let reached = c.in_ok-reached.ensures.stands in
     let durable = durable_at c.in_ok-reached.reached reached.0 _ _ _ reached.1 reached.2 c.recover.ensures.states c.make_durable.ensures.told
     c.in_ok-make_durable.ensures.durable in
-    joined (Survive transactions 0) (NoFewerSurvive transactions) _ _ _
+    joined (Survive origin transactions 0) (NoFewerSurvive origin transactions) _ _ _
     (left_survive earlier transactions _ _ _ front c.recover.ensures.states recovers c.make_durable.ensures.moments)
-    (some_survive transactions (length earlier) _ _
-    (c.begin.ensures.moments reached.0 earlier transactions durable
+    (some_survive origin transactions (length earlier) _ _
+    (c.begin.ensures.moments reached.0 origin earlier transactions durable
     (made_durable_after earlier c.in_ok-reached.reached reached.0 _ _ _ _ refl c.recover.ensures.states c.make_durable.ensures.told recovers
     reached.2 durable)
     front follow))
@@ -57,14 +57,14 @@ returns-in-Ok-clause-told g c =
     told_chain _ _ _ (told_chain _ _ _ (told_same _ _ c.recover.ensures.states) c.make_durable.ensures.told) c.begin.ensures.told
 
 pub returns-in-Err-Failed-clause-moments : goal.returns-in-Err-Failed-clause-moments
-returns-in-Err-Failed-clause-moments g c = λ earlier transactions recovers front follow.
+returns-in-Err-Failed-clause-moments g c = λ origin earlier transactions recovers front follow.
     let reached = c.in_ok-reached.ensures.stands in
     let durable = durable_at c.in_ok-reached.reached reached.0 _ _ _ reached.1 reached.2 c.recover.ensures.states c.make_durable.ensures.told
     c.in_ok-make_durable.ensures.durable in
-    joined (Survive transactions 0) (NoFewerSurvive transactions) _ _ _
+    joined (Survive origin transactions 0) (NoFewerSurvive origin transactions) _ _ _
     (left_survive earlier transactions _ _ _ front c.recover.ensures.states recovers c.make_durable.ensures.moments)
-    (some_survive transactions (length earlier) _ _
-    (c.begin.ensures.moments reached.0 earlier transactions durable
+    (some_survive origin transactions (length earlier) _ _
+    (c.begin.ensures.moments reached.0 origin earlier transactions durable
     (made_durable_after earlier c.in_ok-reached.reached reached.0 _ _ _ _ refl c.recover.ensures.states c.make_durable.ensures.told recovers
     reached.2 durable)
     front follow))
@@ -74,14 +74,14 @@ returns-in-Err-Failed-clause-told g c =
     told_chain _ _ _ (told_chain _ _ _ (told_same _ _ c.recover.ensures.states) c.make_durable.ensures.told) c.begin.ensures.told
 
 pub returns-in-Err-NoMemory-clause-moments : goal.returns-in-Err-NoMemory-clause-moments
-returns-in-Err-NoMemory-clause-moments g c = λ earlier transactions recovers front follow.
+returns-in-Err-NoMemory-clause-moments g c = λ origin earlier transactions recovers front follow.
     let reached = c.in_ok-reached.ensures.stands in
     let durable = durable_at c.in_ok-reached.reached reached.0 _ _ _ reached.1 reached.2 c.recover.ensures.states c.make_durable.ensures.told
     c.in_ok-make_durable.ensures.durable in
-    joined (Survive transactions 0) (NoFewerSurvive transactions) _ _ _
+    joined (Survive origin transactions 0) (NoFewerSurvive origin transactions) _ _ _
     (left_survive earlier transactions _ _ _ front c.recover.ensures.states recovers c.make_durable.ensures.moments)
-    (some_survive transactions (length earlier) _ _
-    (c.begin.ensures.moments reached.0 earlier transactions durable
+    (some_survive origin transactions (length earlier) _ _
+    (c.begin.ensures.moments reached.0 origin earlier transactions durable
     (made_durable_after earlier c.in_ok-reached.reached reached.0 _ _ _ _ refl c.recover.ensures.states c.make_durable.ensures.told recovers
     reached.2 durable)
     front follow))
@@ -113,48 +113,48 @@ returns-in-Err-NoMemory-clause-others g c =
     (steps_then KeepsOthers _ _ _ (steps_same KeepsOthers _ _ c.recover.ensures.states) c.make_durable.ensures.others) c.begin.ensures.others
 
 pub returns-in_err-reached-clause-reads : goal.returns-in_err-reached-clause-reads
-returns-in_err-reached-clause-reads g c = λ earlier transactions recovers front follow.
-    unchanged_reads transactions _ _ c.recover.ensures.states
+returns-in_err-reached-clause-reads g c = λ origin earlier transactions recovers front follow.
+    unchanged_reads origin transactions _ _ c.recover.ensures.states
 
 pub returns-in_err-make_durable-clause-reads : goal.returns-in_err-make_durable-clause-reads
-returns-in_err-make_durable-clause-reads g c = λ earlier transactions recovers front follow.
+returns-in_err-make_durable-clause-reads g c = λ origin earlier transactions recovers front follow.
     durable_reads earlier transactions _ _ _ front c.recover.ensures.states recovers c.make_durable.ensures.moments c.make_durable.ensures.reads
 
 pub returns-in-Ok-clause-reads : goal.returns-in-Ok-clause-reads
-returns-in-Ok-clause-reads g c = λ earlier transactions recovers front follow.
+returns-in-Ok-clause-reads g c = λ origin earlier transactions recovers front follow.
     let reached = c.in_ok-reached.ensures.stands in
     let durable = durable_at c.in_ok-reached.reached reached.0 _ _ _ reached.1 reached.2 c.recover.ensures.states c.make_durable.ensures.told
     c.in_ok-make_durable.ensures.durable in
-    joined (ReadsMost transactions) (λ older newer. ⊤) _ _ _
+    joined (ReadsMost origin transactions) (λ older newer. ⊤) _ _ _
     (durable_reads earlier transactions _ _ _ front c.recover.ensures.states recovers c.make_durable.ensures.moments c.make_durable.ensures.reads)
-    (survivors_read earlier transactions _ _ front
-    (c.begin.ensures.moments reached.0 earlier earlier durable
+    (survivors_read origin earlier transactions _ _ front
+    (c.begin.ensures.moments reached.0 origin earlier earlier durable
     (made_durable_after earlier c.in_ok-reached.reached reached.0 _ _ _ _ refl c.recover.ensures.states c.make_durable.ensures.told recovers
     reached.2 durable)
     ([], append-nil earlier) recovers.follow))
 
 pub returns-in-Err-Failed-clause-reads : goal.returns-in-Err-Failed-clause-reads
-returns-in-Err-Failed-clause-reads g c = λ earlier transactions recovers front follow.
+returns-in-Err-Failed-clause-reads g c = λ origin earlier transactions recovers front follow.
     let reached = c.in_ok-reached.ensures.stands in
     let durable = durable_at c.in_ok-reached.reached reached.0 _ _ _ reached.1 reached.2 c.recover.ensures.states c.make_durable.ensures.told
     c.in_ok-make_durable.ensures.durable in
-    joined (ReadsMost transactions) (λ older newer. ⊤) _ _ _
+    joined (ReadsMost origin transactions) (λ older newer. ⊤) _ _ _
     (durable_reads earlier transactions _ _ _ front c.recover.ensures.states recovers c.make_durable.ensures.moments c.make_durable.ensures.reads)
-    (survivors_read earlier transactions _ _ front
-    (c.begin.ensures.moments reached.0 earlier earlier durable
+    (survivors_read origin earlier transactions _ _ front
+    (c.begin.ensures.moments reached.0 origin earlier earlier durable
     (made_durable_after earlier c.in_ok-reached.reached reached.0 _ _ _ _ refl c.recover.ensures.states c.make_durable.ensures.told recovers
     reached.2 durable)
     ([], append-nil earlier) recovers.follow))
 
 pub returns-in-Err-NoMemory-clause-reads : goal.returns-in-Err-NoMemory-clause-reads
-returns-in-Err-NoMemory-clause-reads g c = λ earlier transactions recovers front follow.
+returns-in-Err-NoMemory-clause-reads g c = λ origin earlier transactions recovers front follow.
     let reached = c.in_ok-reached.ensures.stands in
     let durable = durable_at c.in_ok-reached.reached reached.0 _ _ _ reached.1 reached.2 c.recover.ensures.states c.make_durable.ensures.told
     c.in_ok-make_durable.ensures.durable in
-    joined (ReadsMost transactions) (λ older newer. ⊤) _ _ _
+    joined (ReadsMost origin transactions) (λ older newer. ⊤) _ _ _
     (durable_reads earlier transactions _ _ _ front c.recover.ensures.states recovers c.make_durable.ensures.moments c.make_durable.ensures.reads)
-    (survivors_read earlier transactions _ _ front
-    (c.begin.ensures.moments reached.0 earlier earlier durable
+    (survivors_read origin earlier transactions _ _ front
+    (c.begin.ensures.moments reached.0 origin earlier earlier durable
     (made_durable_after earlier c.in_ok-reached.reached reached.0 _ _ _ _ refl c.recover.ensures.states c.make_durable.ensures.told recovers
     reached.2 durable)
     ([], append-nil earlier) recovers.follow))
