@@ -4,10 +4,9 @@ use Rattle.std.specs.Prelude.{⊤, Option, Some, None, Result, Ok, Err, IsSomeAn
 use Rattle.std.proofs.lemmas.List.{append-nil, take_at, take-append-le}
 use mathlib.Core.List.{IsPrefix}
 use Rattle.mx_outside.specs.Disks.{Disk, IfKnown, KnownAlike}
-use Rattle.mx_outside.specs.Moments.{Each, Moments, newest}
+use Rattle.mx_outside.specs.Moments.{Each, Moments}
 use Rattle.mx_row.specs.declared.tx.Tx.{Tx}
-use Rattle.mx_model.specs.State.{first_state}
-use Rattle.mx_model.specs.Directories.{AllFollow, nothing_yet}
+use Rattle.mx_model.specs.Directories.{Origin, AllFollow}
 use Rattle.mx_model.specs.Histories.{Base, History, IsLegal, journal_of}
 use Rattle.mx_row.specs.Clocks.{clock_after}
 use Rattle.mx_model.proofs.CommitLaws.{all_follow-append, commits_follow}
@@ -18,7 +17,7 @@ use Rattle.mx_model.specs.Gate.{confirmed_part}
 use Rattle.mx_node.specs.Starts.{Start}
 use Rattle.mx_top.specs.Starts.{Begins}
 use Rattle.mx_node.specs.Interrupted.{StepsSurvive}
-use Rattle.mx_model.specs.Survival.{Survive, NoFewerSurvive, ReadsMost, StandsAfter, FollowFromNew, Recovers, ComeTo, Extend, Lasts}
+use Rattle.mx_model.specs.Survival.{Survive, NoFewerSurvive, ReadsMost, StandsAfter, FollowFrom, Recovers, ComeTo, Extend, Lasts}
 use Rattle.mx_top.specs.declared.status.Status.{Status}
 use Rattle.mx_top.specs.declared.status.Status.TheVariants as status
 use Rattle.mx_top.specs.declared.stop.Stop.{Stop}
@@ -29,18 +28,19 @@ use Rattle.mx_top.specs.TraceOutput.{trace_output}
 use Rattle.mx_top.specs.Runs.{OutputSeen, StillPassedOn, RecoversAlways, RecoversAsItIs, RecoversNow, all_commits, Served, NotOpened, Untouched, RunSeen}
 
 -- what an opening does, said for all that may be committed after it
-abbrev pub Opens : List Tx → (old new : Option (List Disk)) → Type 0
-Opens earlier old new = (transactions : List Tx) → IsPrefix earlier transactions → FollowFromNew transactions
-    → IfKnown old (λ disk past. Moments (Survive transactions 0) (NoFewerSurvive transactions) new disk past)
-    × IfKnown old (λ disk past. Moments (ReadsMost transactions) (λ older newer. ⊤) new disk past)
+abbrev pub Opens : Origin → List Tx → (old new : Option (List Disk)) → Type 0
+Opens origin earlier old new = (transactions : List Tx) → IsPrefix earlier transactions → FollowFrom origin transactions
+    → IfKnown old (λ disk past. Moments (Survive origin transactions 0) (NoFewerSurvive origin transactions) new disk past)
+    × IfKnown old (λ disk past. Moments (ReadsMost origin transactions) (λ older newer. ⊤) new disk past)
 
 -- both facts of each moment
-both_always : (commits : List Tx) (old new : Option (List Disk))
-    → IfKnown old (λ disk past. Moments (Survive commits 0) (NoFewerSurvive commits) new disk past)
-    → IfKnown old (λ disk past. Moments (ReadsMost commits) (λ older newer. ⊤) new disk past) → RecoversAlways commits old new
-both_always commits old new one other =
+both_always : (origin : Origin) (commits : List Tx) (old new : Option (List Disk))
+    → IfKnown old (λ disk past. Moments (Survive origin commits 0) (NoFewerSurvive origin commits) new disk past)
+    → IfKnown old (λ disk past. Moments (ReadsMost origin commits) (λ older newer. ⊤) new disk past) → RecoversAlways origin commits old new
+both_always origin commits old new one other =
     told_both old
-    (λ disk past survive reads. both_moments (Survive commits 0) (ReadsMost commits) (NoFewerSurvive commits) (λ older newer. ⊤) new disk past survive reads)
+    (λ disk past survive reads.
+    both_moments (Survive origin commits 0) (ReadsMost origin commits) (NoFewerSurvive origin commits) (λ older newer. ⊤) new disk past survive reads)
     one other
 
 -- ---- the last moment
@@ -62,23 +62,25 @@ last_of P old new alike first moments =
     told_then old new (λ disk past. P disk) alike (told_both old (λ disk past here. last_moment P new disk past here) first moments)
 
 -- at the beginning the directory reads as all that it had
-reads_first : (earlier more : List Tx) (disk : Disk) → StandsAfter earlier disk.now → Survive earlier 0 disk → ReadsMost (earlier ++ more) disk
-reads_first earlier more disk after survive = record {
+reads_first : {origin : Origin} (earlier more : List Tx) (disk : Disk) → StandsAfter origin earlier disk.now → Survive origin earlier 0 disk
+    → ReadsMost origin (earlier ++ more) disk
+reads_first {origin} earlier more disk after survive = record {
   count = length earlier;
   within = omega (arith, length-append earlier more);
-  reads = subst (λ txs. StandsAfter txs disk.now) (sym (take_at earlier more (length earlier) refl)) after;
+  reads = subst (λ txs. StandsAfter origin txs disk.now) (sym (take_at earlier more (length earlier) refl)) after;
   most = λ image fair.
       let (count, enough, short, stands) = survive image fair in
-      (count, short, subst (λ txs. StandsAfter txs image) (sym (take-append-le count earlier more short)) stands);
+      (count, short, subst (λ txs. StandsAfter origin txs image) (sym (take-append-le count earlier more short)) stands);
 }
 
-reads_told : (earlier more : List Tx) (states : Option (List Disk)) → Recovers earlier states → IfKnown states (λ disk past. ReadsMost (earlier ++ more) disk)
+reads_told : {origin : Origin} (earlier more : List Tx) (states : Option (List Disk)) → Recovers origin earlier states
+    → IfKnown states (λ disk past. ReadsMost origin (earlier ++ more) disk)
 reads_told earlier more states recovers =
     told_weaker states (λ disk past told. reads_first earlier more disk told.0 told.1) recovers.told
 
 -- the transactions of a directory came to what the run begins with
-comes : (start : Start) (seed : List ℕ) (earlier : List Tx) (disk : Disk) (past : List Disk) → Begins start seed (Some (disk ∷ past))
-    → Recovers earlier (Some (disk ∷ past)) → ComeTo earlier start.base
+comes : {origin : Origin} (start : Start) (seed : List ℕ) (earlier : List Tx) (disk : Disk) (past : List Disk) → Begins start seed (Some (disk ∷ past))
+    → Recovers origin earlier (Some (disk ∷ past)) → ComeTo origin earlier start.base
 comes start seed earlier disk past begins recovers =
     let (reached, stands, is) = begins.based in
     let was = recovers.told.0 in
@@ -88,18 +90,20 @@ comes start seed earlier disk past begins recovers =
       clock = sym was.clock ∙ clock ∙ ap (λ (base : Base). base.clock) (sym is);
     }
 
-follow_all : (earlier : List Tx) (base : Base) (history : History) → ComeTo earlier base → FollowFromNew earlier → IsLegal base history
-    → FollowFromNew (earlier ++ journal_of base history)
-follow_all earlier base history come follow legal =
+follow_all : {origin : Origin} (earlier : List Tx) (base : Base) (history : History) → ComeTo origin earlier base → FollowFrom origin earlier
+    → IsLegal base history → FollowFrom origin (earlier ++ journal_of base history)
+follow_all {origin} earlier base history come follow legal =
     let commits : AllFollow base.state base.clock (journal_of base history) = commits_follow base history legal in
     let state = sym come.state in
-    let clock = sym come.clock in
-    all_follow-append first_state nothing_yet.clock earlier (journal_of base history) follow
-    (subst (λ s. AllFollow s (clock_after nothing_yet.clock earlier) (journal_of base history)) state
-    (subst (λ c. AllFollow base.state c (journal_of base history)) clock commits))
+    let clock = sym come.clock in record {
+      clock = follow.clock;
+      each = all_follow-append origin.state origin.clock earlier (journal_of base history) follow.each
+          (subst (λ s. AllFollow s (clock_after origin.clock earlier) (journal_of base history)) state
+          (subst (λ c. AllFollow base.state c (journal_of base history)) clock commits));
+    }
 
-extends : (earlier : List Tx) (base : Base) (history : History) → ComeTo earlier base → FollowFromNew earlier → IsLegal base history
-    → Extend base history (earlier ++ journal_of base history)
+extends : {origin : Origin} (earlier : List Tx) (base : Base) (history : History) → ComeTo origin earlier base → FollowFrom origin earlier
+    → IsLegal base history → Extend origin base history (earlier ++ journal_of base history)
 extends earlier base history come follow legal = record {
   earlier = earlier;
   comes = come;
@@ -110,65 +114,67 @@ extends earlier base history come follow legal = record {
 -- ---- what the directory recovers
 
 -- each moment has the second of two facts
-only_second : (new : Option (List Disk)) (start : Disk) (past : List Disk) (commits : List Tx)
-    → Moments (λ now. Survive commits 0 now × ReadsMost commits now) (λ older newer. NoFewerSurvive commits older newer × ⊤) new start past
-    → Moments (ReadsMost commits) (λ older newer. ⊤) new start past
-only_second new start past commits =
-    weaker {Q = ReadsMost commits} {S = λ older newer. ⊤} (λ disk both. both.1) (λ older newer here both. tt) new start past
+only_second : (new : Option (List Disk)) (start : Disk) (past : List Disk) (origin : Origin) (commits : List Tx)
+    → Moments (λ now. Survive origin commits 0 now × ReadsMost origin commits now) (λ older newer. NoFewerSurvive origin commits older newer × ⊤)
+    new start past
+    → Moments (ReadsMost origin commits) (λ older newer. ⊤) new start past
+only_second new start past origin commits =
+    weaker {Q = ReadsMost origin commits} {S = λ older newer. ⊤} (λ disk both. both.1) (λ older newer here both. tt) new start past
 
-abbrev Recovered : List Tx → (least : ℕ) → Disk → List Disk → Type 0
-Recovered commits least disk past =
-    (count : ℕ) × (least ≤ count) × (count ≤ length commits) × Recovers (take count commits) (Some (disk ∷ past))
+abbrev Recovered : Origin → List Tx → (least : ℕ) → Disk → List Disk → Type 0
+Recovered origin commits least disk past =
+    (count : ℕ) × (least ≤ count) × (count ≤ length commits) × Recovers origin (take count commits) (Some (disk ∷ past))
 
-module _ (start : Start) (seed : List ℕ) (earlier : List Tx) (history : History) (middle new : Option (List Disk)) (legal : IsLegal start.base history)
-    (lasts : Lasts start.base history middle new) where
+module _ (start : Start) (seed : List ℕ) (origin : Origin) (earlier : List Tx) (history : History) (middle new : Option (List Disk))
+    (legal : IsLegal start.base history) (lasts : Lasts start.base history middle new) where
   -- at each moment
-  always : (old : Option (List Disk)) → Begins start seed old → Recovers earlier old → Opens earlier old middle
-      → RecoversAlways (all_commits earlier start.base history) old new
+  always : (old : Option (List Disk)) → Begins start seed old → Recovers origin earlier old → Opens origin earlier old middle
+      → RecoversAlways origin (all_commits earlier start.base history) old new
   always None begins recovers opens = tt
   always (Some []) begins recovers opens = tt
   always (Some (disk ∷ past)) begins recovers opens =
       let transactions = all_commits earlier start.base history in
       let all = extends earlier start.base history (comes start seed earlier disk past begins recovers) recovers.follow legal in
       let opened = opens transactions (journal_of start.base history, refl) all.follow in
-      both_always transactions (Some (disk ∷ past)) new
-      (joined (Survive transactions 0) (NoFewerSurvive transactions) (Some (disk ∷ past)) middle new opened.0 (lasts.moments transactions all))
-      (joined (ReadsMost transactions) (λ older newer. ⊤) (Some (disk ∷ past)) middle new opened.1 (lasts.reads transactions all))
+      both_always origin transactions (Some (disk ∷ past)) new
+      (joined (Survive origin transactions 0) (NoFewerSurvive origin transactions) (Some (disk ∷ past)) middle new opened.0
+      (lasts.moments origin transactions all))
+      (joined (ReadsMost origin transactions) (λ older newer. ⊤) (Some (disk ∷ past)) middle new opened.1 (lasts.reads origin transactions all))
 
   -- at the end
-  at_the_end : (old : Option (List Disk)) → Begins start seed old → Recovers earlier old → KnownAlike old middle → (first : History)
+  at_the_end : (old : Option (List Disk)) → Begins start seed old → Recovers origin earlier old → KnownAlike old middle → (first : History)
       → StepsSurvive start.base history first new
-      → RecoversNow (all_commits earlier start.base history) (length (all_commits earlier start.base first)) new
+      → RecoversNow origin (all_commits earlier start.base history) (length (all_commits earlier start.base first)) new
   unfolding comes extends
   at_the_end old begins recovers alike first kept =
       let transactions = all_commits earlier start.base history in
       let least = length (all_commits earlier start.base first) in
-      told_then old new (λ disk past. Survive transactions least disk) (told_chain old middle new alike lasts.told)
+      told_then old new (λ disk past. Survive origin transactions least disk) (told_chain old middle new alike lasts.told)
       (where_told old _ (λ disk past told.
-      kept transactions
+      kept origin transactions
       (extends earlier start.base history
-      (comes start seed earlier disk past (subst (Begins start seed) told begins) (subst (Recovers earlier) told recovers)) recovers.follow legal)))
+      (comes start seed earlier disk past (subst (Begins start seed) told begins) (subst (Recovers origin earlier) told recovers)) recovers.follow legal)))
 
   -- as it is
-  as_it_is : (old : Option (List Disk)) → Begins start seed old → Recovers earlier old → KnownAlike old new
-      → RecoversAlways (all_commits earlier start.base history) old new → (least : ℕ) → RecoversNow (all_commits earlier start.base history) least new
-      → RecoversAsItIs (all_commits earlier start.base history) least new
+  as_it_is : (old : Option (List Disk)) → Begins start seed old → Recovers origin earlier old → KnownAlike old new
+      → RecoversAlways origin (all_commits earlier start.base history) old new → (least : ℕ)
+      → RecoversNow origin (all_commits earlier start.base history) least new → RecoversAsItIs origin (all_commits earlier start.base history) least new
   unfolding comes extends
   as_it_is old begins recovers alike moments least survives =
       let transactions = all_commits earlier start.base history in
-      let reads = last_of (ReadsMost transactions) old new alike (reads_told earlier (journal_of start.base history) old recovers)
-      (told_weaker old (λ disk past both. only_second new disk past transactions both) moments) in
-      told_then old new (λ disk past. Recovered transactions least disk past) alike
+      let reads = last_of (ReadsMost origin transactions) old new alike (reads_told earlier (journal_of start.base history) old recovers)
+      (told_weaker old (λ disk past both. only_second new disk past origin transactions both) moments) in
+      told_then old new (λ disk past. Recovered origin transactions least disk past) alike
       (where_told old _ (λ disk past told.
       let follow = (extends earlier start.base history
-      (comes start seed earlier disk past (subst (Begins start seed) told begins) (subst (Recovers earlier) told recovers)) recovers.follow legal).follow in
-      told_both new (λ now before survive most. read_recovers transactions least now before follow survive most) survives reads))
+      (comes start seed earlier disk past (subst (Begins start seed) told begins) (subst (Recovers origin earlier) told recovers)) recovers.follow legal).follow in
+      told_both new (λ now before survive most. read_recovers origin transactions least now before follow survive most) survives reads))
 
 -- ---- what a run says
 
 -- the run opened its directory, and answered these units
 served : (status : Status) (start : Start) (seed input : List ℕ) (output contents : Option (List ℕ)) (old middle new : Option (List Disk))
-    → Begins start seed old → KnownAlike old middle → ((earlier : List Tx) → Recovers earlier old → Opens earlier old middle)
+    → Begins start seed old → KnownAlike old middle → ((origin : Origin) (earlier : List Tx) → Recovers origin earlier old → Opens origin earlier old middle)
     → UnitsSeen status start input output contents middle new → Served status seed input output contents old new
 served status start seed input output contents old middle new begins alike opens seen =
     let stopped = seen.stopped in
@@ -190,21 +196,22 @@ served status start seed input output contents old middle new begins alike opens
       complete = seen.complete;
       output = seen.written;
       holds = seen.holds;
-      crash = λ earlier recovers. always start seed earlier history middle new stopped.legal stopped.lasts old begins recovers (opens earlier recovers);
-      killed = λ earlier recovers.
-          as_it_is start seed earlier history middle new stopped.legal stopped.lasts old begins recovers (told_chain old middle new alike stopped.lasts.told)
-          (always start seed earlier history middle new stopped.legal stopped.lasts old begins recovers (opens earlier recovers))
+      crash = λ origin earlier recovers.
+          always start seed origin earlier history middle new stopped.legal stopped.lasts old begins recovers (opens origin earlier recovers);
+      killed = λ origin earlier recovers.
+          as_it_is start seed origin earlier history middle new stopped.legal stopped.lasts old begins recovers (told_chain old middle new alike stopped.lasts.told)
+          (always start seed origin earlier history middle new stopped.legal stopped.lasts old begins recovers (opens origin earlier recovers))
           (length (all_commits earlier start.base seen.answered))
-          (at_the_end start seed earlier history middle new stopped.legal stopped.lasts old begins recovers alike seen.answered stopped.keep);
-      acknowledged = λ earlier recovers.
-          at_the_end start seed earlier history middle new stopped.legal stopped.lasts old begins recovers alike seen.answered stopped.keep;
-      confirmed = λ earlier recovers.
-          at_the_end start seed earlier history middle new stopped.legal stopped.lasts old begins recovers alike
+          (at_the_end start seed origin earlier history middle new stopped.legal stopped.lasts old begins recovers alike seen.answered stopped.keep);
+      acknowledged = λ origin earlier recovers.
+          at_the_end start seed origin earlier history middle new stopped.legal stopped.lasts old begins recovers alike seen.answered stopped.keep;
+      confirmed = λ origin earlier recovers.
+          at_the_end start seed origin earlier history middle new stopped.legal stopped.lasts old begins recovers alike
           (confirmed_part start.base history) stopped.confirmed;
     }
 
 pub served_seen : (ended : Result (Unit {0}) Stop) (start : Start) (seed input : List ℕ) (output contents : Option (List ℕ)) (old middle new : Option (List Disk))
-    → Begins start seed old → KnownAlike old middle → ((earlier : List Tx) → Recovers earlier old → Opens earlier old middle)
+    → Begins start seed old → KnownAlike old middle → ((origin : Origin) (earlier : List Tx) → Recovers origin earlier old → Opens origin earlier old middle)
     → UnitsSeen (status_of ended) start input output contents middle new
     → RunSeen (status_of ended) seed input output contents old new
 served_seen (Ok done) start seed input output contents old middle new begins alike opens seen =
@@ -222,26 +229,27 @@ served_seen (Err NoMemory) start seed input output contents old middle new begin
 
 -- the directory couldn't be opened
 pub not_opened : (output : Option (List ℕ)) (old new : Option (List Disk)) → KnownAlike old new
-    → ((earlier : List Tx) → Recovers earlier old → Opens earlier old new) → NotOpened output output old new
+    → ((origin : Origin) (earlier : List Tx) → Recovers origin earlier old → Opens origin earlier old new) → NotOpened output output old new
 not_opened output old new alike opens = record {
   output = λ before was. was;
-  crash = λ earlier recovers. let opened = alone earlier recovers in both_always earlier old new opened.0 opened.1;
-  killed = λ earlier least recovers held.
-      let opened = alone earlier recovers in
-      let survives : RecoversNow earlier least new = told_then old new (λ disk past. Survive earlier least disk) alike
+  crash = λ origin earlier recovers. let opened = alone origin earlier recovers in both_always origin earlier old new opened.0 opened.1;
+  killed = λ origin earlier least recovers held.
+      let opened = alone origin earlier recovers in
+      let survives : RecoversNow origin earlier least new = told_then old new (λ disk past. Survive origin earlier least disk) alike
       (told_both old
       (λ disk past moments was.
-      kept (Survive earlier 0) (NoFewerSurvive earlier) (Survive earlier least) (λ older newer fewer here. fewer least here) new disk past moments was)
+      kept (Survive origin earlier 0) (NoFewerSurvive origin earlier) (Survive origin earlier least) (λ older newer fewer here. fewer least here)
+      new disk past moments was)
       opened.0 held) in
-      let reads : IfKnown new (λ disk past. ReadsMost earlier disk) = last_of (ReadsMost earlier) old new alike
-      (subst (λ (txs : List Tx). IfKnown old (λ disk past. ReadsMost txs disk)) (append-nil earlier) (reads_told earlier [] old recovers)) opened.1 in
-      told_both new (λ now before survive most. read_recovers earlier least now before recovers.follow survive most) survives reads;
+      let reads : IfKnown new (λ disk past. ReadsMost origin earlier disk) = last_of (ReadsMost origin earlier) old new alike
+      (subst (λ (txs : List Tx). IfKnown old (λ disk past. ReadsMost origin txs disk)) (append-nil earlier) (reads_told earlier [] old recovers)) opened.1 in
+      told_both new (λ now before survive most. read_recovers origin earlier least now before recovers.follow survive most) survives reads;
 }
   where
-    alone : (earlier : List Tx) → Recovers earlier old
-        → IfKnown old (λ disk past. Moments (Survive earlier 0) (NoFewerSurvive earlier) new disk past)
-        × IfKnown old (λ disk past. Moments (ReadsMost earlier) (λ older newer. ⊤) new disk past)
-    alone earlier recovers = opens earlier recovers earlier ([], append-nil earlier) recovers.follow
+    alone : (origin : Origin) (earlier : List Tx) → Recovers origin earlier old
+        → IfKnown old (λ disk past. Moments (Survive origin earlier 0) (NoFewerSurvive origin earlier) new disk past)
+        × IfKnown old (λ disk past. Moments (ReadsMost origin earlier) (λ older newer. ⊤) new disk past)
+    alone origin earlier recovers = opens origin earlier recovers earlier ([], append-nil earlier) recovers.follow
 
 -- nothing was done
 pub left_alone : (output : Option (List ℕ)) (old new : Option (List Disk)) → new ≡ old → Untouched output output old new

@@ -6,7 +6,7 @@ use Rattle.mx_outside.specs.Moments.{Moments}
 use Rattle.mx_outside.specs.Passed.{IsAllOf}
 use Rattle.mx_row.specs.declared.tx.Tx.{Tx}
 use Rattle.mx_images.specs.Changes.{KeepsOthers}
-use Rattle.mx_model.specs.Directories.{IsDirectoryState}
+use Rattle.mx_model.specs.Directories.{Origin, IsDirectoryState}
 use Rattle.mx_model.specs.Histories.{Base, History, IsLegal, HasMemory, history_from, journal_of}
 use Rattle.mx_model.specs.Order.{Step, order_in}
 use Rattle.mx_model.specs.Gate.{RepliesMayLeave, confirmed_part}
@@ -89,24 +89,25 @@ StillPassedOn passed contents passed_now contents_now = IsAllOf passed contents 
 abbrev pub all_commits : List Tx → Base → History → List Tx
 all_commits earlier base history = earlier ++ journal_of base history
 
--- At each moment the directory reads as a prefix of these commits, and after any crash it recovers no more of them, and never
--- fewer than before.
-abbrev pub RecoversAlways : List Tx → (old new : Option (List Disk)) → Type 0
-RecoversAlways commits old new =
-    IfKnown old (λ disk past. Moments (λ now. Survive commits 0 now × ReadsMost commits now) (λ older newer. NoFewerSurvive commits older newer × ⊤) new disk past)
+-- At each moment the directory reads as a prefix of these commits, made on the origin, and after any crash it recovers no more
+-- of them, and never fewer than before.
+abbrev pub RecoversAlways : Origin → List Tx → (old new : Option (List Disk)) → Type 0
+RecoversAlways origin commits old new =
+    IfKnown old (λ disk past. Moments (λ now. Survive origin commits 0 now × ReadsMost origin commits now)
+    (λ older newer. NoFewerSurvive origin commits older newer × ⊤) new disk past)
 
 -- at each moment every file that isn't the database's is as it was
 abbrev pub OthersKept : (old new : Option (List Disk)) → Type 0
 OthersKept old new = IfKnown old (λ disk past. Moments (λ _. ⊤) KeepsOthers new disk past)
 
 -- after any crash the directory recovers a prefix of these commits, and so many of them at least
-abbrev pub RecoversNow : List Tx → (least : ℕ) → Option (List Disk) → Type 0
-RecoversNow commits least new = IfKnown new (λ disk past. Survive commits least disk)
+abbrev pub RecoversNow : Origin → List Tx → (least : ℕ) → Option (List Disk) → Type 0
+RecoversNow origin commits least new = IfKnown new (λ disk past. Survive origin commits least disk)
 
 -- as it is, with no crash, the directory recovers a prefix of these commits, and so many of them at least
-abbrev pub RecoversAsItIs : List Tx → (least : ℕ) → Option (List Disk) → Type 0
-RecoversAsItIs commits least new =
-    IfKnown new (λ disk past. (count : ℕ) × (least ≤ count) × (count ≤ length commits) × Recovers (take count commits) (Some (disk ∷ past)))
+abbrev pub RecoversAsItIs : Origin → List Tx → (least : ℕ) → Option (List Disk) → Type 0
+RecoversAsItIs origin commits least new =
+    IfKnown new (λ disk past. (count : ℕ) × (least ≤ count) × (count ≤ length commits) × Recovers origin (take count commits) (Some (disk ∷ past)))
 
 -- the directory is corrupt or inconsistent, by this damage, where it tells its files
 abbrev pub DamageSeen : Status → Option (List Disk) → Type 0
@@ -137,19 +138,20 @@ pub record Served (status : Status) (seed input : List ℕ) (output_old output_n
   pub output : (before : List ℕ) → output_old ≡ Some before
       → IsSomeAnd output_new (λ after. OutputSeen status start input units answered history before after)
   pub holds : AtCompletion status (IfKnown new (λ disk past. DirectoryHolds start.base history disk))
-  pub crash : (earlier : List Tx) → Recovers earlier old → RecoversAlways (all_commits earlier start.base history) old new
-  pub acknowledged : (earlier : List Tx) → Recovers earlier old
-      → RecoversNow (all_commits earlier start.base history) (length (all_commits earlier start.base answered)) new
-  pub killed : (earlier : List Tx) → Recovers earlier old
-      → RecoversAsItIs (all_commits earlier start.base history) (length (all_commits earlier start.base answered)) new
-  pub confirmed : (earlier : List Tx) → Recovers earlier old
-      → RecoversNow (all_commits earlier start.base history) (length (all_commits earlier start.base (confirmed_part start.base history))) new
+  pub crash : (origin : Origin) (earlier : List Tx) → Recovers origin earlier old → RecoversAlways origin (all_commits earlier start.base history) old new
+  pub acknowledged : (origin : Origin) (earlier : List Tx) → Recovers origin earlier old
+      → RecoversNow origin (all_commits earlier start.base history) (length (all_commits earlier start.base answered)) new
+  pub killed : (origin : Origin) (earlier : List Tx) → Recovers origin earlier old
+      → RecoversAsItIs origin (all_commits earlier start.base history) (length (all_commits earlier start.base answered)) new
+  pub confirmed : (origin : Origin) (earlier : List Tx) → Recovers origin earlier old
+      → RecoversNow origin (all_commits earlier start.base history) (length (all_commits earlier start.base (confirmed_part start.base history))) new
 
 -- A run that didn't open its directory: nothing was written or committed.
 pub record NotOpened (output_old output_new : Option (List ℕ)) (old new : Option (List Disk)) : Type 0 where
   pub output : (before : List ℕ) → output_old ≡ Some before → output_new ≡ Some before
-  pub crash : (earlier : List Tx) → Recovers earlier old → RecoversAlways earlier old new
-  pub killed : (earlier : List Tx) (least : ℕ) → Recovers earlier old → RecoversNow earlier least old → RecoversAsItIs earlier least new
+  pub crash : (origin : Origin) (earlier : List Tx) → Recovers origin earlier old → RecoversAlways origin earlier old new
+  pub killed : (origin : Origin) (earlier : List Tx) (least : ℕ) → Recovers origin earlier old → RecoversNow origin earlier least old
+      → RecoversAsItIs origin earlier least new
 
 -- nothing was written, and the directory is as it was
 pub record Untouched (output_old output_new : Option (List ℕ)) (old new : Option (List Disk)) : Type 0 where

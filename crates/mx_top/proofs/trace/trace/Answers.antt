@@ -17,7 +17,8 @@ returns-in-Ok-clause-history g c = λ bytes told.
     let began = subst (λ ids. IsStart start ids c.args.seed.now (g.D.Dir.states c.args.dir.now)) c.first_ids-ids.ensures begins in
     rw c.status_of.ensures (served_seen c.run_units.result start c.args.seed.now bytes (g.K.Sink.contents c.args.output.now)
     (g.K.Sink.contents c.run_units.new.output) (g.D.Dir.states c.args.dir.now) (g.D.Dir.states c.start.new.dir) (g.D.Dir.states c.run_units.new.dir)
-    began c.start.ensures.told (λ earlier recovers transactions front follow. (c.start.ensures.moments earlier transactions recovers front follow, c.start.ensures.reads earlier transactions recovers front follow))
+    began c.start.ensures.told (λ origin earlier recovers transactions front follow.
+    (c.start.ensures.moments origin earlier transactions recovers front follow, c.start.ensures.reads origin earlier transactions recovers front follow))
     (c.run_units.ensures.units start bytes serves told))
 
 pub returns-in-Err-Damaged-clause-history : goal.returns-in-Err-Damaged-clause-history
@@ -28,12 +29,14 @@ returns-in-Err-Damaged-clause-history g c = λ bytes told.
 pub returns-in-Err-Failed-clause-history : goal.returns-in-Err-Failed-clause-history
 returns-in-Err-Failed-clause-history g c = λ bytes told.
     inl (not_opened (g.K.Sink.contents c.args.output.now) (g.D.Dir.states c.args.dir.now) (g.D.Dir.states c.start.new.dir) c.start.ensures.told
-    (λ earlier recovers transactions front follow. (c.start.ensures.moments earlier transactions recovers front follow, c.start.ensures.reads earlier transactions recovers front follow)))
+    (λ origin earlier recovers transactions front follow.
+    (c.start.ensures.moments origin earlier transactions recovers front follow, c.start.ensures.reads origin earlier transactions recovers front follow)))
 
 pub returns-in-Err-NoMemory-clause-history : goal.returns-in-Err-NoMemory-clause-history
 returns-in-Err-NoMemory-clause-history g c = λ bytes told.
     inl (not_opened (g.K.Sink.contents c.args.output.now) (g.D.Dir.states c.args.dir.now) (g.D.Dir.states c.start.new.dir) c.start.ensures.told
-    (λ earlier recovers transactions front follow. (c.start.ensures.moments earlier transactions recovers front follow, c.start.ensures.reads earlier transactions recovers front follow)))
+    (λ origin earlier recovers transactions front follow.
+    (c.start.ensures.moments origin earlier transactions recovers front follow, c.start.ensures.reads origin earlier transactions recovers front follow)))
 
 pub returns-in-Ok-clause-others : goal.returns-in-Ok-clause-others
 returns-in-Ok-clause-others g c = steps_then KeepsOthers _ _ _ c.start.ensures.others c.run_units.ensures.others
