@@ -1,6 +1,6 @@
 //! Bytes that are owned, which a contract sees as a list of numbers.
 
-ghost use Rattle.std.specs.Prelude.{◌≡◌, ◌++◌, [], length, take, Some, IfOk, IsTrue, MatchResult, ◌↔◌, nat_eq};
+ghost use Rattle.std.specs.Prelude.{◌≡◌, ◌≤◌, ◌+◌, ◌++◌, [], length, take, drop, Some, IfOk, IsTrue, MatchResult, ◌↔◌, nat_eq};
 ghost use Rattle.std.specs.Cmp.{partial_equiv_from_equiv};
 ghost use Rattle.std.specs.Cmp.Lexicographic.{pointwise, slice_cmp, texts_po, texts_ties};
 ghost use Rattle.std.specs.Ordering.{nat_cmp};
@@ -118,6 +118,14 @@ impl Bytes {
         ensures { MatchResult result (λ _. self.new ≡ self.old ++ bytes.now) (λ _. self.new ≡ self.old) }
     {
         self.items.extend_from_slice(bytes)
+    }
+
+    /// Puts these bytes into the place of as many that begin at `at`.
+    pub fn write_at(&mut self, at: usize, bytes: &[u8])
+        requires { at + length bytes.now ≤ length self.old }
+        ensures { self.new ≡ take at self.old ++ (bytes.now ++ drop (at + length bytes.now) self.old) }
+    {
+        self.items[at..at + bytes.len()].copy_from_slice(bytes);
     }
 
     /// Keeps the first `len` bytes; does nothing where there are no more.
