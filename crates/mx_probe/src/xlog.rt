@@ -42,7 +42,7 @@ fn written_block(arguments: &mut Arguments<'_>) -> Result<String, AllocError> {
         arguments.refuse(Fault::of(what));
         return Ok(String::new(alloc));
     }
-    write_block(rows.as_slice(), &mut out)?;
+    write_block(alloc, rows.as_slice(), &mut out)?;
     format!(in alloc; "{}", Hex(out.as_slice()))
 }
 

@@ -1,5 +1,5 @@
-mod BlockLaws
-pub mod FileLaws
+pub mod BlockLaws
+mod FileLaws
 mod HeaderLaws
 mod LastLaws
 mod LineLaws

@@ -25,6 +25,18 @@ block_of rows =
     (0xd5 ∷ 0xba ∷ 0x0b ∷ 0xab ∷ []) ++ (0xce ∷ big_bytes 4 (length rows)) ++ (0x00 ∷ [])
     ++ (0xce ∷ big_bytes 4 (checksum_of rows)) ++ (0xa3 ∷ 0x00 ∷ 0x00 ∷ 0x00 ∷ []) ++ rows
 
+-- room for a block's head follows
+abbrev pub IsBegun : List ℕ → List ℕ → Type 0
+IsBegun before bytes = (room : List ℕ) × (length room ≡ head_size) × (bytes ≡ before ++ room)
+
+-- at this place, behind the bytes before it, there are room for a block's head and a block's data
+pub record HasRoom (at : ℕ) (before rows bytes : List ℕ) : Type 0 where
+  pub room : List ℕ
+  pub parts : bytes ≡ before ++ (room ++ rows)
+  pub place : length before ≡ at
+  pub size : length room ≡ head_size
+  pub sound : IsData rows
+
 -- the last bytes of a file that was closed
 abbrev pub end_marker : List ℕ
 end_marker = 0xd5 ∷ 0x10 ∷ 0xad ∷ 0xed ∷ []

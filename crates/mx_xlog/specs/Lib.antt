@@ -5,4 +5,5 @@ pub mod Headers
 pub mod Heads
 pub mod Lines
 pub mod Reading
+pub mod Registers
 pub mod Files

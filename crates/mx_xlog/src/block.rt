@@ -1,13 +1,13 @@
 //! Blocks: the data of some rows after its length and its checksum.
 
-ghost use Rattle.std.specs.Prelude.{◌≡◌, ◌++◌, length, take, MatchOption, MatchResult};
-ghost use Rattle.mx_xlog.specs.Blocks.{IsData, BeginsBlock, block_of, end_marker, StandsAt};
+ghost use Rattle.std.specs.Prelude.{◌≡◌, ◌++◌, ℕ, List, length, take, MatchOption, MatchResult};
+ghost use Rattle.mx_xlog.specs.Blocks.{IsData, IsBegun, HasRoom, BeginsBlock, block_of, end_marker, StandsAt};
 ghost use Rattle.mx_xlog.specs.Heads.{BeginsNoBlock, block_head};
 
 use crate::crc::checksum;
 use byteorder::{BigEndian, ByteOrder};
 use mx_msgpack::Bytes;
-use std::alloc::AllocError;
+use std::alloc::{AllocError, Global};
 
 /// The bytes of a block before its data.
 const HEAD_SIZE: usize = 19;
@@ -87,7 +87,7 @@ fn first_rows(bytes: &[u8]) -> Option<&[u8]>
 ///
 /// # Errors
 /// Out of memory; nothing is appended.
-pub fn write_block(rows: &[u8], out: &mut Bytes) -> Result<(), AllocError>
+pub fn write_block(_alloc: Global, rows: &[u8], out: &mut Bytes) -> Result<(), AllocError>
     requires { IsData rows.now }
     ensures { MatchResult result (λ _. out.new ≡ out.old ++ block_of rows.now) (λ _. out.new ≡ out.old) }
 {
@@ -99,15 +99,38 @@ pub fn write_block(rows: &[u8], out: &mut Bytes) -> Result<(), AllocError>
     written
 }
 
-/// As `write_block`, but at an error the block's head may have been appended.
+/// As `write_block`, but at an error the room for the block's head may have been appended.
 fn write_parts(rows: &[u8], out: &mut Bytes) -> Result<(), AllocError>
     requires { IsData rows.now }
     ensures { MatchResult result (λ _. out.new ≡ out.old ++ block_of rows.now) (λ _. take (length out.old) out.new ≡ out.old) }
 {
-    let head = block_head(rows.len() as u32, checksum(rows));
-    out.extend_from_slice(&head)?;
+    let at = out.len();
+    begin_block(out)?;
     out.extend_from_slice(rows)?;
+    end_block(at, out);
     Ok(())
+}
+
+/// Appends room for a block's head, which is 19 bytes. The block's data is written after it, and then
+/// `end_block` makes a block of both.
+///
+/// # Errors
+/// Out of memory; nothing is appended.
+pub fn begin_block(out: &mut Bytes) -> Result<(), AllocError>
+    ensures { MatchResult result (λ _. IsBegun out.old out.new) (λ _. out.new ≡ out.old) }
+{
+    out.extend_from_slice(&[0; HEAD_SIZE])
+}
+
+/// Makes a block of the bytes from this place on, which are room for a block's head and 1 to 4,194,304
+/// bytes of data. It takes no memory.
+pub fn end_block(at: usize, out: &mut Bytes)
+    requires { (before rows : List ℕ) × HasRoom at before rows out.old }
+    ensures { (before rows : List ℕ) → HasRoom at before rows out.old → out.new ≡ before ++ block_of rows }
+{
+    let (_, rows) = out.as_slice().split_at(at + HEAD_SIZE);
+    let head = block_head(rows.len() as u32, checksum(rows));
+    out.write_at(at, &head);
 }
 
 /// Appends the marker of a file's end.

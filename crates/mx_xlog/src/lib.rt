@@ -8,8 +8,9 @@ mod header;
 mod laws;
 mod lines;
 mod reading;
+mod tables;
 
-pub use block::{Block, read_block, write_block, write_end};
+pub use block::{Block, begin_block, end_block, read_block, write_block, write_end};
 pub use crc::checksum;
 pub use head::Head;
 pub use header::write_header;
