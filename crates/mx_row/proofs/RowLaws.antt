@@ -220,6 +220,11 @@ row_again replica lsn (Replaced space tuple) rest some few below (fits, is, shor
 
 -- ---- a transaction
 
+-- a replica id is one byte
+pub replica_spelled : (replica : ℕ) → replica < 32 → shortest_unsigned replica ≡ replica ∷ []
+unfolding shortest_unsigned
+replica_spelled replica few = rw (lt-ltb replica 128 (omega arith)) refl
+
 -- what is written is read again, whatever follows
 pub transaction_again : (transaction : Tx) (rest : List ℕ) → IsTransaction transaction → transaction_at (transaction_text transaction ++ rest) ≡ Some (transaction, rest)
 transaction_again transaction rest is =
