@@ -1,14 +1,14 @@
 //! The journal.
 
-ghost use Rattle.std.specs.Prelude.{◌≡◌, ◌+◌, ◌++◌, ◌∷◌, [], ⊤, false, true, List, length, Some, IfOk, OnErr, OnOk};
+ghost use Rattle.std.specs.Prelude.{◌≡◌, ◌+◌, ◌++◌, ◌∷◌, [], ⊤, false, true, List, length, take, Some, IfOk, MatchResult, OnErr, OnOk};
 ghost use Rattle.std.specs.FinMap as finite;
 ghost use Rattle.mx_outside.specs.Causes.{HasCauseOf};
 ghost use Rattle.mx_outside.specs.Disks.{Disk, Files, IfKnown, KnownAlike, synced_file};
 ghost use Rattle.mx_outside.specs.Moments.{Moments};
 ghost use Rattle.mx_xlog.specs.Headers.{IsHead};
-ghost use Rattle.mx_xlog.specs.Blocks.{end_marker};
+ghost use Rattle.mx_xlog.specs.Blocks.{block_of, end_marker};
 ghost use Rattle.mx_row.specs.declared.tx.Tx.{Tx};
-ghost use Rattle.mx_row.specs.Rows.{IsTransaction};
+ghost use Rattle.mx_row.specs.Rows.{IsTransaction, transaction_text};
 ghost use Rattle.mx_row.specs.Clocks.{follows, clock_after_one};
 ghost use Rattle.mx_journal.specs.Counting.{SameButPushed, caught_up};
 ghost use Rattle.mx_journal.specs.declared.fault.JournalFault.TheVariants.{Failed};
@@ -24,8 +24,11 @@ use mx_msgpack::Bytes;
 use mx_outside::Dir;
 use mx_row::{Tx, write_tx};
 use mx_vclock::Vclock;
-use mx_xlog::{Head, write_block, write_end, write_header};
+use mx_xlog::{Head, begin_block, end_block, write_end, write_header};
 use std::alloc::{AllocError, Global};
+
+/// The maximum size of waiting bytes whose memory is kept for the next ones.
+const MAX_KEPT_SIZE: usize = 1_048_576;
 
 /// A journal that writes to one file of a directory, whose name is the signature of the vclock at
 /// which the file begins. It doesn't own the directory; each call takes it.
@@ -99,9 +102,7 @@ impl Journal {
         let Some(pushed) = self.pushed.checked_add(1) else {
             return Err(AllocError);
         };
-        let mut rows = Bytes::new(alloc);
-        write_tx(tx, &mut rows)?;
-        write_block(rows.as_slice(), &mut self.waiting)?;
+        append_block(alloc, tx, &mut self.waiting)?;
         self.note_pushed(tx, pushed);
         Ok(())
     }
@@ -151,7 +152,7 @@ impl Journal {
         };
         append_synced(alloc, dir, self.name.as_str(), self.waiting.as_slice())?;
         self.length = length;
-        self.waiting = Bytes::new(alloc);
+        clear(alloc, &mut self.waiting);
         Ok(self.note_written())
     }
 
@@ -209,5 +210,40 @@ impl Journal {
         ensures { result ≡ self.now.length }
     {
         self.length
+    }
+}
+
+/// Appends a block of this transaction; at an error nothing is appended.
+fn append_block(alloc: Global, tx: &Tx, out: &mut Bytes) -> Result<(), AllocError>
+    requires { IsTransaction tx.now }
+    ensures { MatchResult result (λ _. out.new ≡ out.old ++ block_of (transaction_text tx.now)) (λ _. out.new ≡ out.old) }
+{
+    let before = out.len();
+    let written = write_block_in_place(alloc, tx, out);
+    if written.is_err() {
+        out.truncate(before);
+    }
+    written
+}
+
+/// As `append_block`, but at an error the room for the block's head may have been appended.
+fn write_block_in_place(alloc: Global, tx: &Tx, out: &mut Bytes) -> Result<(), AllocError>
+    requires { IsTransaction tx.now }
+    ensures { MatchResult result (λ _. out.new ≡ out.old ++ block_of (transaction_text tx.now)) (λ _. take (length out.old) out.new ≡ out.old) }
+{
+    let at = out.len();
+    begin_block(out)?;
+    write_tx(alloc, tx, out)?;
+    end_block(at, out);
+    Ok(())
+}
+
+fn clear(alloc: Global, bytes: &mut Bytes)
+    ensures { bytes.new ≡ [] }
+{
+    if bytes.len() > MAX_KEPT_SIZE {
+        *bytes = Bytes::new(alloc);
+    } else {
+        bytes.truncate(0);
     }
 }

@@ -14,7 +14,7 @@ returns-clause-written g c = λ txs waits.
     let sum : long ≡ c.args.self.now.length + length c.args.self.now.waiting = omega (arith, c.in-Some.ensures, c.len.ensures) in
     wrote_now c.args.self.now c.note_written-2.new.self long c.as_str.result.now c.as_slice.result.now
     (g.D.Dir.states c.args.dir.now) (g.D.Dir.states c.append_synced.new.dir) txs waits
-    (c.note_written-2.ensures.journal ∙ ap (λ none. caught_up (record c.args.self.now { length = long; waiting = none })) c.new.ensures)
+    (c.note_written-2.ensures.journal ∙ ap (λ none. caught_up (record c.args.self.now { length = long; waiting = none })) c.clear.ensures)
     sum c.as_str.ensures.value c.as_slice.ensures c.in_ok-append_synced.ensures.made
 
 pub returns-then-is_empty-clause-synced : goal.returns-then-is_empty-clause-synced
