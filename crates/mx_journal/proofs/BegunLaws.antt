@@ -37,7 +37,7 @@ header_alone head end fits fair =
 
 has_begun : (head : Head) (disk : Disk) (image : Files) → IsHead head → HasMade (name_of head) (header_of head) disk image → HasBegun head disk image
 has_begun head disk image fits (was, fair, same, end, ends, is) =
-    (was, fair, same, (synced_file (header_of head ++ end), is, header_alone head end fits ends))
+    (was, fair, same, ([], record { together = refl; fit = tt }, synced_file (header_of head ++ end), is, header_alone head end fits ends))
 
 may_begin : (head : Head) (older newer : Disk) → IsHead head → MayMakeFile (name_of head) (header_of head) older newer → MayBegin head older newer
 may_begin head older newer fits may image fair = by_file (may image fair)

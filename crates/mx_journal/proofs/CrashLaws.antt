@@ -1,7 +1,7 @@
 -- Crash images of a journal's file while bytes are appended to it.
 use Rattle.std.proofs.Common.{◌≡◌, ℕ, ◌+◌, ◌≤◌, ◌<◌, Bool, true, false, cond, List, [], ◌∷◌, ◌++◌, length, map, take, drop, Option, Some, None, Any, Result, MatchResult, string_bytes, refl, sym, ap, ◌∙◌, append_assoc, arith, ◌⊎◌, inl, inr}
 use Rattle.std.specs.Prelude.{⊤}
-use Rattle.std.specs.List.{AllByRecursion}
+use Rattle.std.specs.List.{concat, AllByRecursion}
 use Rattle.std.proofs.lemmas.Bool.{cases_lt}
 use Rattle.std.proofs.lemmas.List.{append-nil, take_at, drop_at, take_all, take-take, take_min, take-map, length-take, length-map, length-append}
 use Rattle.std.proofs.Math.Seq.{take-append-add}
@@ -14,25 +14,26 @@ use Rattle.mx_outside.specs.Disks.{File, Files, Disk, Leaves, IfKnown, Became, S
 use Rattle.mx_outside.specs.Moments.{Moments}
 use Rattle.mx_xlog.specs.declared.head.Head.{Head}
 use Rattle.mx_xlog.specs.Headers.{IsHead, IsHeader, header_of}
-use Rattle.mx_xlog.specs.Blocks.{end_marker}
+use Rattle.mx_xlog.specs.Blocks.{IsData, end_marker}
 use Rattle.mx_xlog.specs.Reading.{block_at, blocks_of}
 use Rattle.mx_xlog.proofs.ReadingLaws.{block_at-Advances, block_at-IsStable, blocks_of_nothing, blocks_of_marker}
 use Rattle.mx_row.specs.declared.tx.Tx.{Tx}
-use Rattle.mx_row.specs.Rows.{IsTransaction, transaction_text}
+use Rattle.mx_row.specs.Rows.{IsTransaction, transactions_text, transactions_of}
+use Rattle.mx_row.proofs.GroupLaws.{transactions_of-append, groups_joined as rows_joined}
 use Rattle.mx_xlog.specs.Files.{ReadsAs}
 use Rattle.mx_files.specs.Names.{is_ours, same_bytes}
-use Rattle.mx_journal.proofs.BlockLaws.{blocks_again, all_joined, blocks_text-append, nothing_waits}
+use Rattle.mx_journal.proofs.BlockLaws.{blocks_again, all_sound, blocks_text-append, counted_by_rows, groups_front, groups_joined, groups_rise}
 use Rattle.mx_journal.specs.declared.journal.Journal.{Journal}
 use Rattle.mx_images.specs.Fair.{IsFairEnd, IsFair}
 use Rattle.mx_journal.specs.Crashes.{read_of, HasAtLeast, HasMost, NoFewer}
 use Rattle.mx_journal.specs.Making.{AppendsSynced}
 use Rattle.mx_images.specs.Changes.{Changed, KeepsOthers, with_appended, IsNow, SameOthers}
-use Rattle.mx_journal.specs.Written.{IsWritten, Waits, name_of, file_text, blocks_text}
+use Rattle.mx_journal.specs.Written.{IsWritten, Waits, AreGroups, name_of, file_text, blocks_text}
 use Rattle.mx_images.proofs.DiskLaws.{same_self, same_name, get_inserted, get_changed, only_one, first_one}
 use Rattle.mx_images.proofs.MomentLaws.{Steps, while_appended}
 use Rattle.mx_images.proofs.OtherLaws.{append_others}
 use Rattle.mx_images.proofs.ToldLaws.{told_both, told_weaker, where_told, now_changed}
-use Rattle.mx_journal.proofs.WrittenLaws.{bytes_extended, extended_as, others_extended}
+use Rattle.mx_journal.proofs.WrittenLaws.{bytes_extended, nothing_waits, extended_as, others_extended}
 use Rattle.mx_images.proofs.FairLaws.{fair_nothing, front_of_blocks}
 use Rattle.mx_journal.proofs.NameLaws.{name_counts, name_ours}
 
@@ -80,39 +81,54 @@ behind_header head body end =
 header_is : (head : Head) (body end : List ℕ) → IsHead head → IsHeader ((header_of head ++ body) ++ end) head (length (header_of head))
 header_is head body end fits = record { fits = fits; sized = refl; begins = (body ++ end, append_assoc (header_of head) body end) }
 
--- the file is there, and has these transactions
-abbrev FileHas : Head → List Tx → Option File → Type 0
-FileHas head txs image = (file : File) × (image ≡ Some file) × ReadsAs file.bytes (Some (read_of head txs))
+-- the file is there, and has these groups of transactions
+abbrev FileHas : Head → List (List Tx) → Option File → Type 0
+FileHas head groups image = (file : File) × (image ≡ Some file) × ReadsAs file.bytes (Some (read_of head groups))
+
+-- it has these transactions in groups
+abbrev HasGroups : Head → List Tx → Option File → Type 0
+HasGroups head txs image = (groups : List (List Tx)) × AreGroups groups txs × FileHas head groups image
 
 -- it has a prefix of them, of so many at least
 abbrev HasSome : Head → List Tx → ℕ → Option File → Type 0
-HasSome head all least image = (count : ℕ) × (least ≤ count) × (count ≤ length all) × FileHas head (take count all) image
+HasSome head all least image = (count : ℕ) × (least ≤ count) × (count ≤ length all) × HasGroups head (take count all) image
 
--- a file whose blocks are those of a prefix of all transactions has that prefix
-front_read : (head : Head) (body end : List ℕ) (all : List Tx) (m : ℕ) → IsHead head → blocks_of (body ++ end) ≡ take m (map transaction_text all)
-    → (length (blocks_of (body ++ end)) ≤ length all)
-    × ReadsAs ((header_of head ++ body) ++ end) (Some (read_of head (take (length (blocks_of (body ++ end))) all)))
-front_read head body end all m fits front =
+-- how many transactions the first groups have
+abbrev number_of : List (List Tx) → ℕ → ℕ
+number_of groups count = length (transactions_of (take count groups))
+
+-- a file whose blocks are those of a prefix of all groups has that prefix
+front_read : (head : Head) (body end : List ℕ) (groups : List (List Tx)) (m : ℕ) → IsHead head → blocks_of (body ++ end) ≡ take m (map transactions_text groups)
+    → ReadsAs ((header_of head ++ body) ++ end) (Some (read_of head (take (length (blocks_of (body ++ end))) groups)))
+front_read head body end groups m fits front =
     let found = blocks_of (body ++ end) in
-    let texts = map transaction_text all in
-    let (same, short) = own_front m texts found front in
-    let total : length texts ≡ length all = length-map all transaction_text in
-    let blocks : map transaction_text (take (length found) all) ≡ blocks_of (drop (length (header_of head)) ((header_of head ++ body) ++ end)) =
-    sym (take-map transaction_text (length found) all) ∙ sym same ∙ ap blocks_of (sym (behind_header head body end)) in
-    (omega (arith, short, total), (header_is head body end fits, blocks))
+    let (same, short) = own_front m (map transactions_text groups) found front in
+    let blocks : map transactions_text (take (length found) groups) ≡ blocks_of (drop (length (header_of head)) ((header_of head ++ body) ++ end)) =
+    sym (take-map transactions_text (length found) groups) ∙ sym same ∙ ap blocks_of (sym (behind_header head body end)) in
+    (header_is head body end fits, blocks)
 
 -- so many at least, where the blocks begin with those of a prefix
-read_back : (head : Head) (body end : List ℕ) (txs all : List Tx) (m : ℕ) (image : Option File) → IsHead head
-    → blocks_of body ≡ map transaction_text txs → blocks_of (body ++ end) ≡ take m (map transaction_text all)
+read_back : (head : Head) (body end : List ℕ) (groups later : List (List Tx)) (txs all : List Tx) (m : ℕ) (image : Option File) → IsHead head
+    → AreGroups groups txs → AreGroups (groups ++ later) all → blocks_of body ≡ map transactions_text groups
+    → blocks_of (body ++ end) ≡ take m (map transactions_text (groups ++ later))
     → image ≡ Some (synced_file ((header_of head ++ body) ++ end)) → HasSome head all (length txs) image
-read_back head body end txs all m image fits first front is =
+read_back head body end groups later txs all m image fits are all_are first front is =
     let found = blocks_of (body ++ end) in
-    let (short, read) = front_read head body end all m fits front in
+    let read = front_read head body end (groups ++ later) m fits front in
     let (rest, joined) = blocks_first body end in
-    let long : length found ≡ length txs + length rest =
+    let long : length found ≡ length groups + length rest =
     ap length joined ∙ length-append (blocks_of body) rest ∙ ap (λ (blocks : List (List ℕ)). length blocks + length rest) first
-    ∙ ap (λ n. n + length rest) (length-map txs transaction_text) in
-    (length found, omega (arith, long), short, (synced_file ((header_of head ++ body) ++ end), is, read))
+    ∙ ap (λ n. n + length rest) (length-map groups transactions_text) in
+    let whole : take (length groups) (groups ++ later) ≡ groups = take_at groups later (length groups) refl in
+    let least : length txs ≡ number_of (groups ++ later) (length groups) =
+    ap length (sym are.together) ∙ ap (λ some. length (transactions_of some)) (sym whole) in
+    let enough = groups_rise (groups ++ later) (length groups) (length found) (omega (arith, long)) in
+    let (prefix, short) = groups_front (groups ++ later) all (length found) all_are in (
+      number_of (groups ++ later) (length found),
+      omega (arith, least, enough),
+      short,
+      (take (length found) (groups ++ later), prefix, (synced_file ((header_of head ++ body) ++ end), is, read)),
+    )
 
 -- the blocks of a crash image of such a file are a prefix of those that it has
 record Left (head : Head) (body more : List ℕ) (image : Option File) : Type 0 where
@@ -135,11 +151,11 @@ file_left head body more image fits (end, fair, is) =
       is = is ∙ ap (λ front. Some (synced_file (front ++ end))) synced;
     }
 
--- they are a prefix of all transactions, where those that it has are
-left_front : (head : Head) (body more : List ℕ) (all : List Tx) (n : ℕ) (image : Option File) → blocks_of (body ++ more) ≡ take n (map transaction_text all)
-    → (left : Left head body more image) → (m : ℕ) × (blocks_of (body ++ left.end) ≡ take m (map transaction_text all))
-left_front head body more all n image front left =
-    let (m, both) = two_fronts left.count n (map transaction_text all) in
+-- they are a prefix of all groups, where those that it has are
+left_front : (head : Head) (body more : List ℕ) (groups : List (List Tx)) (n : ℕ) (image : Option File) → blocks_of (body ++ more) ≡ take n (map transactions_text groups)
+    → (left : Left head body more image) → (m : ℕ) × (blocks_of (body ++ left.end) ≡ take m (map transactions_text groups))
+left_front head body more groups n image front left =
+    let (m, both) = two_fronts left.count n (map transactions_text groups) in
     (m, left.blocks ∙ ap (take left.count) front ∙ both)
 
 -- ---- a directory with such a file
@@ -163,29 +179,36 @@ left_in head body more disk image fits keeps fair =
     file_left head body more found fits
     (only_one left (Some (kept head body more)) (subst (Any left) (one_outcome head body more disk keeps) (fair (name_of head) (name_counts head))))
 
-pub left_at_least : (head : Head) (body more : List ℕ) (txs all : List Tx) (n : ℕ) (disk : Disk) → IsHead head
-    → blocks_of body ≡ map transaction_text txs → blocks_of (body ++ more) ≡ take n (map transaction_text all) → Keeps head body more disk
-    → HasAtLeast head all (length txs) disk
-left_at_least head body more txs all n disk fits first front keeps image fair =
+pub left_at_least : (head : Head) (body more : List ℕ) (groups later : List (List Tx)) (txs all : List Tx) (n : ℕ) (disk : Disk) → IsHead head
+    → AreGroups groups txs → AreGroups (groups ++ later) all → blocks_of body ≡ map transactions_text groups
+    → blocks_of (body ++ more) ≡ take n (map transactions_text (groups ++ later)) → Keeps head body more disk → HasAtLeast head all (length txs) disk
+left_at_least head body more groups later txs all n disk fits are all_are first front keeps image fair =
     let left = left_in head body more disk image fits keeps fair in
-    let (m, blocks) = left_front head body more all n (finite.get image (name_of head)) front left in
-    read_back head body left.end txs all m (finite.get image (name_of head)) fits first blocks left.is
+    let (m, blocks) = left_front head body more (groups ++ later) n (finite.get image (name_of head)) front left in
+    let (count, enough, short, (some, prefix, has)) =
+    read_back head body left.end groups later txs all m (finite.get image (name_of head)) fits are all_are first blocks left.is in
+    (count, enough, short, (some, prefix, has.0, has.1, has.2))
 
 -- the file as it reads has at least what a crash leaves of it
-pub has_most : (head : Head) (body more : List ℕ) (all : List Tx) (n : ℕ) (disk : Disk) → IsHead head
-    → blocks_of (body ++ more) ≡ take n (map transaction_text all) → Keeps head body more disk → HasMost head all disk
-has_most head body more all n disk fits front keeps =
+pub has_most : (head : Head) (body more : List ℕ) (groups : List (List Tx)) (all : List Tx) (n : ℕ) (disk : Disk) → IsHead head → AreGroups groups all
+    → blocks_of (body ++ more) ≡ take n (map transactions_text groups) → Keeps head body more disk → HasMost head all disk
+has_most head body more groups all n disk fits are front keeps =
     let now = blocks_of (body ++ more) in
-    let (within, read) = front_read head body more all n fits front in
+    let (prefix, within) = groups_front groups all (length now) are in
     record {
-      count = length now;
+      count = number_of groups (length now);
       within = within;
-      has = (kept head body more, keeps.file, read);
+      has = (take (length now) groups, prefix, kept head body more, keeps.file, front_read head body more groups n fits front);
       most = λ image fair.
           let left = left_in head body more disk image fits keeps fair in
-          let (m, blocks) = left_front head body more all n (finite.get image (name_of head)) front left in
-          let few : length (blocks_of (body ++ left.end)) ≤ length now = omega (arith, ap length left.blocks, length-take left.count now) in
-          (length (blocks_of (body ++ left.end)), few, (synced_file ((header_of head ++ body) ++ left.end), left.is, (front_read head body left.end all m fits blocks).1));
+          let (m, blocks) = left_front head body more groups n (finite.get image (name_of head)) front left in
+          let found = blocks_of (body ++ left.end) in
+          let few : length found ≤ length now = omega (arith, ap length left.blocks, length-take left.count now) in
+          let some = groups_front groups all (length found) are in (
+            number_of groups (length found),
+            groups_rise groups (length found) (length now) few,
+            (take (length found) groups, some.0, synced_file ((header_of head ++ body) ++ left.end), left.is, front_read head body left.end groups m fits blocks),
+          );
     }
 
 -- ---- no fewer than before
@@ -226,26 +249,30 @@ fair_back head body more older newer image keeps same fair q counted = by_name (
         (subst (Any (λ was. Leaves IsFairEnd was (finite.get image q))) (same_outcomes (name_of head) q older newer same differs) (fair q counted))
 
 -- a bound is at most what is durable of the file
-bounded : (head : Head) (body : List ℕ) (txs all : List Tx) (least : ℕ) (disk : Disk) (files : Files) → blocks_of body ≡ map transaction_text txs
+bounded : (head : Head) (body : List ℕ) (groups : List (List Tx)) (txs all : List Tx) (least : ℕ) (disk : Disk) (files : Files) → AreGroups groups txs
+    → txs ≡ take (length txs) all → AllByRecursion IsTransaction all → blocks_of body ≡ map transactions_text groups
     → HasAtLeast head all least disk → IsFair disk files → finite.get files (name_of head) ≡ Some (synced_file (header_of head ++ body)) → least ≤ length txs
-bounded head body txs all least disk files first has fair is =
-    let (count, enough, short, (file, found, (header, read))) = has files fair in
+bounded head body groups txs all least disk files are prefix sound first has fair is =
+    let (count, enough, short, (some, some_are, file, found, (header, read))) = has files fair in
     let same : file ≡ synced_file (header_of head ++ body) = same_some file (synced_file (header_of head ++ body)) (sym found ∙ is) in
-    let blocks : map transaction_text (take count all) ≡ map transaction_text txs =
+    let blocks : map transactions_text some ≡ map transactions_text groups =
     read ∙ ap (λ (f : File). blocks_of (drop (length (header_of head)) f.bytes)) same
     ∙ ap blocks_of (drop_at (header_of head) body (length (header_of head)) refl) ∙ first in
-    let long : length (take count all) ≡ length txs =
-    sym (length-map (take count all) transaction_text) ∙ ap length blocks ∙ length-map txs transaction_text in
-    omega (arith, enough, short, long, length-take count all)
+    let rows : transactions_text (take count all) ≡ transactions_text (take (length txs) all) =
+    ap transactions_text (sym some_are.together) ∙ sym (rows_joined some) ∙ ap concat blocks ∙ rows_joined groups
+    ∙ ap transactions_text are.together ∙ ap transactions_text prefix in
+    let few = counted_by_rows all count (length txs) sound short (ap length rows) in
+    omega (arith, enough, few)
 
 -- where the newer file has those that are durable of the older one, each bound still holds
-pub no_fewer : (head : Head) (body more : List ℕ) (txs all : List Tx) (older newer : Disk) → blocks_of body ≡ map transaction_text txs
+pub no_fewer : (head : Head) (body more : List ℕ) (groups : List (List Tx)) (txs all : List Tx) (older newer : Disk) → AreGroups groups txs
+    → txs ≡ take (length txs) all → AllByRecursion IsTransaction all → blocks_of body ≡ map transactions_text groups
     → Keeps head body more older → SameOthers (name_of head) older newer → HasAtLeast head all (length txs) newer → NoFewer head all older newer
-no_fewer head body more txs all older newer first keeps same now least before image fair =
+no_fewer head body more groups txs all older newer are prefix sound first keeps same now least before image fair =
     let file = synced_file (header_of head ++ body) in
     let there : finite.get (put_back head body image) (name_of head) ≡ Some file =
     get_inserted image (name_of head) file (name_of head) ∙ ap (λ b. cond b (Some file) (finite.get image (name_of head))) (same_self (name_of head)) in
-    let below = bounded head body txs all least older (put_back head body image) first before
+    let below = bounded head body groups txs all least older (put_back head body image) are prefix sound first before
     (fair_back head body more older newer image keeps same fair) there in
     let (count, enough, short, has) = now image fair in
     (count, omega (arith, below, enough), short, has)
@@ -257,13 +284,22 @@ at_least_weaker head all least fewer disk less has image fair =
 
 -- ---- bytes that are put after a journal's file
 
+-- blocks of groups alone
+groups_alone : (groups : List (List Tx)) → AllByRecursion (λ group. IsData (transactions_text group)) groups
+    → blocks_of (blocks_text groups) ≡ map transactions_text groups
+groups_alone groups fit = ap blocks_of (sym (append-nil (blocks_text groups))) ∙ blocks_again groups [] fit blocks_of_nothing
+
 -- the file has these transactions and all of it is durable, and with these bytes more it has all of those
 pub record Puts (head : Head) (more : List ℕ) (txs all : List Tx) (disk : Disk) : Type 0 where
   pub fits : IsHead head
-  pub file : finite.get disk.now (name_of head) ≡ Some (synced_file (file_text head txs))
+  pub groups : List (List Tx)
+  pub later : List (List Tx)
+  pub grouped : AreGroups groups txs
+  pub all_grouped : AreGroups (groups ++ later) all
+  pub sound : AllByRecursion IsTransaction all
+  pub file : finite.get disk.now (name_of head) ≡ Some (synced_file (file_text head groups))
   pub no_older : finite.get disk.older (name_of head) ≡ None
-  pub before : blocks_of (blocks_text txs) ≡ map transaction_text txs
-  pub after : blocks_of (blocks_text txs ++ more) ≡ map transaction_text all
+  pub after : blocks_of (blocks_text groups ++ more) ≡ map transactions_text (groups ++ later)
 
 keeps_synced : (head : Head) (body : List ℕ) (disk : Disk) → finite.get disk.now (name_of head) ≡ Some (synced_file (header_of head ++ body))
     → finite.get disk.older (name_of head) ≡ None → Keeps head body [] disk
@@ -289,22 +325,34 @@ others_synced name more disk file is = record {
 
 module _ (head : Head) (more : List ℕ) (txs all : List Tx) (disk : Disk) (puts : Puts head more txs all disk) where
   abbrev body : List ℕ
-  body = blocks_text txs
+  body = blocks_text puts.groups
+
+  abbrev all_groups : List (List Tx)
+  all_groups = puts.groups ++ puts.later
+
+  abbrev texts : List (List ℕ)
+  texts = map transactions_text all_groups
+
+  before : blocks_of body ≡ map transactions_text puts.groups
+  before = groups_alone puts.groups puts.grouped.fit
+
+  -- the transactions are a prefix of all
+  whole : all ≡ txs ++ transactions_of puts.later
+  whole =
+      sym puts.all_grouped.together ∙ transactions_of-append puts.groups puts.later ∙ ap (λ (l : List Tx). l ++ transactions_of puts.later) puts.grouped.together
+
+  prefix : txs ≡ take (length txs) all
+  prefix = sym (take_at txs (transactions_of puts.later) (length txs) refl) ∙ ap (take (length txs)) (sym whole)
 
   no_less : length txs ≤ length all
-  no_less =
-      let (rest, joined) = blocks_first body more in
-      let long : length all ≡ length txs + length rest =
-      sym (length-map all transaction_text) ∙ ap length (sym puts.after ∙ joined) ∙ length-append (blocks_of body) rest
-      ∙ ap (λ (blocks : List (List ℕ)). length blocks + length rest) puts.before ∙ ap (λ n. n + length rest) (length-map txs transaction_text) in
-      omega (arith, long)
+  no_less = omega (arith, ap length whole, length-append txs (transactions_of puts.later))
 
   keeps_before : Keeps head body [] disk
   keeps_before = keeps_synced head body disk puts.file puts.no_older
 
   keeps_appended : (front : List ℕ) → Keeps head body front (appended (name_of head) front disk)
   keeps_appended front = record {
-    file = get_changed (longer_by front) (name_of head) disk.now (synced_file (file_text head txs)) (name_of head) puts.file
+    file = get_changed (longer_by front) (name_of head) disk.now (synced_file (file_text head puts.groups)) (name_of head) puts.file
         ∙ ap (λ same. cond same (Some (kept head body front)) (finite.get disk.now (name_of head))) (same_self (name_of head));
     no_older = puts.no_older;
   }
@@ -312,25 +360,26 @@ module _ (head : Head) (more : List ℕ) (txs all : List Tx) (disk : Disk) (puts
   -- nothing was put
   pub has_before : HasAtLeast head all (length txs) disk
   has_before =
-      let (n, front) = front_put body more 0 (map transaction_text all) puts.after in
-      left_at_least head body [] txs all n disk puts.fits puts.before front keeps_before
+      let (n, front) = front_put body more 0 texts puts.after in
+      left_at_least head body [] puts.groups puts.later txs all n disk puts.fits puts.grouped puts.all_grouped before front keeps_before
 
   -- all was put, and synced
-  synced_front : blocks_of ((body ++ more) ++ []) ≡ take (length (map transaction_text all)) (map transaction_text all)
-  synced_front =
-      let texts = map transaction_text all in
-      ap blocks_of (append-nil (body ++ more)) ∙ puts.after ∙ sym (take_all (length texts) texts (omega arith))
+  all_front : blocks_of ((body ++ more) ++ []) ≡ take (length texts) texts
+  all_front = ap blocks_of (append-nil (body ++ more)) ∙ puts.after ∙ sym (take_all (length texts) texts (omega arith))
 
   keeps_all : Keeps head (body ++ more) [] (with_appended (name_of head) more disk)
   keeps_all =
       keeps_synced head (body ++ more) (with_appended (name_of head) more disk)
-      (bytes_extended (name_of head) more (file_text head txs) disk puts.file ∙ ap (λ bytes. Some (synced_file bytes)) (append_assoc (header_of head) body more))
+      (bytes_extended (name_of head) more (file_text head puts.groups) disk puts.file
+      ∙ ap (λ bytes. Some (synced_file bytes)) (append_assoc (header_of head) body more))
       puts.no_older
 
   pub has_all : HasAtLeast head all (length all) (with_appended (name_of head) more disk)
   has_all =
-      left_at_least head (body ++ more) [] all all (length (map transaction_text all)) (with_appended (name_of head) more disk) puts.fits puts.after
-      synced_front keeps_all
+      let none : all_groups ++ [] ≡ all_groups = append-nil all_groups in
+      left_at_least head (body ++ more) [] all_groups [] all all (length texts) (with_appended (name_of head) more disk) puts.fits puts.all_grouped
+      (subst (λ groups. AreGroups groups all) (sym none) puts.all_grouped) puts.after
+      (all_front ∙ ap (λ groups. take (length texts) (map transactions_text groups)) (sym none)) keeps_all
 
   -- the states in between: no other file changes, and this one has no fewer each time
   abbrev IsBetween : Disk → Type 0
@@ -339,31 +388,33 @@ module _ (head : Head) (more : List ℕ) (txs all : List Tx) (disk : Disk) (puts
   put_some : (count : ℕ) → IsBetween (appended (name_of head) (take count more) disk) × NoFewer head all disk (appended (name_of head) (take count more) disk)
   put_some count =
       let next = appended (name_of head) (take count more) disk in
-      let (n, front) = front_put body more count (map transaction_text all) puts.after in
-      let has = left_at_least head body (take count more) txs all n next puts.fits puts.before front (keeps_appended (take count more)) in
-      let others = others_appended (name_of head) (take count more) disk (synced_file (file_text head txs)) puts.file in
-      ((others, has), no_fewer head body [] txs all disk next puts.before keeps_before others has)
+      let (n, front) = front_put body more count texts puts.after in
+      let has = left_at_least head body (take count more) puts.groups puts.later txs all n next puts.fits puts.grouped puts.all_grouped before front
+      (keeps_appended (take count more)) in
+      let others = others_appended (name_of head) (take count more) disk (synced_file (file_text head puts.groups)) puts.file in
+      ((others, has), no_fewer head body [] puts.groups txs all disk next puts.grouped prefix puts.sound before keeps_before others has)
 
   put_all : IsBetween (with_appended (name_of head) more disk)
       × NoFewer head all (appended (name_of head) more disk) (with_appended (name_of head) more disk)
   put_all =
-      let file = synced_file (file_text head txs) in
+      let file = synced_file (file_text head puts.groups) in
       let last = with_appended (name_of head) more disk in
       let has = at_least_weaker head all (length all) (length txs) last no_less has_all in (
         (others_extended (name_of head) more disk file puts.file, has),
-        no_fewer head body more txs all (appended (name_of head) more disk) last puts.before (keeps_appended more)
+        no_fewer head body more puts.groups txs all (appended (name_of head) more disk) last puts.grouped prefix puts.sound before (keeps_appended more)
             (others_synced (name_of head) more disk file puts.file) has,
       )
 
   -- and it has at least what a crash leaves of it
   most_some : (count : ℕ) → HasMost head all (appended (name_of head) (take count more) disk)
   most_some count =
-      let (n, front) = front_put body more count (map transaction_text all) puts.after in
-      has_most head body (take count more) all n (appended (name_of head) (take count more) disk) puts.fits front (keeps_appended (take count more))
+      let (n, front) = front_put body more count texts puts.after in
+      has_most head body (take count more) all_groups all n (appended (name_of head) (take count more) disk) puts.fits puts.all_grouped front
+      (keeps_appended (take count more))
 
   most_all : HasMost head all (with_appended (name_of head) more disk)
   most_all =
-      has_most head (body ++ more) [] all (length (map transaction_text all)) (with_appended (name_of head) more disk) puts.fits synced_front keeps_all
+      has_most head (body ++ more) [] all_groups all (length texts) (with_appended (name_of head) more disk) puts.fits puts.all_grouped all_front keeps_all
 
   module _ {T E : Type 0} (wanted bytes : List ℕ) (after : Option (List Disk)) (past : List Disk) (result : Result T E) (named : wanted ≡ name_of head)
       (same : bytes ≡ more) (appends : MatchResult result (λ value. after ≡ Some (with_appended wanted bytes disk ∷ appended wanted bytes disk ∷ disk ∷ past))
@@ -386,31 +437,39 @@ module _ (head : Head) (more : List ℕ) (txs all : List Tx) (disk : Disk) (puts
 
 -- ---- what a journal's calls put
 
--- blocks of transactions alone
-alone : (txs : List Tx) → AllByRecursion IsTransaction txs → blocks_of (blocks_text txs) ≡ map transaction_text txs
-alone txs sound = ap blocks_of (sym (append-nil (blocks_text txs))) ∙ blocks_again txs [] sound blocks_of_nothing
-
 -- what waits
 pub puts_waiting : (journal : Journal) (disk : Disk) (txs waits : List Tx) → IsWritten journal disk txs → Waits journal waits
     → Puts journal.head journal.waiting txs (txs ++ waits) disk
-puts_waiting journal disk txs waits written waiting = record {
-  fits = written.fits;
-  file = written.file;
-  no_older = written.no_older;
-  before = alone txs written.sound;
-  after = ap (λ bytes. blocks_of (blocks_text txs ++ bytes)) waiting.bytes ∙ ap blocks_of (sym (blocks_text-append txs waits))
-      ∙ alone (txs ++ waits) (all_joined txs waits written.sound waiting.sound);
-}
+puts_waiting journal disk txs waits written waiting =
+    let all = groups_joined written.groups waiting.groups txs waits written.grouped waiting.grouped in
+    record {
+      fits = written.fits;
+      groups = written.groups;
+      later = waiting.groups;
+      grouped = written.grouped;
+      all_grouped = all;
+      sound = all_sound txs waits written.sound waiting.sound;
+      file = written.file;
+      no_older = written.no_older;
+      after = ap (λ bytes. blocks_of (blocks_text written.groups ++ bytes)) waiting.bytes
+          ∙ ap blocks_of (sym (blocks_text-append written.groups waiting.groups)) ∙ groups_alone (written.groups ++ waiting.groups) all.fit;
+    }
 
 -- the marker of the end
 pub puts_marker : (journal : Journal) (disk : Disk) (txs : List Tx) → IsWritten journal disk txs → Puts journal.head end_marker txs txs disk
-puts_marker journal disk txs written = record {
-  fits = written.fits;
-  file = written.file;
-  no_older = written.no_older;
-  before = alone txs written.sound;
-  after = blocks_again txs end_marker written.sound blocks_of_marker;
-}
+puts_marker journal disk txs written =
+    let none : written.groups ++ [] ≡ written.groups = append-nil written.groups in
+    record {
+      fits = written.fits;
+      groups = written.groups;
+      later = [];
+      grouped = written.grouped;
+      all_grouped = subst (λ groups. AreGroups groups txs) (sym none) written.grouped;
+      sound = written.sound;
+      file = written.file;
+      no_older = written.no_older;
+      after = blocks_again written.groups end_marker written.grouped.fit blocks_of_marker ∙ ap (map transactions_text) (sym none);
+    }
 
 pub wrote_moments : {T E : Type 0} (journal : Journal) (name bytes : List ℕ) (before after : Option (List Disk)) (result : Result T E) (txs waits : List Tx)
     → name ≡ string_bytes journal.name → bytes ≡ journal.waiting → AppendsSynced name bytes before after result
@@ -472,7 +531,7 @@ pub caught_up_synced : (journal : Journal) (states : Option (List Disk)) (count 
 caught_up_synced journal states count txs waits none pushed =
     where_told states _ (λ disk past told written waiting.
     let total = pushed ∙ counted journal disk txs waits written waiting in
-    let nothing : waits ≡ [] = nothing_waits waits (sym none ∙ waiting.bytes) in
+    let nothing : waits ≡ [] = nothing_waits journal waits none waiting in
     let same : length txs ≡ count = sym (ap length (ap (λ more. txs ++ more) nothing ∙ append-nil txs)) ∙ sym total in
     let has = has_before journal.head journal.waiting txs (txs ++ waits) disk (puts_waiting journal disk txs waits written waiting) in
     (total, (disk, past, told, subst (λ n. HasAtLeast journal.head (txs ++ waits) n disk) same has)))

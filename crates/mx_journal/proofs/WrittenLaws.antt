@@ -15,13 +15,14 @@ use Rattle.mx_xlog.specs.Headers.{IsHead, header_of}
 use Rattle.mx_xlog.specs.Blocks.{end_marker}
 use Rattle.mx_row.specs.declared.tx.Tx.{Tx}
 use Rattle.mx_files.specs.Names.{same_bytes, draft_ending}
+use Rattle.mx_row.specs.Rows.{transactions_of}
 use Rattle.mx_row.specs.Clocks.{clock_after}
 use Rattle.mx_row.proofs.ClockLaws.{clock_after-append}
 use Rattle.mx_journal.specs.declared.journal.Journal.{Journal}
 use Rattle.mx_journal.specs.Counting.{SameButPushed, caught_up}
 use Rattle.mx_images.specs.Changes.{Changed, with_draft, with_appended, renamed_durably, IsNow, SameOthers}
-use Rattle.mx_journal.specs.Written.{IsWritten, Waits, IsNewest, Created, file_text, name_of, draft_name_of, blocks_text}
-use Rattle.mx_journal.proofs.BlockLaws.{all_joined, blocks_text-append, nothing_waits}
+use Rattle.mx_journal.specs.Written.{IsWritten, Waits, IsNewest, HasEnded, Created, file_text, name_of, draft_name_of, blocks_text}
+use Rattle.mx_journal.proofs.BlockLaws.{all_sound, groups_joined, blocks_text-append, no_group}
 use Rattle.mx_images.proofs.DiskLaws.{same_self, same_name, get_extended, get_made, only_one, first_one}
 use Rattle.mx_images.proofs.ToldLaws.{told_both, told_weaker, where_told, now_changed}
 
@@ -72,6 +73,8 @@ begun_written journal disk fits kind named clock long synced newest =
         fits = fits;
         kind = kind;
         named = named;
+        groups = [];
+        grouped = record { together = refl; fit = tt };
         file = get_made draft name header disk name
             ∙ ap (λ same. cond same (Some (synced_file header)) (cond (same_bytes name draft) None (finite.get disk.now name))) (same_self name)
             ∙ ap (λ bytes. Some (synced_file bytes)) (sym all);
@@ -109,9 +112,9 @@ bytes_extended name more bytes disk is =
     get_extended name more disk (synced_file bytes) name is
     ∙ ap (λ same. cond same (Some (synced_file (bytes ++ more))) (finite.get disk.now name)) (same_self name)
 
-file_text-append : (head : Head) (txs waits : List Tx) → file_text head txs ++ blocks_text waits ≡ file_text head (txs ++ waits)
-file_text-append head txs waits =
-    append_assoc (header_of head) (blocks_text txs) (blocks_text waits) ∙ ap (λ text. header_of head ++ text) (sym (blocks_text-append txs waits))
+file_text-append : (head : Head) (some more : List (List Tx)) → file_text head some ++ blocks_text more ≡ file_text head (some ++ more)
+file_text-append head some more =
+    append_assoc (header_of head) (blocks_text some) (blocks_text more) ∙ ap (λ text. header_of head ++ text) (sym (blocks_text-append some more))
 
 -- a journal that put what waited after its file
 abbrev pub wrote : Journal → ℕ → Journal
@@ -123,40 +126,50 @@ pub wrote_written : (journal : Journal) (long : ℕ) (disk : Disk) (txs waits : 
     × SameOthers (name_of journal.head) disk (with_appended (name_of journal.head) journal.waiting disk)
 wrote_written journal long disk txs waits sum written waiting =
     let name = name_of journal.head in
-    let all : file_text journal.head txs ++ journal.waiting ≡ file_text journal.head (txs ++ waits) =
-    ap (λ more. file_text journal.head txs ++ more) waiting.bytes ∙ file_text-append journal.head txs waits in (
+    let text = file_text journal.head written.groups in
+    let all : text ++ journal.waiting ≡ file_text journal.head (written.groups ++ waiting.groups) =
+    ap (λ more. text ++ more) waiting.bytes ∙ file_text-append journal.head written.groups waiting.groups in (
       record {
         fits = written.fits;
         kind = written.kind;
         named = written.named;
-        file = bytes_extended name journal.waiting (file_text journal.head txs) disk written.file ∙ ap (λ bytes. Some (synced_file bytes)) all;
+        groups = written.groups ++ waiting.groups;
+        grouped = groups_joined written.groups waiting.groups txs waits written.grouped waiting.grouped;
+        file = bytes_extended name journal.waiting text disk written.file ∙ ap (λ bytes. Some (synced_file bytes)) all;
         no_older = written.no_older;
-        newest = newest_extended name journal.waiting disk (synced_file (file_text journal.head txs)) written.file written.newest;
+        newest = newest_extended name journal.waiting disk (synced_file text) written.file written.newest;
         clock = waiting.next ∙ ap (λ clock. clock_after clock waits) written.clock ∙ sym (clock_after-append journal.head.clock txs waits);
-        long = sum ∙ ap (λ n. n + length journal.waiting) written.long ∙ sym (length-append (file_text journal.head txs) journal.waiting) ∙ ap length all;
+        long = sum ∙ ap (λ n. n + length journal.waiting) written.long ∙ sym (length-append text journal.waiting) ∙ ap length all;
         synced = waiting.pushed ∙ ap (λ n. n + length waits) written.synced ∙ sym (length-append txs waits);
-        sound = all_joined txs waits written.sound waiting.sound;
+        sound = all_sound txs waits written.sound waiting.sound;
       },
-      others_extended name journal.waiting disk (synced_file (file_text journal.head txs)) written.file,
+      others_extended name journal.waiting disk (synced_file text) written.file,
     )
+
+-- nothing waits where there are no bytes
+pub nothing_waits : (journal : Journal) (waits : List Tx) → journal.waiting ≡ [] → Waits journal waits → waits ≡ []
+nothing_waits journal waits none waiting =
+    sym waiting.grouped.together ∙ ap transactions_of (no_group waiting.groups (sym none ∙ waiting.bytes))
 
 -- a journal in which nothing waited
 pub caught_up_written : (journal : Journal) (disk : Disk) (txs waits : List Tx) → journal.waiting ≡ []
     → IsWritten journal disk txs → Waits journal waits → IsWritten (caught_up journal) disk (txs ++ waits) × SameOthers (name_of journal.head) disk disk
 caught_up_written journal disk txs waits none written waiting =
-    let nothing : waits ≡ [] = nothing_waits waits (sym none ∙ waiting.bytes) in
+    let nothing : waits ≡ [] = nothing_waits journal waits none waiting in
     let same : txs ++ waits ≡ txs = ap (λ more. txs ++ more) nothing ∙ append-nil txs in (
       record {
         fits = written.fits;
         kind = written.kind;
         named = written.named;
-        file = written.file ∙ ap (λ all. Some (synced_file (file_text journal.head all))) (sym same);
+        groups = written.groups;
+        grouped = record { together = written.grouped.together ∙ sym same; fit = written.grouped.fit };
+        file = written.file;
         no_older = written.no_older;
         newest = written.newest;
         clock = waiting.next ∙ ap (clock_after journal.clock) nothing ∙ written.clock ∙ ap (clock_after journal.head.clock) (sym same);
-        long = written.long ∙ ap (λ all. length (file_text journal.head all)) (sym same);
+        long = written.long;
         synced = waiting.pushed ∙ ap (λ more. journal.synced + length more) nothing ∙ omega arith ∙ written.synced ∙ ap length (sym same);
-        sound = all_joined txs waits written.sound waiting.sound;
+        sound = all_sound txs waits written.sound waiting.sound;
       },
       record { files = λ other differs. refl; older = refl },
     )
@@ -167,12 +180,13 @@ file_there journal disk (txs, written) = rw (ap (finite.get disk.now) written.na
 
 -- a file that was ended
 pub ended : (journal : Journal) (disk : Disk) (txs : List Tx) → IsWritten journal disk txs
-    → (finite.get (with_appended (name_of journal.head) end_marker disk).now (name_of journal.head) ≡ Some (synced_file (file_text journal.head txs ++ end_marker)))
+    → HasEnded journal.head txs (with_appended (name_of journal.head) end_marker disk)
     × SameOthers (name_of journal.head) disk (with_appended (name_of journal.head) end_marker disk)
-ended journal disk txs written = (
-  bytes_extended (name_of journal.head) end_marker (file_text journal.head txs) disk written.file,
-  others_extended (name_of journal.head) end_marker disk (synced_file (file_text journal.head txs)) written.file,
-)
+ended journal disk txs written =
+    let text = file_text journal.head written.groups in (
+      (written.groups, written.grouped, bytes_extended (name_of journal.head) end_marker text disk written.file),
+      others_extended (name_of journal.head) end_marker disk (synced_file text) written.file,
+    )
 
 -- ---- the same of a directory's newest state
 
@@ -221,11 +235,10 @@ caught_up_now journal new states txs waits is none =
 pub ended_now : (journal : Journal) (name bytes : List ℕ) (before after : Option (List Disk)) (txs : List Tx)
     → name ≡ string_bytes journal.name → bytes ≡ end_marker → Changed (with_appended name bytes) before after
     → IfKnown before (λ disk past. IsWritten journal disk txs
-    → IsNow after (λ now. (finite.get now.now (name_of journal.head) ≡ Some (synced_file (file_text journal.head txs ++ end_marker)))
-    × SameOthers (name_of journal.head) disk now))
+    → IsNow after (λ now. HasEnded journal.head txs now × SameOthers (name_of journal.head) disk now))
 ended_now journal name bytes before after txs named same changed =
     told_weaker before (λ disk past step written. now_changed (with_appended name bytes disk) after step
-    (subst (λ now. (finite.get now.now (name_of journal.head) ≡ Some (synced_file (file_text journal.head txs ++ end_marker))) × SameOthers (name_of journal.head) disk now)
+    (subst (λ now. HasEnded journal.head txs now × SameOthers (name_of journal.head) disk now)
     (sym (extended_as name (name_of journal.head) bytes end_marker disk (named ∙ written.named) same))
     (ended journal disk txs written))) changed
 
@@ -236,6 +249,8 @@ pushed_written journal after waiting disk txs same written = record {
   fits = rw same.head written.fits;
   kind = rw same.head written.kind;
   named = rw (same.name, same.head) written.named;
+  groups = written.groups;
+  grouped = written.grouped;
   file = rw same.head written.file;
   no_older = rw same.head written.no_older;
   newest = rw same.head written.newest;

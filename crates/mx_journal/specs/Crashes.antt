@@ -5,20 +5,21 @@ use Rattle.mx_outside.specs.Disks.{Disk, File, Files}
 use Rattle.mx_xlog.specs.declared.head.Head.{Head}
 use Rattle.mx_xlog.specs.Headers.{header_of}
 use Rattle.mx_row.specs.declared.tx.Tx.{Tx}
-use Rattle.mx_row.specs.Rows.{transaction_text}
+use Rattle.mx_row.specs.Rows.{transactions_text}
 use Rattle.mx_xlog.specs.Files.{FileRead, ReadsAs}
 use Rattle.mx_images.specs.Fair.{IsFair}
-use Rattle.mx_journal.specs.Written.{name_of}
+use Rattle.mx_journal.specs.Written.{AreGroups, name_of}
 use Rattle.mx_images.specs.Changes.{SameBut}
 
--- a journal's file of these transactions, a block each, as it reads
-abbrev pub read_of : Head → List Tx → FileRead
-read_of head transactions = record { head = head; size = length (header_of head); blocks = map transaction_text transactions }
+-- a journal's file of these groups of transactions, a block each, as it reads
+abbrev pub read_of : Head → List (List Tx) → FileRead
+read_of head groups = record { head = head; size = length (header_of head); blocks = map transactions_text groups }
 
--- the journal's file is there, and has these transactions
+-- the journal's file is there, and has these transactions in groups
 abbrev pub HasFile : Head → List Tx → Files → Type 0
 HasFile head transactions files =
-    (file : File) × (finite.get files (name_of head) ≡ Some file) × ReadsAs file.bytes (Some (read_of head transactions))
+    (groups : List (List Tx)) × AreGroups groups transactions
+    × (file : File) × (finite.get files (name_of head) ≡ Some file) × ReadsAs file.bytes (Some (read_of head groups))
 
 -- After any crash the journal's file has a prefix of these transactions, which has at least so many of them.
 abbrev pub HasAtLeast : Head → List Tx → ℕ → Disk → Type 0

@@ -7,21 +7,26 @@ use Rattle.std.specs.declared.cmp.Ordering.TheVariants.{Greater}
 use Rattle.std.specs.FinMap as finite
 use Rattle.mx_xlog.specs.declared.head.Head.{Head}
 use Rattle.mx_xlog.specs.Headers.{IsHead, header_of}
-use Rattle.mx_xlog.specs.Blocks.{block_of}
+use Rattle.mx_xlog.specs.Blocks.{IsData, block_of, end_marker}
 use Rattle.mx_outside.specs.Disks.{Disk, synced_file, outcomes}
 use Rattle.mx_row.specs.declared.tx.Tx.{Tx}
 use Rattle.mx_row.specs.Clocks.{clock_after}
-use Rattle.mx_row.specs.Rows.{IsTransaction, transaction_text}
+use Rattle.mx_row.specs.Rows.{IsTransaction, transactions_of, transactions_text}
 use Rattle.mx_files.specs.Names.{journal_name, draft_ending, is_journal, is_snapshot, same_bytes}
 use Rattle.mx_journal.specs.declared.journal.Journal.{Journal}
 
--- a block for each transaction
-abbrev pub blocks_text : List Tx → List ℕ
-blocks_text transactions = concat (map (λ transaction. block_of (transaction_text transaction)) transactions)
+-- a block for each group of transactions
+abbrev pub blocks_text : List (List Tx) → List ℕ
+blocks_text groups = concat (map (λ group. block_of (transactions_text group)) groups)
 
--- a journal's file of these transactions
-abbrev pub file_text : Head → List Tx → List ℕ
-file_text head transactions = header_of head ++ blocks_text transactions
+-- a journal's file of these groups of transactions
+abbrev pub file_text : Head → List (List Tx) → List ℕ
+file_text head groups = header_of head ++ blocks_text groups
+
+-- these groups are the transactions in order, and the rows of each group fit into a block
+pub record AreGroups (groups : List (List Tx)) (transactions : List Tx) : Type 0 where
+  pub together : transactions_of groups ≡ transactions
+  pub fit : AllByRecursion (λ group. IsData (transactions_text group)) groups
 
 abbrev pub name_of : Head → List ℕ
 name_of head = journal_name (sum head.clock)
@@ -35,26 +40,36 @@ IsNewest name disk =
     (other : List ℕ) → ((is_journal other ≡ true) ⊎ (is_snapshot other ≡ true)) → Any IsSome (outcomes other disk)
     → ¬ (slice_cmp nat_cmp (take 20 other) (take 20 name) ≡ Greater)
 
--- The journal's file has these transactions, all of it is durable, and no other file is newer. The journal keeps the
--- file's name, its length, its vclock and how many transactions it has.
+-- The journal's file has these transactions in groups, a block each, all of it is durable, and no other file is newer. The
+-- journal keeps the file's name, its length, its vclock and how many transactions it has.
 pub record IsWritten (journal : Journal) (disk : Disk) (transactions : List Tx) : Type 0 where
   pub fits : IsHead journal.head
   pub kind : journal.head.snapshot ≡ false
   pub named : string_bytes journal.name ≡ name_of journal.head
-  pub file : finite.get disk.now (name_of journal.head) ≡ Some (synced_file (file_text journal.head transactions))
+  pub groups : List (List Tx)
+  pub grouped : AreGroups groups transactions
+  pub file : finite.get disk.now (name_of journal.head) ≡ Some (synced_file (file_text journal.head groups))
   pub no_older : finite.get disk.older (name_of journal.head) ≡ None
   pub newest : IsNewest (name_of journal.head) disk
   pub clock : journal.clock ≡ clock_after journal.head.clock transactions
-  pub long : journal.length ≡ length (file_text journal.head transactions)
+  pub long : journal.length ≡ length (file_text journal.head groups)
   pub synced : journal.synced ≡ length transactions
   pub sound : AllByRecursion IsTransaction transactions
 
--- these transactions wait to be written
+-- these transactions wait to be written in groups, a block each
 pub record Waits (journal : Journal) (transactions : List Tx) : Type 0 where
-  pub bytes : journal.waiting ≡ blocks_text transactions
+  pub groups : List (List Tx)
+  pub grouped : AreGroups groups transactions
+  pub bytes : journal.waiting ≡ blocks_text groups
   pub next : journal.next ≡ clock_after journal.clock transactions
   pub pushed : journal.pushed ≡ journal.synced + length transactions
   pub sound : AllByRecursion IsTransaction transactions
+
+-- the journal's file has these transactions in groups, a block each, and the marker of its end, and all of it is durable
+abbrev pub HasEnded : Head → List Tx → Disk → Type 0
+HasEnded head transactions disk =
+    (groups : List (List Tx)) × AreGroups groups transactions
+    × (finite.get disk.now (name_of head) ≡ Some (synced_file (file_text head groups ++ end_marker)))
 
 -- the file of this head was made in place of its draft and of the file that had its name; all names are durable
 pub record Created (head : Head) (before after : Disk) : Type 0 where

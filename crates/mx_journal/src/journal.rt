@@ -1,12 +1,11 @@
 //! The journal.
 
 ghost use Rattle.std.specs.Prelude.{◌≡◌, ◌+◌, ◌++◌, ◌∷◌, [], ⊤, false, true, List, length, take, Some, IfOk, MatchResult, OnErr, OnOk};
-ghost use Rattle.std.specs.FinMap as finite;
 ghost use Rattle.mx_outside.specs.Causes.{HasCauseOf};
-ghost use Rattle.mx_outside.specs.Disks.{Disk, Files, IfKnown, KnownAlike, synced_file};
+ghost use Rattle.mx_outside.specs.Disks.{Disk, Files, IfKnown, KnownAlike};
 ghost use Rattle.mx_outside.specs.Moments.{Moments};
 ghost use Rattle.mx_xlog.specs.Headers.{IsHead};
-ghost use Rattle.mx_xlog.specs.Blocks.{block_of, end_marker};
+ghost use Rattle.mx_xlog.specs.Blocks.{block_of};
 ghost use Rattle.mx_row.specs.declared.tx.Tx.{Tx};
 ghost use Rattle.mx_row.specs.Rows.{IsTransaction, transaction_text};
 ghost use Rattle.mx_row.specs.Clocks.{follows, clock_after_one};
@@ -14,7 +13,7 @@ ghost use Rattle.mx_journal.specs.Counting.{SameButPushed, caught_up};
 ghost use Rattle.mx_journal.specs.declared.fault.JournalFault.TheVariants.{Failed};
 ghost use Rattle.mx_images.specs.Fair.{IsFair};
 ghost use Rattle.mx_journal.specs.Crashes.{HasAtLeast, HasBegun, HasMost, MayBegin, NoFewer};
-ghost use Rattle.mx_journal.specs.Written.{IsWritten, Waits, IsNewest, Created, file_text, name_of};
+ghost use Rattle.mx_journal.specs.Written.{IsWritten, Waits, IsNewest, HasEnded, Created, name_of};
 ghost use Rattle.mx_images.specs.Changes.{IsNow, KeepsOthers, SameOthers};
 
 use crate::fault::JournalFault;
@@ -175,8 +174,7 @@ impl Journal {
         requires none { self.waiting ≡ [] }
         ensures told { KnownAlike (D.states dir.old) (D.states dir.new) }
         ensures ended { (txs : List Tx) → IfKnown (D.states dir.old) (λ disk past. IsWritten self disk txs
-            → OnOk result (IsNow (D.states dir.new) (λ now. (finite.get now.now (name_of self.head) ≡ Some (synced_file (file_text self.head txs ++ end_marker)))
-            × SameOthers (name_of self.head) disk now))) }
+            → OnOk result (IsNow (D.states dir.new) (λ now. HasEnded self.head txs now × SameOthers (name_of self.head) disk now))) }
         ensures moments { (txs : List Tx) → IfKnown (D.states dir.old) (λ disk past. IsWritten self disk txs
             → Moments (λ now. SameOthers (name_of self.head) disk now × HasAtLeast self.head txs (length txs) now)
             (NoFewer self.head txs) (D.states dir.new) disk past) }

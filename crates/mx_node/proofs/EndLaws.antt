@@ -1,7 +1,6 @@
 -- What a directory recovers to whose journal was ended in order.
-use Rattle.std.proofs.Common.{◌≡◌, ℕ, Bool, true, false, List, [], ◌∷◌, ◌++◌, length, map, take, drop, Option, Some, None, Ok, refl, sym, ap, ◌∙◌, subst, arith}
+use Rattle.std.proofs.Common.{◌≡◌, ℕ, Bool, true, false, List, ◌++◌, length, map, take, drop, Option, Some, None, Ok, refl, sym, ap, ◌∙◌, subst, arith}
 use Rattle.std.specs.Prelude.{is_some, sum}
-use Rattle.std.specs.List.{AllByRecursion}
 use Rattle.std.specs.Cmp.Lexicographic.{bytes_decides}
 use Rattle.std.specs.FinMap as finite
 use Rattle.std.proofs.lemmas.List.{append_assoc, drop_at, take_all}
@@ -12,13 +11,10 @@ use Rattle.mx_xlog.specs.Blocks.{end_marker}
 use Rattle.mx_xlog.specs.Reading.{blocks_of}
 use Rattle.mx_xlog.proofs.ReadingLaws.{blocks_of_marker}
 use Rattle.mx_row.specs.declared.tx.Tx.{Tx}
-use Rattle.mx_model.specs.State.{State}
-use Rattle.mx_model.specs.Answers.{state_after_rows}
 use Rattle.mx_model.specs.Transactions.{state_after}
-use Rattle.mx_row.specs.Clocks.{clock_after, clock_after_one}
-use Rattle.mx_row.specs.Rows.{IsTransaction, transaction_text}
+use Rattle.mx_row.specs.Clocks.{clock_after}
+use Rattle.mx_row.specs.Rows.{transactions_of, transactions_text}
 use Rattle.mx_model.specs.Directories.{Reached, AllFollow}
-use Rattle.mx_xlog.specs.Files.{FileRead}
 use Rattle.mx_files.specs.Names.{journal_name, same_bytes}
 use Rattle.mx_model.specs.Histories.{Base, History, journal_of}
 use Rattle.mx_model.proofs.HistoryLaws.{base_of_ledger}
@@ -27,7 +23,8 @@ use Rattle.mx_model.proofs.TransactionLaws.{after_blocks_again}
 use Rattle.mx_journal.proofs.BlockLaws.{blocks_again}
 use Rattle.mx_engine.specs.declared.engine.Engine.{Engine}
 use Rattle.mx_journal.specs.declared.journal.Journal.{Journal}
-use Rattle.mx_journal.specs.Written.{IsWritten, blocks_text, file_text, name_of}
+use Rattle.mx_journal.specs.Crashes.{read_of}
+use Rattle.mx_journal.specs.Written.{IsWritten, AreGroups, HasEnded, blocks_text, file_text, name_of}
 use Rattle.mx_images.specs.Changes.{IsNow, SameOthers}
 use Rattle.mx_images.proofs.ToldLaws.{told_both, told_now}
 use Rattle.mx_images.specs.Fair.{AllDurable}
@@ -35,68 +32,58 @@ use Rattle.mx_node.specs.Ready.{Ready, taken_of}
 use Rattle.mx_node.specs.Serving.{DirectoryHolds}
 use Rattle.mx_node.proofs.ReadyLaws.{IsOnDisk}
 
--- transactions that follow can be written
-each_is_transaction : (now : State) (clock : List ℕ) (transactions : List Tx) → AllFollow now clock transactions
-    → AllByRecursion IsTransaction transactions
-each_is_transaction now clock [] all = tt
-each_is_transaction now clock (transaction ∷ others) all =
-    (all.0, each_is_transaction (state_after_rows now transaction.rows) (clock_after_one clock transaction) others all.3)
-
 -- the file of a journal that was ended
-abbrev pub ended_text : Journal → List Tx → List ℕ
-ended_text journal transactions = file_text journal.head transactions ++ end_marker
+abbrev pub ended_text : Journal → List (List Tx) → List ℕ
+ended_text journal groups = file_text journal.head groups ++ end_marker
 
 -- the journal was ended with these transactions: its file has them and the marker, and no other file changed
 abbrev pub IsEnded : Journal → List Tx → Disk → Disk → Type 0
-IsEnded journal transactions before now =
-    (finite.get now.now (name_of journal.head) ≡ Some (synced_file (ended_text journal transactions))) × SameOthers (name_of journal.head) before now
+IsEnded journal transactions before now = HasEnded journal.head transactions now × SameOthers (name_of journal.head) before now
 
--- the file as it reads
-abbrev read_of : Journal → List Tx → FileRead
-read_of journal transactions = record { head = journal.head; size = length (header_of journal.head); blocks = map transaction_text transactions }
-
-behind_header : (journal : Journal) (transactions : List Tx) → AllByRecursion IsTransaction transactions
-    → map transaction_text transactions ≡ blocks_of (drop (length (header_of journal.head)) (ended_text journal transactions))
-behind_header journal transactions each =
+behind_header : (journal : Journal) (groups : List (List Tx)) (transactions : List Tx) → AreGroups groups transactions
+    → map transactions_text groups ≡ blocks_of (drop (length (header_of journal.head)) (ended_text journal groups))
+behind_header journal groups transactions are =
     let header = header_of journal.head in
-    let blocks = blocks_text transactions in
+    let blocks = blocks_text groups in
     sym (ap (λ l. blocks_of (drop (length header) l)) (append_assoc header blocks end_marker)
     ∙ ap blocks_of (drop_at header (blocks ++ end_marker) (length header) refl)
-    ∙ blocks_again transactions end_marker each blocks_of_marker)
+    ∙ blocks_again groups end_marker are.fit blocks_of_marker)
 
 all_on_disk : (journal : Journal) (transactions : List Tx) (before now : Disk) → IsWritten journal before transactions
     → IsEnded journal transactions before now
     → AllDurable before → AllDurable now
-all_on_disk journal transactions before now written ended all name file kind there = by_test (same_bytes name (name_of journal.head)) refl
+all_on_disk journal transactions before now written ((groups, are, there_now), others) all name file kind there =
+    by_test (same_bytes name (name_of journal.head)) refl
   where
     by_test : (b : Bool) → same_bytes name (name_of journal.head) ≡ b → (file.synced ≡ length file.bytes) × (finite.get now.older name ≡ None)
     by_test true same =
         let key : name ≡ name_of journal.head = (bytes_decides name (name_of journal.head)).0 same in
-        let its : file ≡ synced_file (ended_text journal transactions) =
-        same_some file (synced_file (ended_text journal transactions)) (sym there ∙ ap (finite.get now.now) key ∙ ended.0) in (
+        let its : file ≡ synced_file (ended_text journal groups) =
+        same_some file (synced_file (ended_text journal groups)) (sym there ∙ ap (finite.get now.now) key ∙ there_now) in (
           subst (λ (f : File). f.synced ≡ length f.bytes) (sym its) refl,
-          ap (λ o. finite.get o name) ended.1.older ∙ ap (finite.get before.older) key ∙ written.no_older,
+          ap (λ o. finite.get o name) others.older ∙ ap (finite.get before.older) key ∙ written.no_older,
         )
     by_test false other =
-        let was = all name file kind (sym (ended.1.files name other) ∙ there) in
-        (was.0, ap (λ o. finite.get o name) ended.1.older ∙ was.1)
+        let was = all name file kind (sym (others.files name other) ∙ there) in
+        (was.0, ap (λ o. finite.get o name) others.older ∙ was.1)
 
 -- the directory recovers to what the history has come to
 ended_keeps : (base : Base) (history : History) (engine : Engine) (journal : Journal) (states : Option (List Disk)) (before now : Disk)
     → AllFollow base.state base.clock (journal_of base history) → Ready base history engine journal states
     → IsOnDisk base journal (taken_of base history) before → IsEnded journal (taken_of base history) before now → DirectoryHolds base history now
-ended_keeps base history engine journal states before now follow ready (written, continues, synced, no_older) ended =
+ended_keeps base history engine journal states before now follow ready (written, continues, synced, no_older) ((groups, are, there), others) =
     let behind = ready.behind in
     let taken = taken_of base history in
     let all_taken : taken ≡ journal_of base history =
     ap (λ n. take n (journal_of base history)) ready.taken ∙ take_all (length (journal_of base history)) (journal_of base history) (omega arith) in
-    let follows : AllFollow base.state base.clock taken = subst (AllFollow base.state base.clock) (sym all_taken) follow in
+    let follows : AllFollow base.state base.clock (transactions_of groups) =
+    subst (AllFollow base.state base.clock) (sym (are.together ∙ all_taken)) follow in
     let name = name_of journal.head in
-    let text = ended_text journal taken in
+    let text = ended_text journal groups in
     let size = length (header_of journal.head) in
-    let rest = blocks_text taken ++ end_marker in
-    let split : text ≡ header_of journal.head ++ rest = append_assoc (header_of journal.head) (blocks_text taken) end_marker in
-    let goes_on = continues_same base name before.now now.now continues ended.1.files (ap is_some written.file) (ap is_some ended.0) in
+    let rest = blocks_text groups ++ end_marker in
+    let split : text ≡ header_of journal.head ++ rest = append_assoc (header_of journal.head) (blocks_text groups) end_marker in
+    let goes_on = continues_same base name before.now now.now continues others.files (ap is_some written.file) (ap is_some there) in
     let begun : Reached = record { ids = Some base.ids; state = base.state; clock = base.clock } in
     let reached : Reached = record {
       ids = Some base.ids;
@@ -104,21 +91,20 @@ ended_keeps base history engine journal states before now follow ready (written,
       clock = clock_after base.clock (journal_of base history);
     } in
     let same = sym (base_of_ledger base history) in
-    let each = each_is_transaction base.state base.clock taken follows in
     record {
       reached = reached;
-      stands = stands_after base name now.now (synced_file text) (read_of journal taken) (Ok reached) goes_on ended.0
-          (record { fits = written.fits; sized = refl; begins = (rest, split) }, behind_header journal taken each)
+      stands = stands_after base name now.now (synced_file text) (read_of journal.head groups) (Ok reached) goes_on there
+          (record { fits = written.fits; sized = refl; begins = (rest, split) }, behind_header journal groups taken are)
           written.kind (same_itself name) behind.begins behind.whose
-          (after_blocks_again name size taken begun follows
-          ∙ ap (λ txs. Ok (record { ids = Some base.ids; state = state_after base.state txs; clock = clock_after base.clock txs })) all_taken);
+          (after_blocks_again name size groups begun follows
+          ∙ ap (λ txs. Ok (record { ids = Some base.ids; state = state_after base.state txs; clock = clock_after base.clock txs })) (are.together ∙ all_taken));
       ids = refl;
       state = ap (λ (b : Base). state_after b.state (journal_of base history)) same;
       clock = ap (λ (b : Base). clock_after b.clock (journal_of base history)) same;
-      synced = all_on_disk journal taken before now written ended synced;
+      synced = all_on_disk journal taken before now written ((groups, are, there), others) synced;
       marker = (
-        file_text journal.head taken,
-        ap (λ (clock : List ℕ). finite.get now.now (journal_name (sum clock))) (sym behind.begins) ∙ ended.0,
+        file_text journal.head groups,
+        ap (λ (clock : List ℕ). finite.get now.now (journal_name (sum clock))) (sym behind.begins) ∙ there,
       );
     }
 

@@ -120,7 +120,7 @@ all_on_disk journal txs before after all written same name file kind there = by_
     by_name : (own : Bool) → same_bytes name (name_of journal.head) ≡ own → (file.synced ≡ length file.bytes) × (finite.get after.older name ≡ None)
     by_name true own =
         let is : name ≡ name_of journal.head = same_name name (name_of journal.head) own in
-        let its : file ≡ synced_file (file_text journal.head txs) = cc in
+        let its : file ≡ synced_file (file_text journal.head written.groups) = cc in
         (ap (λ (f : File). f.synced) its ∙ sym (ap (λ (f : File). length f.bytes) its), ap (finite.get after.older) is ∙ written.no_older)
     by_name false other =
         let was = all name file kind (sym (same.files name other) ∙ there) in
@@ -166,7 +166,7 @@ module _ (base : Base) (old pushed written : Journal) (before after : Option (Li
       let continues : Continues base (name_of pushed.head) disk.now
       = subst (λ h. Continues base (name_of h) disk.now) (sym wrote_out.pushed_head) was.1 in
       let named : name_of pushed.head ≡ name_of written.head = ap name_of (sym wrote_out.head) in
-      let stands = written_now base written (name_of pushed.head) (done ++ txs) (synced_file (file_text pushed.head done)) disk now.0 named kept.file
+      let stands = written_now base written (name_of pushed.head) (done ++ txs) (synced_file (file_text pushed.head kept.groups)) disk now.0 named kept.file
       continues was.2 was.3 now.3.0 now.3.1 in
       (now.0, now.1, now.2, stands)
 

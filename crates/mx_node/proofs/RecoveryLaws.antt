@@ -26,9 +26,10 @@ use Rattle.mx_model.proofs.WalkLaws.{Passed}
 use Rattle.mx_model.proofs.BeginLaws.{sound, begins_again, reached_is_sound}
 use Rattle.mx_model.proofs.OnceLaws.{one_state}
 use Rattle.mx_images.specs.Fair.{IsFair, IsFairEnd, AllDurable, LeavesNoOther}
-use Rattle.mx_journal.specs.Crashes.{HasBegun, MayBegin}
+use Rattle.mx_journal.specs.Crashes.{HasBegun, MayBegin, read_of}
 use Rattle.mx_images.specs.Changes.{SameBut, SameContents}
 use Rattle.mx_journal.specs.Written.{name_of}
+use Rattle.mx_journal.proofs.BlockLaws.{none_grouped}
 use Rattle.mx_images.proofs.ToldLaws.{told_both, told_then, told_weaker, where_told}
 use Rattle.mx_images.proofs.MomentLaws.{Steps, no_moments, weaker, weaker_from}
 use Rattle.mx_recover.specs.declared.replay.Recovered as memory
@@ -97,7 +98,8 @@ module _ (disk : Disk) (found : Reached) (whole : AllDurable disk) (durable : di
     -- whatever a crash leaves with the new journal stands for the same
     pub begun_again : (image : Files) → HasBegun head disk image
         → IsDirectoryState image (Ok (record { ids = Some (ids_or first found.ids); state = found.state; clock = found.clock }))
-    begun_again image (was, fair, same, (file, there, reads)) =
+    begun_again image (was, fair, same, (groups, are, file, there, read)) =
+        let reads = subst (λ some. ReadsAs file.bytes (Some (read_of head some))) (none_grouped groups are) read in
         let named : name_of head ≡ journal_name (sum found.clock) = ap (λ clock. journal_name (sum clock)) begins in
         let before = found_again was fair in
         let goes_on = begins_again was image found going_on file before refl refl (its_ids found.ids) (reached_is_sound was found before)

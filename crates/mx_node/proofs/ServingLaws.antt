@@ -19,8 +19,8 @@ use Rattle.mx_model.specs.State.{State}
 use Rattle.mx_model.specs.Answers.{state_after_rows}
 use Rattle.mx_model.specs.Transactions.{state_after}
 use Rattle.mx_row.specs.Clocks.{clock_after, clock_after_one}
-use Rattle.mx_row.specs.Rows.{transaction_text}
-use Rattle.mx_model.specs.Directories.{Named, Reached, ReadAll, Origin, AllFollow, Continues, ids_in, origin_of, reached_at}
+use Rattle.mx_row.specs.Rows.{transactions_text}
+use Rattle.mx_model.specs.Directories.{Named, Reached, AllFollow, Continues, ids_in, nothing_yet}
 use Rattle.mx_xlog.specs.Files.{ReadsAs}
 use Rattle.mx_files.specs.Names.{is_journal, is_snapshot, same_bytes, counts}
 use Rattle.mx_model.specs.Histories.{Base, History, Took, IsLegal, ledger_of, journal_of}
@@ -35,7 +35,7 @@ use Rattle.mx_engine.specs.declared.engine.Engine.{Engine}
 use Rattle.mx_journal.specs.declared.journal.Journal.{Journal}
 use Rattle.mx_images.specs.Fair.{IsFairEnd, IsFair, AllDurable}
 use Rattle.mx_journal.specs.Crashes.{HasFile, HasAtLeast, HasMost, NoFewer, read_of}
-use Rattle.mx_journal.specs.Written.{IsWritten, Waits, blocks_text, file_text, name_of}
+use Rattle.mx_journal.specs.Written.{IsWritten, Waits, AreGroups, blocks_text, file_text, name_of}
 use Rattle.mx_images.specs.Changes.{SameOthers}
 use Rattle.mx_images.proofs.MomentLaws.{both_moments, weaker, weaker_from}
 use Rattle.mx_images.proofs.ToldLaws.{told_weaker, told_both}
@@ -131,24 +131,26 @@ pub has_written : (journal : Journal) (disk : Disk) (txs waits : List Tx) → Is
     → HasAtLeast journal.head (txs ++ waits) (length txs) disk
 has_written journal disk txs waits written image fair =
     let head = journal.head in
-    let text = file_text head txs in
+    let groups = written.groups in
+    let text = file_text head groups in
     let size = length (header_of head) in
     let own = journal_counts (name_of head) (journal_name-is_journal (sum head.clock)) in
     let (end, ends, is) = subst (λ was. Leaves IsFairEnd was (finite.get image (name_of head))) written.file
     (fair_now disk image (name_of head) written.no_older fair own) in
-    let header : IsHeader text head size = record { fits = written.fits; sized = refl; begins = (blocks_text txs, refl) } in
-    let blocks : map transaction_text txs ≡ blocks_of (drop size text) =
-    sym (ap blocks_of (drop_at (header_of head) (blocks_text txs) size refl ∙ sym (append-nil (blocks_text txs)))
-    ∙ blocks_again txs [] written.sound blocks_of_nothing) in
+    let header : IsHeader text head size = record { fits = written.fits; sized = refl; begins = (blocks_text groups, refl) } in
+    let blocks : map transactions_text groups ≡ blocks_of (drop size text) =
+    sym (ap blocks_of (drop_at (header_of head) (blocks_text groups) size refl ∙ sym (append-nil (blocks_text groups)))
+    ∙ blocks_again groups [] written.grouped.fit blocks_of_nothing) in
     let all : take (length txs) (txs ++ waits) ≡ txs = take_at txs waits (length txs) refl in (
       length txs,
       omega arith,
       omega (arith, length-append txs waits),
       (
+        groups,
+        subst (AreGroups groups) (sym all) written.grouped,
         synced_file (text ++ end),
         left_whole (synced_file text) end _ refl is,
-        subst (λ l. ReadsAs (text ++ end) (Some (read_of head l))) (sym all)
-            (reads_again (synced_file text) (read_of head txs) end refl (header, blocks) ends),
+        reads_again (synced_file text) (read_of head groups) end refl (header, blocks) ends,
       ),
     )
 
@@ -206,28 +208,30 @@ module _ {origin : Origin} (base : Base) (head : Head) (txs earlier transactions
 
   -- files that go on from the base, where the journal's has the first ones of its transactions
   pub image_stands : (image : Files) (count : ℕ) → Continues base (name_of head) image → count ≤ length txs → HasFile head (take count txs) image
-      → StandsAfter origin (take (length earlier + count) transactions) image
-  image_stands image count continues few (file, there, reads) =
+      → StandsAfter (take (length earlier + count) transactions) image
+  image_stands image count continues few (groups, are, file, there, reads) =
       let some = take count txs in
       let name = name_of head in
       let begun : Reached = record { ids = Some base.ids; state = base.state; clock = base.clock } in
       let reached : Reached = record { ids = Some base.ids; state = state_after base.state some; clock = clock_after base.clock some } in
       let all = sym (front_of_all count few).0 in
+      let follow = subst (AllFollow base.state base.clock) (sym are.together) (all_follow-take base.state base.clock txs count served.follow) in
       record {
         reached = reached;
-        stands = stands_after base name image file (read_of head some) (Ok reached) continues there reads served.kind (same_itself name) served.begins
-            served.whose (after_blocks_again name (length (header_of head)) some begun (all_follow-take base.state base.clock txs count served.follow));
-        state = ap (λ state. state_after state some) (sym served.comes.state) ∙ sym (state_after-append origin.state earlier some)
-            ∙ ap (state_after origin.state) all;
-        clock = ap (λ clock. clock_after clock some) (sym served.comes.clock) ∙ sym (clock_after-append origin.clock earlier some)
-            ∙ ap (clock_after origin.clock) all;
+        stands = stands_after base name image file (read_of head groups) (Ok reached) continues there reads served.kind (same_itself name) served.begins
+            served.whose (after_blocks_again name (length (header_of head)) groups begun follow
+            ∙ ap (λ txs. Ok (record { ids = Some base.ids; state = state_after base.state txs; clock = clock_after base.clock txs })) are.together);
+        state = ap (λ state. state_after state some) (sym served.comes.state) ∙ sym (state_after-append first_state earlier some)
+            ∙ ap (state_after first_state) all;
+        clock = ap (λ clock. clock_after clock some) (sym served.comes.clock) ∙ sym (clock_after-append nothing_yet.clock earlier some)
+            ∙ ap (clock_after nothing_yet.clock) all;
       }
 
   moment_stands : (now : Disk) (image : Files) (count : ℕ) → SameOthers (name_of head) disk now → IsFair now image → count ≤ length txs
       → HasFile head (take count txs) image → StandsAfter origin (take (length earlier + count) transactions) image
   moment_stands now image count same fair few has =
       image_stands image count
-      (continues_in_image (name_of head) disk now image served.synced served.no_older same fair base served.continues served.there (ap is_some has.1)) few has
+      (continues_in_image (name_of head) disk now image served.synced served.no_older same fair base served.continues served.there (ap is_some has.3)) few has
 
   -- the earlier ones survive, and what the journal's file has
   pub survives : (now : Disk) (least : ℕ) → IsMoment head txs least disk now → Survive origin transactions (length earlier + least) now
@@ -266,7 +270,7 @@ module _ {origin : Origin} (base : Base) (head : Head) (txs earlier transactions
   moment_reads : (now : Disk) → SameOthers (name_of head) disk now → HasMost head txs now → ReadsMost origin transactions now
   moment_reads now same has =
       let front = front_of_all has.count has.within in
-      let goes_on = continues_same base (name_of head) disk.now now.now served.continues same.files served.there (ap is_some has.has.1) in
+      let goes_on = continues_same base (name_of head) disk.now now.now served.continues same.files served.there (ap is_some has.has.3) in
       record {
         count = length earlier + has.count;
         within = front.1;

@@ -11,7 +11,6 @@ use Rattle.mx_msgpack.specs.Spelling.{shortest_unsigned}
 use Rattle.mx_msgpack.proofs.Options.{bind_some, passed, allowed, same_some}
 use Rattle.mx_msgpack.proofs.UnsignedLaws.{unsigned_read}
 use Rattle.mx_msgpack.proofs.SpellingLaws.{shortest_spelled, unsigned_again}
-use Rattle.mx_msgpack.proofs.ReaderLaws.{all_from_some}
 use Rattle.mx_msgpack.proofs.FrontLaws.{roomier}
 use Rattle.mx_row.specs.declared.row.Row.{Row}
 use Rattle.mx_row.specs.declared.row.Row.TheVariants.{Replaced}
@@ -20,7 +19,7 @@ use Rattle.mx_msgpack.specs.Items.{array_of}
 use Rattle.mx_msgpack.specs.Projections.{as_array, first_as, shown_first}
 use Rattle.mx_msgpack.specs.Maps.{Pair, pairs_at, value_under}
 use Rattle.mx_base.specs.Keys.{type_key, replica_key, lsn_key, space_key, tuple_key}
-use Rattle.mx_row.specs.Rows.{replace_type, max_body_size, row_body_text, row_text, rows_text, transaction_text, IsTuple, IsRow, IsTransaction, number_under, only_alone, tuple_in, short_enough, replaced_in, row_in, replica_in, transaction_at, only_whole, transactions_in}
+use Rattle.mx_row.specs.Rows.{replace_type, max_body_size, row_body_text, row_text, rows_text, transaction_text, IsTuple, IsRow, IsTransaction, number_under, only_alone, tuple_in, short_enough, replaced_in, row_in, replica_in, transaction_at}
 use Rattle.mx_request.specs.Spelling.{Written}
 use Rattle.mx_request.proofs.MapTextLaws.{AreWhole, as_read}
 use Rattle.mx_request.proofs.WriterLaws.{pairs_text}
@@ -236,13 +235,6 @@ transaction_again transaction rest is =
     ∙ ap (λ (l : List ℕ). transaction_at (l ++ rest)) (append-nil (row_text replica first row))
     ∙ row_again replica first row rest is.replica.0 is.replica.1 (omega arith) sound
     ∙ ap (λ (rows : List Row). Some (record { replica = replica; first = first; rows = rows }, rest)) (sym one)
-
-pub transactions_again : (transaction : Tx) → IsTransaction transaction → transactions_in (transaction_text transaction) ≡ Some (transaction ∷ [])
-unfolding transactions_in
-transactions_again transaction is =
-    let bytes = transaction_text transaction in
-    let read : transaction_at bytes ≡ Some (transaction, []) = ap transaction_at (sym (append-nil bytes)) ∙ transaction_again transaction [] is in
-    ap only_whole (all_from_some transaction_at transaction_at-Advances bytes (transaction, []) read)
 
 pub row_length : (replica lsn : ℕ) (row : Row) → length (row_text replica lsn row)
     ≡ 5 + length (shortest_unsigned replica) + length (shortest_unsigned lsn) + length (row_body_text row)

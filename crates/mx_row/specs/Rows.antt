@@ -1,5 +1,6 @@
 -- The rows of a journal: for each a header map and a body map of MessagePack (Tarantool's xlog rows).
-use Rattle.std.specs.Prelude.{◌≡◌, ℕ, suc, ◌≤◌, ◌<◌, ◌^◌, Bool, true, false, ◌&&◌, List, [], ◌∷◌, ◌++◌, length, Option, Some, None, nat_lt, nat_le, ◌==◌, if◌then◌else◌}
+use Rattle.std.specs.Prelude.{◌≡◌, ℕ, suc, ◌≤◌, ◌<◌, ◌^◌, Bool, true, false, ◌&&◌, List, [], ◌∷◌, ◌++◌, length, map, Option, Some, None, nat_lt, nat_le, ◌==◌, if◌then◌else◌}
+use Rattle.std.specs.List.{concat}
 use Rattle.mx_msgpack.specs.Grammar.{Array, Values, Spells}
 use Rattle.mx_msgpack.specs.Projections.{as_array, first_as}
 use Rattle.mx_msgpack.specs.Readers.{Reader, ◌>>=◌, all_from, unsigned_in, unsigned_32_at}
@@ -34,6 +35,15 @@ rows_text replica lsn (row ∷ rows) = row_text replica lsn row ++ rows_text rep
 
 abbrev pub transaction_text : Tx → List ℕ
 transaction_text transaction = rows_text transaction.replica transaction.first transaction.rows
+
+-- the rows of transactions, one after the other
+abbrev pub transactions_text : List Tx → List ℕ
+transactions_text transactions = concat (map transaction_text transactions)
+
+-- the transactions of groups, one group after the other
+abbrev pub transactions_of : List (List Tx) → List Tx
+transactions_of [] = []
+transactions_of (group ∷ groups) = group ++ transactions_of groups
 
 -- the tuple is an array
 abbrev pub IsTuple : List ℕ → Type 0

@@ -2,6 +2,9 @@ use Rattle.std.proofs.Common.{subst}
 use Rattle.mx_model.specs.Histories.{IsLegal}
 use Rattle.mx_model.proofs.CommitLaws.{commits_follow}
 use Rattle.mx_model.specs.Survival.{Lasts}
+use Rattle.mx_images.proofs.ToldLaws.{told_weaker}
+use Rattle.mx_journal.proofs.BlockLaws.{none_waits}
+use Rattle.mx_node.specs.Ready.{taken_of}
 use Rattle.mx_node.specs.Serving.{left_from}
 use Rattle.mx_node.proofs.BreakLaws.{end_broken}
 use Rattle.mx_node.proofs.ClosingLaws.{closed}
@@ -9,6 +12,14 @@ use Rattle.mx_node.proofs.EndLaws.{end_keeps}
 use Rattle.mx_node.proofs.LastingLaws.{lasts_none, where_err}
 use Rattle.mx_node.proofs.ServingLaws.{end_lasts}
 use Rattle.mx_node.proofs.single.Single.end.Goals as goal
+
+pub end-requires-clause-written : goal.end-requires-clause-written
+end-requires-clause-written g c =
+    let (base, history, ready) = c.requires.ready in
+    told_weaker (g.D.Dir.states c.args.dir.now) (λ disk past was. (taken_of base history, was.0)) ready.behind.written
+
+pub end-requires-clause-none : goal.end-requires-clause-none
+end-requires-clause-none g c = none_waits c.args.self.journal c.requires.ready.2.behind.waits
 
 pub returns-in_err-leave_all-clause-breaks : goal.returns-in_err-leave_all-clause-breaks
 returns-in_err-leave_all-clause-breaks g c = λ start units history serves.
