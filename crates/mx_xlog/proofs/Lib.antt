@@ -8,6 +8,7 @@ mod PlaceLaws
 mod PlainLaws
 mod RegisterLaws
 mod SplitLaws
+mod TableLaws
 mod ToldLaws
 mod ValueLaws
 pub mod ReadingLaws

@@ -1,18 +1,11 @@
--- The register of a checksum: what a byte does to it is a table's entry and a shift.
-use Rattle.std.proofs.Common.{◌≡◌, ℕ, zero, suc, ◌+◌, ◌*◌, ◌/◌, ◌%◌, ◌^◌, ◌<◌, ◌≤◌, Bool, true, false, ◌&&◌, ◌⊎◌, eqb, nat_eq, get_or, slice_index, List, [], ◌∷◌, ◌++◌, length, take, drop, map, refl, sym, ap, ◌∙◌, inl, inr, arith, bit_xor, bit_and}
-use Rattle.std.proofs.lemmas.Bool.{cases_eq, eqb-true}
-use Rattle.std.proofs.lemmas.Grind.{fold-append}
-use Rattle.std.proofs.lemmas.List.{get_or-map, length-map, take-append-drop}
-use Rattle.std.proofs.lemmas.Nat.{xor_shr, xor_mod, xor_comm, and_mask}
+-- The register of a checksum: it takes the bits of two numbers apart from each other, and bytes apart too.
+use Rattle.std.proofs.Common.{◌≡◌, ℕ, zero, suc, ◌*◌, ◌/◌, ◌%◌, ◌^◌, ◌⊎◌, refl, sym, ap, ◌∙◌, inl, inr, arith, bit_xor}
+use Rattle.std.proofs.lemmas.Bool.{cases_eq}
+use Rattle.std.proofs.lemmas.Nat.{xor_shr, xor_mod, xor_comm}
 use Rattle.std.proofs.Math.Nat.{pow-suc, mul_assoc}
 use Rattle.std.specs.Int.Bits.{xor_assoc, xor_self, xor_zero_r, xor_shifted}
-use Rattle.std.specs.Cmp.Lexicographic.{pointwise, same_text}
-use Rattle.std.specs.List.{fold}
-use mathlib.Core.Path.{subst}
-use Rattle.byteorder.specs.Endian.{little_number}
-use Rattle.byteorder.specs.Numbers.{little_from-cons}
 use Rattle.mx_xlog.specs.Registers.{after_zeros}
-use Rattle.mx_xlog.specs.Checksums.{polynomial, after_bit, after_bits, next_checksum}
+use Rattle.mx_xlog.specs.Checksums.{polynomial, after_bit, after_bits}
 
 -- the bit that is shifted out is 0 or 1
 after_bit_even : (a : ℕ) → a % 2 ≡ 0 → after_bit a ≡ a / 2
@@ -30,7 +23,7 @@ bit_of_xor a b = xor_mod a b 1
 half_of_xor : (a b : ℕ) → bit_xor a b / 2 ≡ bit_xor (a / 2) (b / 2)
 half_of_xor a b = xor_shr a b 1
 
-swap_last : (a b c : ℕ) → bit_xor (bit_xor a b) c ≡ bit_xor (bit_xor a c) b
+pub swap_last : (a b c : ℕ) → bit_xor (bit_xor a b) c ≡ bit_xor (bit_xor a c) b
 swap_last a b c = xor_assoc a b c ∙ ap (bit_xor a) (xor_comm b c) ∙ sym (xor_assoc a c b)
 
 drop_twice : (a b c : ℕ) → bit_xor (bit_xor a c) (bit_xor b c) ≡ bit_xor a b
@@ -59,12 +52,12 @@ after_bit_xor a b = elim (even_or_odd a) [
   ]
 ]
 
-after_bits_xor : (count a b : ℕ) → after_bits count (bit_xor a b) ≡ bit_xor (after_bits count a) (after_bits count b)
+pub after_bits_xor : (count a b : ℕ) → after_bits count (bit_xor a b) ≡ bit_xor (after_bits count a) (after_bits count b)
 after_bits_xor zero a b = refl
 after_bits_xor (suc count) a b = ap (after_bits count) (after_bit_xor a b) ∙ after_bits_xor count (after_bit a) (after_bit b)
 
 -- zeros that are shifted out change nothing
-after_bits_shifted : (count a : ℕ) → after_bits count (a * 2 ^ count) ≡ a
+pub after_bits_shifted : (count a : ℕ) → after_bits count (a * 2 ^ count) ≡ a
 after_bits_shifted zero a = omega arith
 after_bits_shifted (suc count) a =
     let double : a * 2 ^ suc count ≡ a * 2 ^ count * 2 = ap (λ x. a * x) (pow-suc 2 count) ∙ sym (mul_assoc a (2 ^ count) 2) in
@@ -73,7 +66,7 @@ after_bits_shifted (suc count) a =
     ap (after_bits count) (after_bit_even (a * 2 ^ suc count) even ∙ half) ∙ after_bits_shifted count a
 
 -- eight steps are the low byte's eight steps over the other bytes
-after_bits_low : (a : ℕ) → after_bits 8 a ≡ bit_xor (after_bits 8 (a % 256)) (a / 256)
+pub after_bits_low : (a : ℕ) → after_bits 8 a ≡ bit_xor (after_bits 8 (a % 256)) (a / 256)
 after_bits_low a =
     let parts : bit_xor (a / 256 * 2 ^ 8) (a % 256) ≡ a = xor_shifted (a / 256) 8 (a % 256) (omega arith) ∙ omega arith in
     ap (after_bits 8) (sym parts) ∙ after_bits_xor 8 (a / 256 * 2 ^ 8) (a % 256)
@@ -81,7 +74,7 @@ after_bits_low a =
 
 -- ---- bytes 0
 
-zeros_more : (count a : ℕ) → after_zeros (suc count) a ≡ after_bits 8 (after_zeros count a)
+pub zeros_more : (count a : ℕ) → after_zeros (suc count) a ≡ after_bits 8 (after_zeros count a)
 unfolding after_zeros
 zeros_more zero a = refl
 zeros_more (suc count) a = zeros_more count (after_bits 8 a)
@@ -92,146 +85,6 @@ zeros_xor zero a b = refl
 zeros_xor (suc count) a b = ap (after_zeros count) (after_bits_xor 8 a b) ∙ zeros_xor count (after_bits 8 a) (after_bits 8 b)
 
 -- the low byte goes its way over the other bytes, which have one byte less to go
-zeros_low : (count a : ℕ) → after_zeros (suc count) a ≡ bit_xor (after_zeros (suc count) (a % 256)) (after_zeros count (a / 256))
+pub zeros_low : (count a : ℕ) → after_zeros (suc count) a ≡ bit_xor (after_zeros (suc count) (a % 256)) (after_zeros count (a / 256))
 unfolding after_zeros
 zeros_low count a = ap (after_zeros count) (after_bits_low a) ∙ zeros_xor count (after_bits 8 (a % 256)) (a / 256)
-
--- ---- the tables
-
--- a table has the register after so many bytes, of which the first is its place and the others are 0
-record IsTable (count : ℕ) (table : List ℕ) : Type 0 where
-  pub long : length table ≡ 256
-  pub entries : (i : ℕ) → i < 256 → get_or table i 0 ≡ after_zeros count i
-
--- the table and the definition agree below n
-abbrev pub agree_below : List ℕ → ℕ → Bool
-agree_below table zero = true
-agree_below table (suc n) = eqb (get_or table n 0) (after_bits 8 n) && agree_below table n
-
--- the register after one byte 0 more, by the first table
-abbrev pub step_by : List ℕ → ℕ → ℕ
-step_by first register = bit_xor (get_or first (register % 256) 0) (register / 256)
-
--- each of the other tables is the one before it, one byte 0 later
-abbrev pub follow_on : (first table : List ℕ) → List (List ℕ) → Bool
-follow_on first table [] = true
-follow_on first table (next ∷ others) = pointwise nat_eq next (map (step_by first) table) && follow_on first next others
-
--- eight tables
-abbrev pub are_tables : List (List ℕ) → Bool
-are_tables [] = false
-are_tables (first ∷ others) = eqb (length others) 7 && (eqb (length first) 256 && (agree_below first 256 && follow_on first first others))
-
-both_of : (x rest : Bool) → (x && rest) ≡ true → (x ≡ true) × (rest ≡ true)
-both_of true rest h = (refl, h)
-both_of false rest h = cc
-
-entry_at : (table : List ℕ) (n : ℕ) → agree_below table n ≡ true → (i : ℕ) → i < n → get_or table i 0 ≡ after_bits 8 i
-entry_at table zero h i below = absurd (omega arith)
-entry_at table (suc n) h i below =
-    let both = both_of (eqb (get_or table n 0) (after_bits 8 n)) (agree_below table n) h in
-    elim (cases_eq i n) [
-      | inl same ↦ rw same (eqb-true (get_or table n 0) (after_bits 8 n) both.0)
-      | inr other ↦ entry_at table n both.1 i (omega arith)
-    ]
-
-first_table : (table : List ℕ) → length table ≡ 256 → agree_below table 256 ≡ true → IsTable 1 table
-unfolding after_zeros
-first_table table long agrees = record { long = long; entries = entry_at table 256 agrees }
-
-step_is : (first : List ℕ) → IsTable 1 first → (register : ℕ) → step_by first register ≡ after_bits 8 register
-unfolding after_zeros
-step_is first is register =
-    ap (λ x. bit_xor x (register / 256)) (is.entries (register % 256) (omega arith)) ∙ sym (after_bits_low register)
-
-next_table : (first table next : List ℕ) (count : ℕ) → IsTable 1 first → IsTable count table → next ≡ map (step_by first) table → IsTable (suc count) next
-next_table first table next count is before follows = record {
-  long = ap length follows ∙ length-map table (step_by first) ∙ before.long;
-  entries = λ i below.
-      ap (λ l. get_or l i 0) follows ∙ get_or-map (step_by first) table i 0 0 (omega (arith, before.long))
-      ∙ ap (step_by first) (before.entries i below) ∙ step_is first is (after_zeros count i) ∙ sym (zeros_more count i);
-}
-
-table_at : (first table : List ℕ) (others : List (List ℕ)) (count k all : ℕ) → IsTable 1 first → IsTable count table → follow_on first table others ≡ true
-    → k ≤ length others → all ≡ count + k → IsTable all (get_or (table ∷ others) k [])
-table_at first table others count zero all is here follow within sum = subst (λ n. IsTable n table) (omega (arith, sum)) here
-table_at first table [] count (suc k) all is here follow within sum = absurd (omega arith)
-table_at first table (next ∷ others) count (suc k) all is here follow within sum =
-    let both = both_of (pointwise nat_eq next (map (step_by first) table)) (follow_on first next others) follow in
-    table_at first next others (suc count) k all is
-    (next_table first table next count is here (same_text next (map (step_by first) table) (sym both.0))) both.1 (omega arith) (omega (arith, sum))
-
--- what a table has at the place of a number's low byte
-pub entry_of : (tables : List (List ℕ)) → are_tables tables ≡ true → (later bytes : ℕ) → later < 8
-    → get_or (get_or tables later []) (bit_and bytes 255) 0 ≡ after_zeros (suc later) (bytes % 256)
-entry_of [] are later bytes below = cc
-entry_of (first ∷ others) are later bytes below =
-    let eight = both_of (eqb (length others) 7) _ are in
-    let long = both_of (eqb (length first) 256) _ eight.1 in
-    let right = both_of (agree_below first 256) (follow_on first first others) long.1 in
-    let is = first_table first (eqb-true (length first) 256 long.0) right.0 in
-    let others_long = eqb-true (length others) 7 eight.0 in
-    let table = table_at first first others 1 later (suc later) is is right.1 (omega (arith, others_long)) (omega arith) in
-    ap (λ i. get_or (get_or (first ∷ others) later []) i 0) (and_mask bytes 8) ∙ table.entries (bytes % 256) (omega arith)
-
--- ---- a byte, and eight bytes
-
-pub step_by_entry : (register byte mixed entry : ℕ) → mixed ≡ bit_xor register byte → byte < 256 → entry ≡ after_zeros 1 (mixed % 256)
-    → bit_xor entry (register / 256) ≡ next_checksum register byte
-unfolding after_zeros
-step_by_entry register byte mixed entry same small is =
-    let none : byte / 256 ≡ 0 = omega arith in
-    let high : mixed / 256 ≡ register / 256 =
-    ap (λ x. x / 256) same ∙ xor_shr register byte 8 ∙ ap (bit_xor (register / 256)) none ∙ xor_zero_r (register / 256) in
-    ap (λ x. bit_xor x (register / 256)) is ∙ ap (bit_xor (after_bits 8 (mixed % 256))) (sym high)
-    ∙ sym (after_bits_low mixed) ∙ ap (after_bits 8) same
-
-low_apart : (count a next sum : ℕ) → next ≡ a / 256
-    → bit_xor sum (after_zeros (suc count) a) ≡ bit_xor (bit_xor sum (after_zeros (suc count) (a % 256))) (after_zeros count next)
-low_apart count a next sum shifted =
-    ap (bit_xor sum) (zeros_low count a) ∙ sym (xor_assoc sum (after_zeros (suc count) (a % 256)) (after_zeros count (a / 256)))
-    ∙ ap (λ x. bit_xor (bit_xor sum (after_zeros (suc count) (a % 256))) (after_zeros count x)) (sym shifted)
-
--- so many bytes are one number that all goes through the register
-pub fold_number : (bytes : List ℕ) (register : ℕ) → ((k : ℕ) → slice_index bytes k < 256)
-    → fold next_checksum register bytes ≡ after_zeros (length bytes) (bit_xor register (little_number (length bytes) bytes))
-unfolding after_zeros
-fold_number [] register small = sym (xor_zero_r register)
-fold_number (byte ∷ bytes) register small =
-    let high = little_number (length bytes) bytes in
-    let moved : little_number (length (byte ∷ bytes)) (byte ∷ bytes) ≡ byte + 256 * high =
-    ap (λ n. byte + 256 * n) (little_from-cons 0 (length bytes) byte bytes) in
-    let low : byte < 256 = small 0 in
-    let parts : bit_xor (high * 2 ^ 8) byte ≡ byte + 256 * high = xor_shifted high 8 byte (omega arith) ∙ omega arith in
-    let mixed : after_bits 8 (bit_xor register (byte + 256 * high)) ≡ bit_xor (after_bits 8 (bit_xor register byte)) high =
-    ap (λ n. after_bits 8 (bit_xor register n)) (sym parts) ∙ ap (after_bits 8) (sym (xor_assoc register (high * 2 ^ 8) byte) ∙ swap_last register (high * 2 ^ 8) byte)
-    ∙ after_bits_xor 8 (bit_xor register byte) (high * 2 ^ 8) ∙ ap (bit_xor (after_bits 8 (bit_xor register byte))) (after_bits_shifted 8 high) in
-    fold_number bytes (next_checksum register byte) (λ k. small (suc k))
-    ∙ ap (after_zeros (length bytes)) (sym mixed)
-    ∙ ap (λ n. after_zeros (length bytes) (after_bits 8 (bit_xor register n))) (sym moved)
-
--- each of a number's eight bytes goes its own way
-pub eight_apart : (a : ℕ) → a < 2 ^ 64 → bit_xor (bit_xor (bit_xor (bit_xor (bit_xor (bit_xor (bit_xor
-    (after_zeros 8 (a % 256)) (after_zeros 7 (a / 256 % 256))) (after_zeros 6 (a / 65536 % 256))) (after_zeros 5 (a / 16777216 % 256)))
-    (after_zeros 4 (a / 4294967296 % 256))) (after_zeros 3 (a / 1099511627776 % 256))) (after_zeros 2 (a / 281474976710656 % 256)))
-    (after_zeros 1 (a / 72057594037927936 % 256)) ≡ after_zeros 8 a
-unfolding after_zeros
-eight_apart a below =
-    let none : a / 72057594037927936 / 256 ≡ 0 = omega arith in
-    sym (zeros_low 7 a ∙ low_apart 6 (a / 256) (a / 65536) _ (omega arith) ∙ low_apart 5 (a / 65536) (a / 16777216) _ (omega arith)
-    ∙ low_apart 4 (a / 16777216) (a / 4294967296) _ (omega arith) ∙ low_apart 3 (a / 4294967296) (a / 1099511627776) _ (omega arith)
-    ∙ low_apart 2 (a / 1099511627776) (a / 281474976710656) _ (omega arith) ∙ low_apart 1 (a / 281474976710656) (a / 72057594037927936) _ (omega arith)
-    ∙ low_apart 0 (a / 72057594037927936) 0 _ (sym none) ∙ xor_zero_r _)
-
-pub eight_folded : (eight : List ℕ) (register number : ℕ) → length eight ≡ 8 → ((k : ℕ) → slice_index eight k < 256) → number ≡ little_number 8 eight
-    → after_zeros 8 (bit_xor register number) ≡ fold next_checksum register eight
-eight_folded eight register number long small read =
-    ap (λ n. after_zeros 8 (bit_xor register n)) read ∙ ap (λ n. after_zeros n (bit_xor register (little_number n eight))) (sym long)
-    ∙ sym (fold_number eight register small)
-
--- the first bytes go at once
-pub folded_front : (bytes front back : List ℕ) (register next all : ℕ) → front ≡ take 8 bytes → back ≡ drop 8 bytes
-    → next ≡ fold next_checksum register front → fold next_checksum register bytes ≡ all → fold next_checksum next back ≡ all
-folded_front bytes front back register next all first others is before =
-    let whole : front ++ back ≡ bytes = ap (λ l. l ++ back) first ∙ ap (λ l. take 8 bytes ++ l) others ∙ take-append-drop 8 bytes in
-    ap (λ r. fold next_checksum r back) is ∙ sym (fold-append next_checksum register front back) ∙ ap (fold next_checksum register) whole ∙ before

@@ -105,6 +105,7 @@ fn write_parts(rows: &[u8], out: &mut Bytes) -> Result<(), AllocError>
     ensures { MatchResult result (λ _. out.new ≡ out.old ++ block_of rows.now) (λ _. take (length out.old) out.new ≡ out.old) }
 {
     let at = out.len();
+    out.reserve(HEAD_SIZE + rows.len())?;
     begin_block(out)?;
     out.extend_from_slice(rows)?;
     end_block(at, out);

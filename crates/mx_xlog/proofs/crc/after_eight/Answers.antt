@@ -1,6 +1,6 @@
 use Rattle.std.proofs.Common.{bit_xor, ◌∙◌, arith}
 use Rattle.std.proofs.lemmas.Nat.{xor_lt}
-use Rattle.mx_xlog.proofs.RegisterLaws.{eight_apart, eight_folded}
+use Rattle.mx_xlog.proofs.TableLaws.{eight_apart, eight_folded}
 use Rattle.mx_xlog.proofs.crc.after_eight.Goals as goal
 
 pub returns : goal.returns

@@ -1,4 +1,4 @@
-use Rattle.mx_xlog.proofs.RegisterLaws.{folded_front}
+use Rattle.mx_xlog.proofs.TableLaws.{folded_front}
 use Rattle.mx_xlog.proofs.crc.checksum.Goals as goal
 
 pub loop-eight-preserved : goal.loop-eight-preserved

@@ -1,6 +1,6 @@
 use Rattle.std.proofs.Common.{refl}
 use Rattle.mx_xlog.specs.declared.tables.TheConstants.{AFTER_BYTES}
-use Rattle.mx_xlog.proofs.RegisterLaws.{entry_of}
+use Rattle.mx_xlog.proofs.TableLaws.{entry_of}
 use Rattle.mx_xlog.proofs.crc.entry.Goals as goal
 
 pub returns : goal.returns

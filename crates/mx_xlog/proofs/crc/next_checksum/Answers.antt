@@ -1,5 +1,5 @@
 use Rattle.std.proofs.Common.{ap, ◌∙◌, bit_xor, arith}
-use Rattle.mx_xlog.proofs.RegisterLaws.{step_by_entry}
+use Rattle.mx_xlog.proofs.TableLaws.{step_by_entry}
 use Rattle.mx_xlog.proofs.crc.next_checksum.Goals as goal
 
 pub returns : goal.returns
