@@ -1,13 +1,13 @@
 -- The walk with one counter for all open containers gives what reading from the left gives.
-use Rattle.std.proofs.Common.{◌≡◌, ℕ, zero, suc, ◌+◌, ◌-◌, ◌<◌, ◌≤◌, List, [], ◌∷◌, length, Some, None, Result, Ok, Err, refl, sym, ap, ◌∙◌, arith}
+use Rattle.std.proofs.Common.{◌≡◌, ℕ, zero, suc, ◌+◌, ◌-◌, ◌<◌, ◌≤◌, List, [], ◌∷◌, length, Some, None, Result, Ok, refl, sym, ap, ◌∙◌, arith}
 use Rattle.std.proofs.lemmas.Nat.{mul-le}
 use Rattle.mx_msgpack.specs.declared.bad.Bad.{Bad}
-use Rattle.mx_msgpack.specs.declared.bad.Bad.TheVariants.{Long}
 use Rattle.mx_msgpack.specs.declared.size.Inside.{Inside}
 use Rattle.mx_msgpack.specs.Grammar.{max_length}
 use Rattle.mx_msgpack.specs.Reading.{after_first}
 use Rattle.mx_msgpack.specs.Steps.{step_over}
-use Rattle.mx_msgpack.proofs.Stack.{after_stack, values_in, plain_fails, plain_steps, plain_long, plain_pushes, stack_of_one, first_inside}
+use Rattle.mx_msgpack.proofs.Stack.{after_stack, values_in, plain_steps, plain_pushes, stack_of_one}
+use Rattle.mx_msgpack.proofs.Results.{bind_Ok}
 
 -- the values that are to come in all open containers
 abbrev pub all_of : List ℕ → ℕ
@@ -71,9 +71,6 @@ module _ (total : ℕ) (rest : List ℕ) (answer : Result (List ℕ) Bad) where
   flat_ends left opened none flat = sym (ended flat.room flat.stack (flat.whole ∙ none) flat.same)
 
   module _ (left opened : ℕ) (t : Top total left opened rest answer) where
-    pub flat_fails : (bad : Bad) → step_over (total - length rest) rest ≡ Err bad → answer ≡ Err bad
-    flat_fails bad s = sym t.same ∙ plain_fails total t.room t.count t.others rest bad s
-
     pub flat_steps : (after : List ℕ) → step_over (total - length rest) rest ≡ Ok (None, after) → Flat total left opened after answer
     flat_steps after s = record {
       stack = t.count ∷ t.others;
@@ -84,33 +81,26 @@ module _ (total : ℕ) (rest : List ℕ) (answer : Result (List ℕ) Bad) where
       same = sym (plain_steps total t.room t.count t.others rest after s) ∙ t.same;
     }
 
-    module _ (inside : Inside) (after : List ℕ) (shallow : opened < 64) (s : step_over (total - length rest) rest ≡ Ok (Some inside, after)) where
-      room_is : t.room ≡ suc (t.room - 1)
-      room_is = omega (arith, t.deep, t.few)
+    pub flat_pushes : (inside : Inside) (after : List ℕ) → opened < 64 → step_over (total - length rest) rest ≡ Ok (Some inside, after) → inside.announced ≤ max_length
+        → Flat total (left + values_in inside) (opened + 1) after answer
+    flat_pushes inside after shallow s most =
+        let room_is : t.room ≡ suc (t.room - 1) = omega (arith, t.deep, t.few) in
+        record {
+          stack = values_in inside ∷ t.count ∷ t.others;
+          room = t.room - 1;
+          deep = omega (arith, t.deep, room_is);
+          few = omega (arith, t.few);
+          whole = omega (arith, t.whole);
+          same = sym (plain_pushes total (t.room - 1) t.count t.others inside rest after most s)
+              ∙ ap (λ (k : ℕ). after_stack total k (suc t.count ∷ t.others) rest) (sym room_is) ∙ t.same;
+        }
 
-      same_so : after_stack total (suc (t.room - 1)) (suc t.count ∷ t.others) rest ≡ answer
-      same_so = ap (λ (k : ℕ). after_stack total k (suc t.count ∷ t.others) rest) (sym room_is) ∙ t.same
-
-      pub flat_long : max_length < inside.announced → answer ≡ Err (Long (total - length rest))
-      flat_long many = sym same_so ∙ plain_long total (t.room - 1) t.count t.others inside rest after many s
-
-      pub flat_pushes : inside.announced ≤ max_length → Flat total (left + values_in inside) (opened + 1) after answer
-      flat_pushes most = record {
-        stack = values_in inside ∷ t.count ∷ t.others;
-        room = t.room - 1;
-        deep = omega (arith, t.deep, room_is);
-        few = omega (arith, t.few);
-        whole = omega (arith, t.whole);
-        same = sym (plain_pushes total (t.room - 1) t.count t.others inside rest after most s) ∙ same_so;
-      }
-
-pub flat_begins : (bytes : List ℕ) (inside : Inside) (rest : List ℕ) → step_over 0 bytes ≡ Ok (Some inside, rest) → inside.announced ≤ max_length
-    → Flat (length bytes) (values_in inside) 1 rest (after_first (length bytes) 64 bytes)
-flat_begins bytes inside rest s most = record {
-  stack = values_in inside ∷ [];
+pub flat_begins : (total : ℕ) (bytes : List ℕ) → Flat total 1 1 bytes (after_first total 63 bytes)
+flat_begins total bytes = record {
+  stack = 1 ∷ [];
   room = 63;
   deep = refl;
   few = omega arith;
-  whole = omega arith;
-  same = stack_of_one (length bytes) 63 (values_in inside) rest ∙ sym (first_inside bytes inside rest most s);
+  whole = refl;
+  same = stack_of_one total 63 1 bytes ∙ bind_Ok (after_first total 63 bytes);
 }

@@ -4,21 +4,25 @@ use Rattle.std.specs.List.{concat}
 use Rattle.std.specs.Option.{option_map}
 use Rattle.std.proofs.lemmas.List.{append-nil, take_at, drop_at, take-append-drop, length-append}
 use Rattle.mx_msgpack.specs.declared.bad.Bad.{Bad}
-use Rattle.mx_msgpack.specs.declared.head.Head.TheVariants.{Array}
+use Rattle.mx_msgpack.specs.declared.head.Head.{Head}
+use Rattle.mx_msgpack.specs.declared.head.Head.TheVariants.{Nil, Bool as Boolean, Int, Str, Bin, Array, Map, Fixed, Extension}
+use Rattle.std.specs.Prelude.{false, is_some}
+use Rattle.mx_msgpack.specs.Lookups.{is_array_head}
 use Rattle.mx_msgpack.specs.Grammar as grammar
 use Rattle.mx_msgpack.specs.Grammar.{Value, Values, NoValue, MoreValues, value_count, max_length, max_nesting, ArrayHead, Spells, SpellsAll}
 use Rattle.mx_msgpack.specs.Reading.{Shown, ShownArray, shown, head_at, after_first, reading_of, measured}
 use Rattle.mx_msgpack.specs.Items as items
-use Rattle.mx_msgpack.specs.Items.{parted, first_value, values_from, array_of, items_of, SpellEach}
+use Rattle.mx_msgpack.specs.Items.{IsOneValue, parted, first_value, values_from, array_of, items_of, SpellEach}
 use Rattle.mx_msgpack.proofs.Results.{bind_ok, ok_is}
-use Rattle.mx_msgpack.specs.Projections.{as_array, shown_first}
+use Rattle.mx_msgpack.specs.Projections.{as_array, first_as, shown_first}
 use Rattle.mx_msgpack.proofs.ProjectionLaws.{first_read, array_is}
 use Rattle.mx_msgpack.proofs.Options.{bind_some, allowed, same_some}
 use Rattle.mx_msgpack.proofs.Heads.{head_again}
 use Rattle.mx_msgpack.proofs.GrammarLaws.{value_again, value_spelled}
 use Rattle.mx_msgpack.proofs.FrontLaws.{roomier, measured_again}
 use Rattle.mx_msgpack.proofs.ContainerLaws.{array_spelled}
-use Rattle.mx_msgpack.proofs.Shown.{reads}
+use Rattle.mx_msgpack.proofs.Shown.{head_fails, reads}
+use Rattle.mx_msgpack.proofs.ValueLaws.{read_ok}
 
 -- ---- values in a row
 
@@ -185,3 +189,24 @@ pub items_each : (bytes : List ℕ) (fields : List (List ℕ)) (values : Values)
 items_each bytes fields values e s =
     let all = array_items bytes values s in
     subst (SpellEach 63 values) (same_some all.1 fields (sym all.2 ∙ e)) all.4
+
+-- ---- an array by its head
+
+shown_array : (head : Head) (content whole : List ℕ) → is_array_head head ≡ is_some (as_array (shown head content whole))
+shown_array Nil content whole = refl
+shown_array (Boolean truth) content whole = refl
+shown_array (Int number) content whole = refl
+shown_array (Str _) content whole = refl
+shown_array (Bin _) content whole = refl
+shown_array (Array count) content whole = refl
+shown_array (Map count) content whole = refl
+shown_array (Fixed _) content whole = refl
+shown_array (Extension _) content whole = refl
+
+pub array_by_head : (bytes : List ℕ) (head : Head) (after : List ℕ) → IsOneValue bytes → head_at 0 bytes ≡ Ok (head, after) → is_array_head head ≡ is_some (first_as as_array bytes)
+array_by_head bytes head after whole h =
+    let r = read_ok bytes (length bytes) whole in
+    rw (reads bytes head after r.0 h r.1) (shown_array head _ _)
+
+pub no_array : (bytes : List ℕ) (bad : Bad) → head_at 0 bytes ≡ Err bad → false ≡ is_some (first_as as_array bytes)
+no_array bytes bad h = rw (head_fails bytes bad h) refl

@@ -30,3 +30,6 @@ pub mod ItemLaws
 pub mod ProjectionLaws
 pub mod MapLaws
 pub mod LookupLaws
+pub mod InnerSteps
+pub mod InnerLaws
+pub mod PassLaws

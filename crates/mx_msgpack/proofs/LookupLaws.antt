@@ -146,3 +146,27 @@ pub key_over : (key : ℕ) (found whole : Option (List ℕ)) (left : ℕ) (bytes
 key_over key found whole left bytes none all =
     let over : left ≡ 0 = omega arith in
     ap (λ (n : ℕ). later found (value_under key (pairs_from n bytes))) (sym over) ∙ all
+
+-- ---- no values
+
+-- a turn of the loop that clears values
+pub cleared_more : {X : Type 0} (seen : X → Option (List ℕ)) (none : X) (values old : List X) (place : ℕ) → seen none ≡ None → length values ≡ length old → place < length old
+    → map seen (take place values) ≡ map (λ value. None) (take place old) → map seen (take (place + 1) (set values place none)) ≡ map (λ value. None) (take (place + 1) old)
+cleared_more {X} seen none values old place is long in_range so_far = rw add-one (by_place values old place long in_range so_far)
+  where
+    by_place : (values old : List X) (place : ℕ) → length values ≡ length old → place < length old → map seen (take place values) ≡ map (λ value. None) (take place old)
+        → map seen (take (suc place) (set values place none)) ≡ map (λ value. None) (take (suc place) old)
+    by_place [] old place long in_range so_far = absurd (omega arith)
+    by_place (value ∷ values) [] place long in_range so_far = absurd (omega arith)
+    by_place (value ∷ values) (first ∷ others) zero long in_range so_far = rw is refl
+    by_place (value ∷ values) (first ∷ others) (suc place) long in_range so_far =
+        let here : seen value ≡ None = cc in
+        let rest : map seen (take place values) ≡ map (λ value. None) (take place others) = cc in
+        rw here (ap (λ (l : List (Option (List ℕ))). None ∷ l) (by_place values others place (omega arith) (omega arith) rest))
+
+-- so many values that are none
+pub nones : {X Y : Type 0} (one : List X) (other : List Y) → length one ≡ length other → map {B = Option (List ℕ)} (λ x. None) one ≡ map (λ x. None) other
+nones [] [] e = refl
+nones [] (y ∷ other) e = absurd (omega arith)
+nones (x ∷ one) [] e = absurd (omega arith)
+nones (x ∷ one) (y ∷ other) e = ap (λ (l : List (Option (List ℕ))). None ∷ l) (nones one other (omega arith))

@@ -1,14 +1,20 @@
 -- The map that stands first is read alone as it is read with what follows it.
-use Rattle.std.proofs.Common.{◌≡◌, ℕ, ◌-◌, List, [], ◌++◌, length, take, drop, Some, Ok, refl, sym, ap, ◌∙◌, append_assoc, subst, arith}
+use Rattle.std.proofs.Common.{◌≡◌, ℕ, ◌-◌, List, [], ◌++◌, length, take, drop, Some, Result, Ok, refl, sym, ap, ◌∙◌, append_assoc, subst, arith}
 use Rattle.std.specs.Prelude.{pos}
-use Rattle.std.proofs.lemmas.List.{append-nil, take_all, length-append}
+use Rattle.std.proofs.lemmas.List.{append-nil, take_all, take-append-drop, length-append}
 use Rattle.mx_msgpack.specs.declared.head.Head.{Head}
 use Rattle.mx_msgpack.specs.Grammar as grammar
 use Rattle.mx_msgpack.specs.Grammar.{Value, Spells}
 use Rattle.mx_msgpack.specs.Reading.{head_at, after_first, reading_of, Shown, ShownMap, shown}
 use Rattle.mx_msgpack.specs.Readers.{unsigned_at}
 use Rattle.mx_msgpack.specs.Items.{after_value}
-use Rattle.mx_msgpack.specs.Maps.{pairs_from, map_at, pairs_at}
+use Rattle.std.specs.Option.{option_and_then, option_map_or}
+use Rattle.std.specs.Result.{result_ok}
+use Rattle.mx_msgpack.specs.declared.bad.Bad.{Bad}
+use Rattle.mx_msgpack.specs.Maps.{Pair, pairs_from, pairs_in, map_at, pairs_at}
+use Rattle.mx_msgpack.specs.Projections.{as_map, shown_first}
+use Rattle.mx_msgpack.proofs.Options.{bind_some, same_some}
+use Rattle.mx_msgpack.proofs.ProjectionLaws.{first_read}
 use Rattle.mx_msgpack.proofs.Results.{bind_ok, ok_is}
 use Rattle.mx_msgpack.proofs.GrammarLaws.{value_again, value_stands}
 use Rattle.mx_msgpack.proofs.Heads.{SpellsHead, head_spelled, head_again}
@@ -74,3 +80,27 @@ pub pairs_shown : (bytes : List ℕ) (count : ℕ) (items : List ℕ) (size : �
     → Some (pairs_from count items, drop size bytes) ≡ pairs_at bytes
 unfolding map_at
 pairs_shown bytes count items size e = rw (e, read_alone bytes (ShownMap count items) size e) refl
+
+-- the pairs that a reading gives
+abbrev pairs_by : Result (Shown × ℕ) Bad → List Pair
+pairs_by read = option_map_or (λ (map : ℕ × List ℕ). pairs_from map.0 map.1) (option_and_then (λ (first : Shown × ℕ). as_map first.0) (result_ok read)) []
+
+same_pairs : (bytes : List ℕ) (what : Shown) (size : ℕ) → reading_of bytes ≡ Ok (what, size) → pairs_in (take size bytes) ≡ pairs_in bytes
+same_pairs bytes what size e = ap pairs_by (read_alone bytes what size e ∙ sym e)
+
+-- the map that stands first has its pairs where it stands alone, and is all bytes where nothing follows it
+pub map_alone : (bytes map rest : List ℕ) → map_at bytes ≡ Some (map, rest) → pairs_in map ≡ pairs_in bytes
+unfolding map_at
+map_alone bytes map rest e =
+    let first = bind_some (shown_first bytes) _ (map, rest) e in
+    let held = bind_some (as_map first.0.0) _ (map, rest) first.2 in
+    let front : take first.0.1 bytes ≡ map = ap (λ (x : List ℕ × List ℕ). x.0) (same_some (take first.0.1 bytes, drop first.0.1 bytes) (map, rest) held.2) in
+    ap pairs_in (sym front) ∙ same_pairs bytes first.0.0 first.0.1 (first_read bytes first.0 first.1)
+
+pub map_whole : (bytes map : List ℕ) → map_at bytes ≡ Some (map, []) → map ≡ bytes
+unfolding map_at
+map_whole bytes map e =
+    let first = bind_some (shown_first bytes) _ (map, []) e in
+    let held = bind_some (as_map first.0.0) _ (map, []) first.2 in
+    let same = same_some (take first.0.1 bytes, drop first.0.1 bytes) (map, []) held.2 in
+    sym (append-nil map) ∙ sym (λ i. (same i).0 ++ (same i).1) ∙ take-append-drop first.0.1 bytes

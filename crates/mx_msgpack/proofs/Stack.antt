@@ -1,5 +1,5 @@
 -- The walk with a counter for each open container gives what reading from the left gives.
-use Rattle.std.proofs.Common.{◌≡◌, ℕ, zero, suc, ◌+◌, ◌-◌, ◌*◌, ◌<◌, ◌≤◌, ◌≢◌, List, [], ◌∷◌, length, get_or, set, Option, Some, None, Result, Ok, Err, refl, sym, ap, ◌∙◌, arith, get_or-set_same, get_or-set_other, length-set}
+use Rattle.std.proofs.Common.{◌≡◌, ℕ, zero, suc, ◌+◌, ◌-◌, ◌*◌, ◌<◌, ◌≤◌, ◌≢◌, List, [], ◌∷◌, length, get_or, set, replicate, Option, Some, None, Result, Ok, Err, refl, sym, ap, ◌∙◌, arith, get_or-set_same, get_or-set_other, length-set}
 use Rattle.std.proofs.lemmas.Bool.{lt-ltb, le-ltb}
 use Rattle.mx_msgpack.specs.declared.bad.Bad.{Bad}
 use Rattle.mx_msgpack.specs.declared.bad.Bad.TheVariants.{Deep, Long}
@@ -44,7 +44,7 @@ head_steps : (one : Option (List ℕ → Result (List ℕ) Bad)) (at : ℕ) (r :
 head_steps one at (Ok x) = content_steps one at x.0 x.1
 head_steps one at (Err bad) = refl
 
-value_steps : (total room : ℕ) (bytes : List ℕ)
+pub value_steps : (total room : ℕ) (bytes : List ℕ)
     → after_first total room bytes ≡ (step_over (total - length bytes) bytes >>= λ x. after_step (inside_of total room) (total - length bytes) x.0 x.1)
 value_steps total room bytes = value_is total room bytes ∙ head_steps (inside_of total room) (total - length bytes) (head_at (total - length bytes) bytes)
 
@@ -71,9 +71,13 @@ counters-at : (left : List ℕ) (depth v : ℕ) → depth < length left → coun
 unfolding counters
 counters-at left depth v lt = rw (get_or-set_same, counters-set left depth depth v (omega arith)) refl
 
-pub stack_begins : (total room : ℕ) (left bytes : List ℕ) → get_or left 0 0 ≡ 1 → after_stack total room (counters left 1) bytes ≡ after_first total room bytes
+-- one value to come, in so many containers of which nothing else is to come
+pub nested_begins : (total around : ℕ) (bytes : List ℕ) → around ≤ 1
+    → after_stack total (65 - (around + 1)) (counters (set (replicate 65 0) around 1) (around + 1)) bytes ≡ after_first total (64 - around) bytes
 unfolding counters after_stack
-stack_begins total room left bytes e = rw e (bind_Ok (after_first total room bytes >>= λ x. Ok x) ∙ bind_Ok (after_first total room bytes))
+nested_begins total zero bytes few = bind_Ok (after_first total 64 bytes >>= λ x. Ok x) ∙ bind_Ok (after_first total 64 bytes)
+nested_begins total (suc zero) bytes few = bind_Ok (after_first total 63 bytes >>= λ x. Ok x) ∙ bind_Ok (after_first total 63 bytes)
+nested_begins total (suc (suc more)) bytes few = absurd (omega arith)
 
 pub stack_ends : (total room : ℕ) (left bytes : List ℕ) → after_stack total room (counters left 0) bytes ≡ Ok bytes
 unfolding counters after_stack

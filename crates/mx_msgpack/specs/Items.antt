@@ -1,5 +1,5 @@
 -- The values that stand in a row, each by its spelling, and the items of an array.
-use Rattle.std.specs.Prelude.{⊤, ℕ, zero, suc, List, [], ◌∷◌, length, take, drop, Option, Some, None, Result, Ok, Err, ◌==◌, if◌then◌else◌}
+use Rattle.std.specs.Prelude.{◌≡◌, ⊤, ℕ, zero, suc, List, [], ◌∷◌, length, take, drop, Option, Some, None, Result, Ok, Err, ◌==◌, if◌then◌else◌}
 use Rattle.std.specs.Option.{option_map}
 use Rattle.mx_msgpack.specs.declared.bad.Bad.{Bad}
 use Rattle.mx_msgpack.specs.Grammar.{Values, NoValue, MoreValues, Spells}
@@ -17,6 +17,10 @@ first_value bytes = (parted bytes (measured bytes)).0
 
 abbrev pub after_value : List ℕ → List ℕ
 after_value bytes = (parted bytes (measured bytes)).1
+
+-- the bytes are one value and nothing else
+abbrev pub IsOneValue : List ℕ → Type 0
+IsOneValue bytes = measured bytes ≡ Ok (length bytes)
 
 -- so many values that stand in a row, each by its spelling
 abbrev pub values_from : (count : ℕ) → List ℕ → List (List ℕ)

@@ -1,9 +1,9 @@
 -- Maps by their keys, as headers and bodies have them. A key that isn't a number of 0 or more is skipped.
-use Rattle.std.specs.Prelude.{ℕ, zero, suc, Bool, false, List, [], ◌∷◌, take, drop, Option, Some, None, ◌==◌, if◌then◌else◌}
+use Rattle.std.specs.Prelude.{⊤, ℕ, zero, suc, Bool, false, List, [], ◌∷◌, take, drop, Option, Some, None, ◌==◌, if◌then◌else◌, IfSome}
 use Rattle.std.specs.Option.{option_map, option_map_or, option_or}
 use Rattle.mx_msgpack.specs.Projections.{as_map, shown_first, first_as}
 use Rattle.mx_msgpack.specs.Readers.{Reader, ◌>>=◌, unsigned_in}
-use Rattle.mx_msgpack.specs.Items.{first_value, after_value}
+use Rattle.mx_msgpack.specs.Items.{IsOneValue, first_value, after_value}
 
 -- a pair: its key, where that is a number of 0 or more, and its value's spelling
 pub record Pair : Type 0 where
@@ -30,6 +30,11 @@ map_at bytes = do
 -- the pairs of the map that stands first, and the bytes after it
 abbrev pub pairs_at : Reader (List Pair)
 pairs_at bytes = option_map (λ map. (pairs_in map.0, map.1)) (map_at bytes)
+
+-- each of these that is there is one value and nothing else
+abbrev pub AreValues : List (Option (List ℕ)) → Type 0
+AreValues [] = ⊤
+AreValues (value ∷ others) = IfSome value IsOneValue × AreValues others
 
 -- this key
 abbrev pub is_key : ℕ → Option ℕ → Bool

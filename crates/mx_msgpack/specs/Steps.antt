@@ -6,7 +6,8 @@ use Rattle.mx_msgpack.specs.declared.bad.Bad.TheVariants.{Short}
 use Rattle.mx_msgpack.specs.declared.head.Head.{Head}
 use Rattle.mx_msgpack.specs.declared.head.Head.TheVariants.{Str, Bin, Array, Map, Fixed, Extension}
 use Rattle.mx_msgpack.specs.declared.size.Inside.{Inside}
-use Rattle.mx_msgpack.specs.Reading.{◌>>=◌, head_at, after_bytes}
+use Rattle.mx_msgpack.specs.Reading.{◌>>=◌, head_at, after_all, after_bytes, after_first}
+use Rattle.std.specs.Result.{result_ok}
 
 -- the bytes after so many
 abbrev pub after_few : ℕ → List ℕ → Result (List ℕ) Bad
@@ -53,3 +54,10 @@ step_over at bytes = do
 -- after this leading byte follow so many bytes, in which no values stand
 abbrev pub IsPlain : (leading size : ℕ) → Type 0
 IsPlain leading size = (at : ℕ) (rest : List ℕ) → step_over at (leading ∷ rest) ≡ no_container (after_few size rest)
+
+-- the bytes after the value that stands first in a container, and after so many of them
+abbrev pub after_inner : List ℕ → Option (List ℕ)
+after_inner bytes = result_ok (after_first 0 63 bytes)
+
+abbrev pub after_inners : ℕ → List ℕ → Option (List ℕ)
+after_inners count bytes = result_ok (after_all (after_first 0 63) count bytes)

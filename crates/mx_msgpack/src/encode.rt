@@ -10,7 +10,7 @@ ghost use Rattle.mx_msgpack.specs.Writing.{ArePairsWritable, AreWritable, Fits64
 use crate::bytes::Bytes;
 use crate::value::Value;
 use byteorder::{BigEndian, ByteOrder};
-use std::alloc::AllocError;
+use std::alloc::{AllocError, Global};
 
 /// Adds an Int in the fewest bytes that spell it, which are 1 to 9.
 ///
@@ -46,7 +46,7 @@ pub fn write_unsigned(number: u64, out: &mut Bytes) -> Result<(), AllocError>
 ///
 /// # Errors
 /// Out of memory; nothing is added.
-pub fn write_value(value: &Value, out: &mut Bytes) -> Result<(), AllocError>
+pub fn write_value(_alloc: Global, value: &Value, out: &mut Bytes) -> Result<(), AllocError>
     requires { IsSpellable (value_view value.now) }
     ensures { MatchResult result (λ _. out.new ≡ out.old ++ shortest (value_view value.now)) (λ _. out.new ≡ out.old) }
 {

@@ -1,9 +1,8 @@
 //! Maps in place, by their keys.
 
-ghost use Rattle.std.specs.Prelude.{◌≡◌, ℕ, suc, ◌∷◌, map, length};
+ghost use Rattle.std.specs.Prelude.{◌≡◌, ℕ, suc, ◌∷◌};
 ghost use Rattle.std.specs.Option.{option_copied, option_map};
 ghost use Rattle.mx_msgpack.specs.Items.{after_value};
-ghost use Rattle.mx_msgpack.specs.Lookups.{noted};
 ghost use Rattle.mx_msgpack.specs.Maps.{is_key, map_at, pairs_at, pairs_from, pairs_in, value_under};
 ghost use Rattle.mx_msgpack.specs.Readers.{unsigned_in};
 
@@ -118,36 +117,5 @@ fn is_key(wanted: u64, key: Option<u64>) -> bool
     match key {
         Some(key) => key == wanted,
         None => false,
-    }
-}
-
-/// The spellings of the values under these keys, each in its key's place, in one pass over the pairs
-/// of the map that stands first. Of a key that comes more than once the last value counts.
-pub fn values_under<'a>(keys: &[u8], bytes: &'a [u8], values: &mut [Option<&'a [u8]>])
-    requires { map option_copied values.old ≡ map (λ key. None) keys.now }
-    ensures { map option_copied values.new ≡ map (λ key. value_under key (pairs_in bytes.now)) keys.now }
-{
-    let pairs = pairs_in(bytes);
-    let mut left = pairs.count;
-    let mut rest = pairs.bytes;
-    while left > 0 {
-        let (pair, others) = first_pair(rest);
-        if let Some(key) = pair.key {
-            note(keys, key, pair.value, values);
-        }
-        rest = others;
-        left -= 1;
-    }
-}
-
-#[inline]
-fn note<'a>(keys: &[u8], key: u64, value: &'a [u8], values: &mut [Option<&'a [u8]>])
-    requires { length values.old ≡ length keys.now }
-    ensures { map option_copied values.new ≡ noted key value.now keys.now (map option_copied values.old) }
-{
-    for (place, wanted) in keys.iter().enumerate() {
-        if key == u64::from(*wanted) {
-            values[place] = Some(value);
-        }
     }
 }

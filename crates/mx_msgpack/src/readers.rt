@@ -1,6 +1,6 @@
 //! Small pieces that stand first in some bytes, each with the bytes after it.
 
-ghost use Rattle.std.specs.Prelude.{◌≡◌, ◌⊎◌};
+ghost use Rattle.std.specs.Prelude.{◌≡◌, ◌⊎◌, IfSome, Some};
 ghost use Rattle.std.specs.Option.{option_map, option_copied};
 ghost use Rattle.mx_msgpack.specs.Readers.{after_byte, number_at, bytes_at, unsigned_at, unsigned_in, unsigned_32_at};
 
@@ -41,6 +41,7 @@ pub fn bytes_at(count: usize, bytes: &[u8]) -> Option<(&[u8], &[u8])>
 
 /// An Int of MessagePack from 0 to `u64::MAX` in any of its spellings, and the bytes after it; `None` where
 /// another value stands first, or none.
+#[inline(always)]
 pub fn unsigned_at(bytes: &[u8]) -> Option<(u64, &[u8])>
     ensures { option_map (λ x. (x.0, x.1.now)) result ≡ unsigned_at bytes.now }
 {
@@ -84,8 +85,33 @@ fn unsigned_read(bytes: &[u8]) -> Option<(u64, &[u8])>
     }
 }
 
+/// The number that stands first as a byte, and the bytes after it.
+#[inline(always)]
+pub(crate) fn small_at(bytes: &[u8]) -> Option<(u64, &[u8])>
+    ensures { IfSome result (λ x. unsigned_at bytes.now ≡ Some (x.0, x.1.now)) }
+{
+    let Some((leading, rest)) = bytes.split_first() else {
+        return None;
+    };
+    if *leading >= 0x80 {
+        return None;
+    }
+    Some((u64::from(*leading), rest))
+}
+
 /// As `unsigned_at`, without the bytes after it.
+#[inline]
 pub fn unsigned_in(bytes: &[u8]) -> Option<u64>
+    ensures { result ≡ unsigned_in bytes.now }
+{
+    match small_at(bytes) {
+        Some((number, _)) => Some(number),
+        None => wide_in(bytes),
+    }
+}
+
+#[inline(never)]
+fn wide_in(bytes: &[u8]) -> Option<u64>
     ensures { result ≡ unsigned_in bytes.now }
 {
     let (number, _) = unsigned_at(bytes)?;

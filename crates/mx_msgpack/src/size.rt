@@ -1,9 +1,10 @@
 //! The length of a value, found without recursion.
 
-ghost use Rattle.std.specs.Prelude.{◌≡◌, ◌<◌, ◌≤◌, ℕ, true, List, ◌∷◌, Ok, take, length, IfOk, IfErr, IfSome, Some, None};
+ghost use Rattle.std.specs.Prelude.{◌≡◌, ◌-◌, ◌<◌, ◌≤◌, ℕ, true, List, ◌∷◌, Ok, take, length, IfOk, IfErr, IfSome, Some, None};
+ghost use Rattle.std.specs.Option.{option_copied};
 ghost use Rattle.mx_msgpack.specs.Grammar.{Value, Spells, max_nesting};
-ghost use Rattle.mx_msgpack.specs.Reading.{Gives, after_bytes, head_at, measured, first_fault};
-ghost use Rattle.mx_msgpack.specs.Steps.{IsPlain, fixed_size, step_behind, step_over};
+ghost use Rattle.mx_msgpack.specs.Reading.{Gives, after_bytes, after_first, head_at, measured, first_fault};
+ghost use Rattle.mx_msgpack.specs.Steps.{IsPlain, after_inner, fixed_size, step_behind, step_over};
 
 use crate::bad::Bad;
 use crate::head::{Head, head_at};
@@ -38,18 +39,51 @@ pub fn skip(bytes: &[u8]) -> Result<usize, Bad>
     measure(bytes)
 }
 
-/// As `skip`: a value without values inside by its head, and a container by a walk through it.
+/// As `skip`: a value without values inside by its leading byte, and a container by a walk through it.
 #[inline]
 fn measure(bytes: &[u8]) -> Result<usize, Bad>
     ensures { result ≡ measured bytes.now }
 {
-    if let Some(rest) = plain_after(bytes) {
+    match plain_after(bytes) {
+        Some(rest) => Ok(bytes.len() - rest.len()),
+        None => measure_walked(bytes),
+    }
+}
+
+#[inline]
+fn measure_walked(bytes: &[u8]) -> Result<usize, Bad>
+    ensures { result ≡ measured bytes.now }
+{
+    if let Some(rest) = walk(bytes) {
         return Ok(bytes.len() - rest.len());
     }
-    let (inside, rest) = step_over(0, bytes)?;
-    match inside {
-        None => Ok(bytes.len() - rest.len()),
-        Some(inside) => walk(inside, rest, bytes),
+    let rest = walk_nested(0, bytes)?;
+    Ok(bytes.len() - rest.len())
+}
+
+/// The bytes after the value that stands first in a container, where one does.
+#[inline(always)]
+pub(crate) fn after_inner(bytes: &[u8]) -> Option<&[u8]>
+    ensures exact { option_copied result ≡ after_inner bytes.now }
+    ensures within { IfSome result (λ rest. length rest.now ≤ length bytes.now) }
+{
+    match plain_after(bytes) {
+        Some(rest) => Some(rest),
+        None => inner_walked(bytes),
+    }
+}
+
+#[inline(always)]
+fn inner_walked(bytes: &[u8]) -> Option<&[u8]>
+    ensures exact { option_copied result ≡ after_inner bytes.now }
+    ensures within { IfSome result (λ rest. length rest.now ≤ length bytes.now) }
+{
+    if let Some(rest) = walk(bytes) {
+        return Some(rest);
+    }
+    match walk_nested(1, bytes) {
+        Ok(rest) => Some(rest),
+        Err(_) => None,
     }
 }
 
@@ -63,58 +97,56 @@ pub(crate) fn measure_behind(head: Head, rest: &[u8], bytes: &[u8]) -> Result<us
     let (inside, after) = step_behind(0, head, rest)?;
     match inside {
         None => Ok(bytes.len() - after.len()),
-        Some(inside) => walk(inside, after, bytes),
+        Some(_) => measure_walked(bytes),
     }
 }
 
-/// As `skip`, from head to head after the head of a container, with one counter for all open
-/// containers: as few as are opened here can't stand too deep one inside the other.
+/// The bytes after the value that stands first, from head to head, with one counter for all open
+/// containers; `None` also where so many are opened that they might stand too deep one inside the other,
+/// in a container around them.
 #[inline(never)]
-fn walk(inside: Inside, behind: &[u8], bytes: &[u8]) -> Result<usize, Bad>
-    requires step { step_over 0 bytes.now ≡ Ok (Some inside, behind.now) }
-    requires each { inside.each ≤ 2 }
-    requires within { length behind.now ≤ length bytes.now }
-    ensures { result ≡ measured bytes.now }
+fn walk(bytes: &[u8]) -> Option<&[u8]>
+    ensures inner { IfSome result (λ rest. after_inner bytes.now ≡ Some rest.now) }
+    ensures within { IfSome result (λ rest. length rest.now ≤ length bytes.now) }
 {
-    if inside.announced > MAX_LENGTH {
-        return Err(Bad::Long(0));
-    }
-    // How many values are still to come in the open containers, and how many were opened.
-    let mut left = inside.each * inside.announced;
+    // How many values are still to come, in the bytes themselves one and then in the open containers,
+    // and how many were opened, the one around the value too.
+    let mut left: u32 = 1;
     let mut opened = 1;
-    let mut rest = behind;
+    let mut rest = bytes;
     while left > 0 {
         left -= 1;
         if let Some(after) = plain_after(rest) {
             rest = after;
             continue;
         }
-        let at = bytes.len() - rest.len();
-        let (inside, after) = step_over(at, rest)?;
+        let Ok((inside, after)) = step_over(bytes.len() - rest.len(), rest) else {
+            return None;
+        };
         rest = after;
         if let Some(inside) = inside {
-            if opened == MAX_NESTING {
-                return walk_nested(bytes);
-            }
-            if inside.announced > MAX_LENGTH {
-                return Err(Bad::Long(at));
+            if opened == MAX_NESTING || inside.announced > MAX_LENGTH {
+                return None;
             }
             left += inside.each * inside.announced;
             opened += 1;
         }
     }
-    Ok(bytes.len() - rest.len())
+    Some(rest)
 }
 
-/// As `skip`, from head to head, with a counter for each open container.
+/// The bytes after the value that stands first, from head to head, with a counter for each open
+/// container, of which so many are open around the bytes.
 #[inline(never)]
-fn walk_nested(bytes: &[u8]) -> Result<usize, Bad>
-    ensures { result ≡ measured bytes.now }
+fn walk_nested(around: usize, bytes: &[u8]) -> Result<&[u8], Bad>
+    requires { around ≤ 1 }
+    ensures exact { Gives (λ rest. rest.now) result (after_first (length bytes.now) (64 - around) bytes.now) }
+    ensures within { IfOk result (λ rest. length rest.now ≤ length bytes.now) }
 {
     // How many values are still to come: in the bytes themselves one, then in each open container.
     let mut left = [0u32; MAX_NESTING + 1];
-    left[0] = 1;
-    let mut depth = 1;
+    left[around] = 1;
+    let mut depth = around + 1;
     let mut rest = bytes;
     while depth > 0 {
         if left[depth - 1] == 0 {
@@ -136,7 +168,7 @@ fn walk_nested(bytes: &[u8]) -> Result<usize, Bad>
             depth += 1;
         }
     }
-    Ok(bytes.len() - rest.len())
+    Ok(rest)
 }
 
 #[inline(always)]

@@ -6,7 +6,7 @@ use crate::display::Hex;
 use crate::fault::Fault;
 use mx_msgpack::{
     Bad, Bytes, Pairs, ReadBad, Tuples, Value, ValueRef, Values, read_ref, read_value, skip,
-    unsigned_at, write_map_head, write_str_head, write_unsigned, write_value,
+    unsigned_at, values_at, write_map_head, write_str_head, write_unsigned, write_value,
 };
 use std::alloc::{AllocError, Global};
 use std::fmt;
@@ -19,6 +19,7 @@ pub fn answer(call: &str, arguments: &mut Arguments<'_>) -> Result<String, Alloc
         "size" => sized(arguments),
         "short" => short(arguments),
         "unsigned" => unsigned(arguments),
+        "values_at" => map_values(arguments),
         "write_unsigned" => written_unsigned(arguments),
         "write_heads" => written_heads(arguments),
         "rewrite" => rewritten(arguments),
@@ -154,6 +155,37 @@ fn unsigned(arguments: &mut Arguments<'_>) -> Result<String, AllocError> {
     }
 }
 
+/// The values under three keys of the map that stands first, and the bytes after it.
+fn map_values(arguments: &mut Arguments<'_>) -> Result<String, AllocError> {
+    let alloc = arguments.alloc();
+    let keys = [arguments.number(), arguments.number(), arguments.number()];
+    let bytes = arguments.bytes();
+    let mut values = [None; 3];
+    match values_at(&keys, bytes.as_slice(), &mut values) {
+        Some(rest) => format!(in alloc; "ok {} {}", Found(&values), Hex(rest)),
+        None => String::from_str(alloc, "none"),
+    }
+}
+
+/// The values under some keys, with commas between them, and `none` where a key has none.
+#[derive(Clone, Copy)]
+struct Found<'a>(&'a [Option<&'a [u8]>]);
+
+impl fmt::Display for Found<'_> {
+    fn fmt<W: fmt::Write>(&self, f: &mut fmt::Formatter<W>) -> fmt::Result {
+        let mut between = "";
+        for value in self.0 {
+            f.write_str(between)?;
+            match value {
+                Some(value) => write!(f, "{}", Hex(value))?,
+                None => f.write_str("none")?,
+            }
+            between = ",";
+        }
+        Ok(())
+    }
+}
+
 /// Bytes, and a number that is written after them.
 fn written_unsigned(arguments: &mut Arguments<'_>) -> Result<String, AllocError> {
     let mut out = arguments.bytes();
@@ -178,7 +210,7 @@ fn written_heads(arguments: &mut Arguments<'_>) -> Result<String, AllocError> {
 fn written(alloc: Global, bytes: &[u8]) -> Result<(Bytes, usize), ReadBad> {
     let (value, size) = read_value(alloc, bytes)?;
     let mut out = Bytes::new(alloc);
-    write_value(&value, &mut out)?;
+    write_value(alloc, &value, &mut out)?;
     Ok((out, size))
 }
 

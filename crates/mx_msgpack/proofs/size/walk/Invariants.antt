@@ -9,7 +9,7 @@ invariant-loop-left l = record {
   few : l.opened ≤ 64;
   bound : l.left ≤ 4194304 * l.opened;
   within : length l.rest ≤ length l.bytes;
-  same : Flat (length l.bytes) l.left l.opened l.rest (after_first (length l.bytes) 64 l.bytes);
+  same : Flat (length l.bytes) l.left l.opened l.rest (after_first (length l.bytes) 63 l.bytes);
 }
 
 abbrev pub decreases-loop-left : goal.decreases-loop-left

@@ -1,15 +1,14 @@
-use Rattle.std.proofs.Common.{◌≡◌, ◌-◌, ℕ, length, refl, sym, ◌∙◌, arith, length-set}
+use Rattle.std.proofs.Common.{◌≡◌, ◌-◌, ℕ, length, sym, ◌∙◌, arith, length-set}
 use Rattle.std.proofs.lemmas.Result.{err_from_is_err_and}
-use Rattle.mx_msgpack.proofs.ValueLaws.{measured_ok, measured_err}
-use Rattle.mx_msgpack.proofs.Stack.{stack_begins, stack_ends, walk_pops, walk_fails, walk_steps, walk_deep, walk_long, walk_pushes}
+use Rattle.mx_msgpack.proofs.Stack.{nested_begins, stack_ends, walk_pops, walk_fails, walk_steps, walk_deep, walk_long, walk_pushes}
 use Rattle.mx_msgpack.proofs.size.walk_nested.Goals as goal
 
 pub loop-depth-init : goal.loop-depth-init
 loop-depth-init c = record {
   shallow = omega arith;
-  whole = refl;
+  whole = omega (arith, length-set {A = ℕ});
   within = omega arith;
-  same = stack_begins (length c.args.bytes.now) 64 _ c.args.bytes.now refl;
+  same = nested_begins (length c.args.bytes.now) c.args.around c.args.bytes.now c.requires;
 }
 
 pub loop-depth-preserved-then-left-depth-eq0 : goal.loop-depth-preserved-then-left-depth-eq0
@@ -22,25 +21,22 @@ loop-depth-preserved-then-left-depth-eq0 c = record {
       ∙ c.loop-depth.invariant.same;
 }
 
-pub returns-in_err-inside : goal.returns-in_err-inside
-returns-in_err-inside c =
+pub returns-in_err-inside-clause-exact : goal.returns-in_err-inside-clause-exact
+returns-in_err-inside-clause-exact c =
     let p = err_from_is_err_and c.from_residual.result c.from_residual.ensures.1 in
     rw (p.1, p.2)
-    (measured_err c.args.bytes.now _
     (sym c.loop-depth.invariant.same
     ∙ walk_fails (length c.args.bytes.now) c.loop-depth.depth c.loop-depth.left c.loop-depth.rest.now c.loop-depth-test.true c.if-left-depth-eq0.false _ _
-    c.in_err-inside.ensures.exact))
+    c.in_err-inside.ensures.exact)
 
-pub returns-then-depth-gt-MAX_NESTING : goal.returns-then-depth-gt-MAX_NESTING
-returns-then-depth-gt-MAX_NESTING c =
-    measured_err c.args.bytes.now _
+pub returns-then-depth-gt-MAX_NESTING-clause-exact : goal.returns-then-depth-gt-MAX_NESTING-clause-exact
+returns-then-depth-gt-MAX_NESTING-clause-exact c =
     (sym c.loop-depth.invariant.same
     ∙ walk_deep (length c.args.bytes.now) c.loop-depth.depth c.loop-depth.left c.loop-depth.rest.now c.loop-depth-test.true c.if-left-depth-eq0.false
     c.in-Some.inside c.in_ok-inside.after.now (omega arith) (rw c.in-Some.is at c.in_ok-inside.ensures.exact))
 
-pub returns-then-inside-gt-MAX_LENGTH : goal.returns-then-inside-gt-MAX_LENGTH
-returns-then-inside-gt-MAX_LENGTH c =
-    measured_err c.args.bytes.now _
+pub returns-then-inside-gt-MAX_LENGTH-clause-exact : goal.returns-then-inside-gt-MAX_LENGTH-clause-exact
+returns-then-inside-gt-MAX_LENGTH-clause-exact c =
     (sym c.loop-depth.invariant.same
     ∙ walk_long (length c.args.bytes.now) c.loop-depth.depth c.loop-depth.left c.loop-depth.rest.now c.loop-depth-test.true c.if-left-depth-eq0.false
     c.in-Some.inside c.in_ok-inside.after.now (omega arith) (omega arith) (rw c.in-Some.is at c.in_ok-inside.ensures.exact))
@@ -68,8 +64,8 @@ loop-depth-preserved c = record {
       ∙ c.loop-depth.invariant.same;
 }
 
-pub returns : goal.returns
-returns c =
+pub returns-clause-exact : goal.returns-clause-exact
+returns-clause-exact c =
     let none : c.loop-depth.depth ≡ 0 = omega arith in
     let same = rw none at c.loop-depth.invariant.same in
-    measured_ok c.args.bytes.now c.loop-depth.rest.now (sym same ∙ stack_ends (length c.args.bytes.now) 65 c.loop-depth.left c.loop-depth.rest.now)
+    sym same ∙ stack_ends (length c.args.bytes.now) 65 c.loop-depth.left c.loop-depth.rest.now

@@ -8,7 +8,7 @@ invariant-loop-depth l = record {
   shallow : l.depth ≤ 65;
   whole : length l.left ≡ 65;
   within : length l.rest ≤ length l.bytes;
-  same : after_stack (length l.bytes) (65 - l.depth) (counters l.left l.depth) l.rest ≡ after_first (length l.bytes) 64 l.bytes;
+  same : after_stack (length l.bytes) (65 - l.depth) (counters l.left l.depth) l.rest ≡ after_first (length l.bytes) (64 - l.around) l.bytes;
 }
 
 abbrev pub decreases-loop-depth : goal.decreases-loop-depth

@@ -2,8 +2,8 @@ use Rattle.std.proofs.Common.{◌∙◌, ap, map, Some}
 use Rattle.std.specs.Option.{option_copied}
 use Rattle.std.proofs.lemmas.List.{map-set}
 use Rattle.mx_msgpack.proofs.LookupLaws.{turn_here, turn_other}
-use Rattle.mx_msgpack.proofs.maps.note.Goals as goal
-use Rattle.mx_msgpack.proofs.maps.note.Goals.{then-key-from, else-key-from}
+use Rattle.mx_msgpack.proofs.lookup.note.Goals as goal
+use Rattle.mx_msgpack.proofs.lookup.note.Goals.{then-key-from, else-key-from}
 
 pub loop-place-preserved : goal.loop-place-preserved
 loop-place-preserved c =
