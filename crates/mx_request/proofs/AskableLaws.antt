@@ -27,7 +27,8 @@ use Rattle.mx_request.specs.Requests.{legal_value, required_value, optional_valu
 use Rattle.mx_request.specs.declared.request_type.RequestType.{RequestType}
 use Rattle.mx_request.specs.declared.request_type.RequestType.TheVariants as type
 use Rattle.mx_request.specs.Spelling.{IsInnerArray, IsUuid, AreOperations, IsAskable, type_number}
-use Rattle.mx_request.proofs.InnerLaws.{IsInner, AreInner, under_inner, array_inner, body_inner}
+use Rattle.mx_msgpack.proofs.InnerLaws.{IsInner, AreInner, under_inner, body_inner}
+use Rattle.mx_request.proofs.InnerLaws.{array_inner}
 
 -- ---- steps that may refuse
 

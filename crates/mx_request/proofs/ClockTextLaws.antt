@@ -15,7 +15,7 @@ use Rattle.mx_vclock.specs.Spelling.{clock_map}
 use Rattle.mx_msgpack.specs.Maps.{Pair}
 use Rattle.mx_request.specs.Values.{vclock_from, vclock_in}
 use Rattle.mx_request.specs.Spelling.{Written, map_text}
-use Rattle.mx_request.proofs.InnerLaws.{IsInner}
+use Rattle.mx_msgpack.proofs.InnerLaws.{IsInner}
 use Rattle.mx_request.proofs.WriterLaws.{pairs_text}
 use Rattle.mx_request.proofs.MapTextLaws.{AreWithin, as_read, pairs_again, map_shown, map_inner}
 use Rattle.mx_request.proofs.ValueTextLaws.{number_read_again}

@@ -9,3 +9,4 @@ pub mod ClockTextLaws
 pub mod UnderKeyLaws
 pub mod WholeLaws
 pub mod WrittenLaws
+pub mod PacketLaws

@@ -15,7 +15,7 @@ use Rattle.mx_msgpack.proofs.SpellingLaws.{wide_spelled}
 use Rattle.mx_msgpack.proofs.UnsignedLaws.{unsigned_read}
 use Rattle.mx_msgpack.specs.Maps.{Pair, pairs_from, pairs_in}
 use Rattle.mx_request.specs.Spelling.{Written, map_text, request_body_text}
-use Rattle.mx_request.proofs.InnerLaws.{IsInner}
+use Rattle.mx_msgpack.proofs.InnerLaws.{IsInner}
 use Rattle.mx_msgpack.proofs.ItemLaws.{first_is}
 use Rattle.mx_request.proofs.WriterLaws.{pairs_text}
 

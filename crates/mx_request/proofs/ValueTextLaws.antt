@@ -22,7 +22,7 @@ use Rattle.mx_msgpack.proofs.ValueLaws.{measured_ok}
 use Rattle.mx_request.specs.Values.{number_to, array_in, uuid_in}
 use Rattle.mx_msgpack.specs.Readers.{unsigned_in}
 use Rattle.mx_request.specs.Spelling.{IsInnerArray, IsUuid, uuid_str}
-use Rattle.mx_request.proofs.InnerLaws.{IsInner}
+use Rattle.mx_msgpack.proofs.InnerLaws.{IsInner}
 use Rattle.mx_request.proofs.WriterLaws.{uuid_length}
 
 -- ---- a value that stands alone

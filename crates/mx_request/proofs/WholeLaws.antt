@@ -7,7 +7,7 @@ use Rattle.mx_request.specs.declared.request.Head3.{Head3}
 use Rattle.mx_request.specs.declared.request.Request.{Request}
 use Rattle.mx_request.specs.declared.request.Request.TheVariants.{Select, Insert, Replace, Update, Delete, Upsert, Nop, Ping, Begin, Commit, Rollback, Id, Join, Subscribe, Ack}
 use Rattle.mx_request.specs.Spelling.{Written, unless_default, uuid_str, body_pairs, header_pairs, IsRequestHead, IsAskable, IsShared}
-use Rattle.mx_request.proofs.InnerLaws.{IsInner}
+use Rattle.mx_msgpack.proofs.InnerLaws.{IsInner}
 use Rattle.mx_request.proofs.MapTextLaws.{AreWhole}
 use Rattle.mx_request.proofs.ValueTextLaws.{number_inner, array_inner_value, uuid_inner}
 use Rattle.mx_request.proofs.ClockTextLaws.{clock_inner}

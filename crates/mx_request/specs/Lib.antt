@@ -3,4 +3,7 @@ pub mod Operators
 pub mod Requests
 pub mod Spelling
 pub mod Returns
+pub mod InPlace
+pub mod Packets
+pub mod PacketParts
 pub mod Views

@@ -1,19 +1,21 @@
 //! What the body of each request type asks.
 
-ghost use Rattle.mx_msgpack.specs.Maps.{pairs_in};
+ghost use Rattle.std.specs.Prelude.{◌≡◌, Ok, None, map};
+ghost use Rattle.std.specs.Option.{option_copied};
+ghost use Rattle.mx_msgpack.specs.Maps.{AreValues, pairs_in, value_under};
 ghost use Rattle.mx_request.specs.Requests.{ack_in, begin_in, body_request, delete_in, insert_in, join_in, operations_in, replace_in, select_in, subscribe_in, update_in, upsert_in};
-ghost use Rattle.mx_request.specs.Views.{request_view};
+ghost use Rattle.mx_request.specs.InPlace.{request_view};
+ghost use Rattle.mx_request.specs.PacketParts.{is_body};
 ghost use Rattle.mx_msgpack.specs.Reading.{Gives};
 
 use crate::fields::{
     optional_number, required_array, required_clock, required_number, required_uuid,
 };
 use crate::operators::shape_fault;
-use crate::request::Request;
 use crate::request_ref::RequestRef;
 use crate::request_type::RequestType;
 use mx_base::{IndexId, Refusal, SpaceId, keys};
-use mx_msgpack::values_under;
+use mx_msgpack::values_at;
 
 /// The greatest number of an iterator.
 const MAX_ITERATOR: u32 = 6;
@@ -24,38 +26,57 @@ const MAX_BASE: u32 = 1;
 /// The greatest number of an isolation level.
 const MAX_ISOLATION: u32 = 4;
 
-/// What a body asks with this request type: its keys in ascending order, then its operations.
-pub(crate) fn body_request(
+/// What a body asks with this request type: its keys in ascending order, then its operations; and
+/// whether the body is whole, with no bytes or one map and nothing else.
+pub(crate) fn body_request<'a>(
     request_type: RequestType,
-    body: &[u8],
-) -> Result<RequestRef<'_>, Refusal>
-    ensures { Gives request_view result (body_request request_type (pairs_in body.now)) }
+    body: &'a [u8],
+    is_whole: &mut bool,
+) -> Result<RequestRef<'a>, Refusal>
+    ensures asked { Gives request_view result (body_request request_type (pairs_in body.now)) }
+    ensures whole { is_whole.new ≡ is_body body.now }
 {
     match request_type {
-        RequestType::Ack => ack_in(body),
-        RequestType::Select => select_in(body),
-        RequestType::Insert => insert_in(body),
-        RequestType::Replace => replace_in(body),
-        RequestType::Update => update_in(body),
-        RequestType::Delete => delete_in(body),
-        RequestType::Upsert => upsert_in(body),
-        RequestType::Nop => Ok(RequestRef::Plain(Request::Nop)),
-        RequestType::Begin => begin_in(body),
-        RequestType::Commit => Ok(RequestRef::Plain(Request::Commit)),
-        RequestType::Rollback => Ok(RequestRef::Plain(Request::Rollback)),
-        RequestType::Ping => Ok(RequestRef::Plain(Request::Ping)),
-        RequestType::Join => join_in(body),
-        RequestType::Subscribe => subscribe_in(body),
-        RequestType::Id => Ok(RequestRef::Plain(Request::Id)),
+        RequestType::Ack => ack_in(body, is_whole),
+        RequestType::Select => select_in(body, is_whole),
+        RequestType::Insert => insert_in(body, is_whole),
+        RequestType::Replace => replace_in(body, is_whole),
+        RequestType::Update => update_in(body, is_whole),
+        RequestType::Delete => delete_in(body, is_whole),
+        RequestType::Upsert => upsert_in(body, is_whole),
+        RequestType::Nop => {
+            *is_whole = is_body(body);
+            Ok(RequestRef::Nop)
+        }
+        RequestType::Begin => begin_in(body, is_whole),
+        RequestType::Commit => {
+            *is_whole = is_body(body);
+            Ok(RequestRef::Commit)
+        }
+        RequestType::Rollback => {
+            *is_whole = is_body(body);
+            Ok(RequestRef::Rollback)
+        }
+        RequestType::Ping => {
+            *is_whole = is_body(body);
+            Ok(RequestRef::Ping)
+        }
+        RequestType::Join => join_in(body, is_whole),
+        RequestType::Subscribe => subscribe_in(body, is_whole),
+        RequestType::Id => {
+            *is_whole = is_body(body);
+            Ok(RequestRef::Id)
+        }
     }
 }
 
 #[tactic(auto, unfolding(crate::specs::Requests::select_in))]
-fn select_in(body: &[u8]) -> Result<RequestRef<'_>, Refusal>
-    ensures { Gives request_view result (select_in (pairs_in body.now)) }
+fn select_in<'a>(body: &'a [u8], is_whole: &mut bool) -> Result<RequestRef<'a>, Refusal>
+    ensures asked { Gives request_view result (select_in (pairs_in body.now)) }
+    ensures whole { is_whole.new ≡ is_body body.now }
 {
     let mut values = [None; 6];
-    values_under(
+    *is_whole = body_values(
         &[
             keys::SPACE,
             keys::INDEX,
@@ -79,11 +100,12 @@ fn select_in(body: &[u8]) -> Result<RequestRef<'_>, Refusal>
 }
 
 #[tactic(auto, unfolding(crate::specs::Requests::insert_in))]
-fn insert_in(body: &[u8]) -> Result<RequestRef<'_>, Refusal>
-    ensures { Gives request_view result (insert_in (pairs_in body.now)) }
+fn insert_in<'a>(body: &'a [u8], is_whole: &mut bool) -> Result<RequestRef<'a>, Refusal>
+    ensures asked { Gives request_view result (insert_in (pairs_in body.now)) }
+    ensures whole { is_whole.new ≡ is_body body.now }
 {
     let mut values = [None; 2];
-    values_under(&[keys::SPACE, keys::TUPLE], body, &mut values);
+    *is_whole = body_values(&[keys::SPACE, keys::TUPLE], body, &mut values);
     let [space, tuple] = values;
     Ok(RequestRef::Insert {
         space: SpaceId(required_number(keys::SPACE, space)?),
@@ -92,11 +114,12 @@ fn insert_in(body: &[u8]) -> Result<RequestRef<'_>, Refusal>
 }
 
 #[tactic(auto, unfolding(crate::specs::Requests::replace_in))]
-fn replace_in(body: &[u8]) -> Result<RequestRef<'_>, Refusal>
-    ensures { Gives request_view result (replace_in (pairs_in body.now)) }
+fn replace_in<'a>(body: &'a [u8], is_whole: &mut bool) -> Result<RequestRef<'a>, Refusal>
+    ensures asked { Gives request_view result (replace_in (pairs_in body.now)) }
+    ensures whole { is_whole.new ≡ is_body body.now }
 {
     let mut values = [None; 2];
-    values_under(&[keys::SPACE, keys::TUPLE], body, &mut values);
+    *is_whole = body_values(&[keys::SPACE, keys::TUPLE], body, &mut values);
     let [space, tuple] = values;
     Ok(RequestRef::Replace {
         space: SpaceId(required_number(keys::SPACE, space)?),
@@ -105,11 +128,12 @@ fn replace_in(body: &[u8]) -> Result<RequestRef<'_>, Refusal>
 }
 
 #[tactic(auto, unfolding(crate::specs::Requests::update_in))]
-fn update_in(body: &[u8]) -> Result<RequestRef<'_>, Refusal>
-    ensures { Gives request_view result (update_in (pairs_in body.now)) }
+fn update_in<'a>(body: &'a [u8], is_whole: &mut bool) -> Result<RequestRef<'a>, Refusal>
+    ensures asked { Gives request_view result (update_in (pairs_in body.now)) }
+    ensures whole { is_whole.new ≡ is_body body.now }
 {
     let mut values = [None; 5];
-    values_under(
+    *is_whole = body_values(
         &[
             keys::SPACE,
             keys::INDEX,
@@ -131,11 +155,12 @@ fn update_in(body: &[u8]) -> Result<RequestRef<'_>, Refusal>
 }
 
 #[tactic(auto, unfolding(crate::specs::Requests::delete_in))]
-fn delete_in(body: &[u8]) -> Result<RequestRef<'_>, Refusal>
-    ensures { Gives request_view result (delete_in (pairs_in body.now)) }
+fn delete_in<'a>(body: &'a [u8], is_whole: &mut bool) -> Result<RequestRef<'a>, Refusal>
+    ensures asked { Gives request_view result (delete_in (pairs_in body.now)) }
+    ensures whole { is_whole.new ≡ is_body body.now }
 {
     let mut values = [None; 3];
-    values_under(&[keys::SPACE, keys::INDEX, keys::PARTS], body, &mut values);
+    *is_whole = body_values(&[keys::SPACE, keys::INDEX, keys::PARTS], body, &mut values);
     let [space, index, key] = values;
     Ok(RequestRef::Delete {
         space: SpaceId(required_number(keys::SPACE, space)?),
@@ -145,11 +170,12 @@ fn delete_in(body: &[u8]) -> Result<RequestRef<'_>, Refusal>
 }
 
 #[tactic(auto, unfolding(crate::specs::Requests::upsert_in))]
-fn upsert_in(body: &[u8]) -> Result<RequestRef<'_>, Refusal>
-    ensures { Gives request_view result (upsert_in (pairs_in body.now)) }
+fn upsert_in<'a>(body: &'a [u8], is_whole: &mut bool) -> Result<RequestRef<'a>, Refusal>
+    ensures asked { Gives request_view result (upsert_in (pairs_in body.now)) }
+    ensures whole { is_whole.new ≡ is_body body.now }
 {
     let mut values = [None; 4];
-    values_under(
+    *is_whole = body_values(
         &[keys::SPACE, keys::BASE, keys::TUPLE, keys::OPERATIONS],
         body,
         &mut values,
@@ -165,56 +191,81 @@ fn upsert_in(body: &[u8]) -> Result<RequestRef<'_>, Refusal>
 
 /// The isolation level is checked and not kept, since there is only one.
 #[tactic(auto, unfolding(crate::specs::Requests::begin_in))]
-fn begin_in(body: &[u8]) -> Result<RequestRef<'_>, Refusal>
-    ensures { Gives request_view result (begin_in (pairs_in body.now)) }
+fn begin_in<'a>(body: &'a [u8], is_whole: &mut bool) -> Result<RequestRef<'a>, Refusal>
+    ensures asked { Gives request_view result (begin_in (pairs_in body.now)) }
+    ensures whole { is_whole.new ≡ is_body body.now }
 {
     let mut values = [None; 1];
-    values_under(&[keys::ISOLATION], body, &mut values);
+    *is_whole = body_values(&[keys::ISOLATION], body, &mut values);
     let [level] = values;
     optional_number(keys::ISOLATION, 0, MAX_ISOLATION, level)?;
-    Ok(RequestRef::Plain(Request::Begin))
+    Ok(RequestRef::Begin)
 }
 
 #[tactic(auto, unfolding(crate::specs::Requests::join_in))]
-fn join_in(body: &[u8]) -> Result<RequestRef<'_>, Refusal>
-    ensures { Gives request_view result (join_in (pairs_in body.now)) }
+fn join_in<'a>(body: &'a [u8], is_whole: &mut bool) -> Result<RequestRef<'a>, Refusal>
+    ensures asked { Gives request_view result (join_in (pairs_in body.now)) }
+    ensures whole { is_whole.new ≡ is_body body.now }
 {
     let mut values = [None; 1];
-    values_under(&[keys::INSTANCE], body, &mut values);
+    *is_whole = body_values(&[keys::INSTANCE], body, &mut values);
     let [instance] = values;
-    Ok(RequestRef::Plain(Request::Join {
+    Ok(RequestRef::Join {
         instance: required_uuid(keys::INSTANCE, instance)?,
-    }))
+    })
 }
 
 #[tactic(auto, unfolding(crate::specs::Requests::subscribe_in))]
-fn subscribe_in(body: &[u8]) -> Result<RequestRef<'_>, Refusal>
-    ensures { Gives request_view result (subscribe_in (pairs_in body.now)) }
+fn subscribe_in<'a>(body: &'a [u8], is_whole: &mut bool) -> Result<RequestRef<'a>, Refusal>
+    ensures asked { Gives request_view result (subscribe_in (pairs_in body.now)) }
+    ensures whole { is_whole.new ≡ is_body body.now }
 {
     let mut values = [None; 3];
-    values_under(
+    *is_whole = body_values(
         &[keys::INSTANCE, keys::REPLICA_SET, keys::CLOCK],
         body,
         &mut values,
     );
     let [instance, set, clock] = values;
-    Ok(RequestRef::Plain(Request::Subscribe {
+    Ok(RequestRef::Subscribe {
         instance: required_uuid(keys::INSTANCE, instance)?,
         set: required_uuid(keys::REPLICA_SET, set)?,
         clock: required_clock(keys::CLOCK, clock)?,
-    }))
+    })
 }
 
 #[tactic(auto, unfolding(crate::specs::Requests::ack_in))]
-fn ack_in(body: &[u8]) -> Result<RequestRef<'_>, Refusal>
-    ensures { Gives request_view result (ack_in (pairs_in body.now)) }
+fn ack_in<'a>(body: &'a [u8], is_whole: &mut bool) -> Result<RequestRef<'a>, Refusal>
+    ensures asked { Gives request_view result (ack_in (pairs_in body.now)) }
+    ensures whole { is_whole.new ≡ is_body body.now }
 {
     let mut values = [None; 1];
-    values_under(&[keys::CLOCK], body, &mut values);
+    *is_whole = body_values(&[keys::CLOCK], body, &mut values);
     let [clock] = values;
-    Ok(RequestRef::Plain(Request::Ack {
+    Ok(RequestRef::Ack {
         clock: required_clock(keys::CLOCK, clock)?,
-    }))
+    })
+}
+
+/// Whether these are no bytes, or one map and nothing else.
+pub(crate) fn is_body(bytes: &[u8]) -> bool
+    ensures { result ≡ is_body bytes.now }
+{
+    body_values(&[], bytes, &mut [])
+}
+
+/// The values under these keys, each in its key's place, and whether the body is whole.
+#[inline(always)]
+fn body_values<'a>(keys: &[u8], body: &'a [u8], values: &mut [Option<&'a [u8]>]) -> bool
+    requires { map option_copied values.old ≡ map (λ key. None) keys.now }
+    ensures values { map option_copied values.new ≡ map (λ key. value_under key (pairs_in body.now)) keys.now }
+    ensures are { AreValues (map option_copied values.new) }
+    ensures whole { result ≡ is_body body.now }
+{
+    match values_at(keys, body, values) {
+        Some(rest) => rest.is_empty(),
+        None => body.is_empty(),
+    }
 }
 
 fn shaped(operations: &[u8]) -> Result<&[u8], Refusal>

@@ -2,20 +2,18 @@
 
 ghost use Rattle.std.specs.Prelude.{◌≡◌};
 ghost use Rattle.mx_msgpack.specs.Maps.{pairs_in};
-ghost use Rattle.mx_request.specs.Requests.{request_in, or_zero, optional, stream_in, sync_in};
-ghost use Rattle.mx_msgpack.specs.Readers.{unsigned_in};
-ghost use Rattle.mx_request.specs.Returns.{ReturnsRequest};
-ghost use Rattle.mx_request.specs.Views.{request_view};
 ghost use Rattle.mx_msgpack.specs.Reading.{Gives};
+ghost use Rattle.mx_request.specs.InPlace.{request_view};
+ghost use Rattle.mx_request.specs.PacketParts.{request_by};
+ghost use Rattle.mx_request.specs.Requests.{stream_in, sync_in};
+ghost use Rattle.mx_request.specs.Returns.{ReturnsRequest};
 
 use crate::bodies::body_request;
 use crate::fault::RequestFault;
-use crate::fields::optional_unsigned;
+use crate::header::{Header, head_of, header_at, numbers_of};
 use crate::request::{Head3, Request};
 use crate::request_ref::{RequestRef, to_owned};
-use crate::request_type::request_type_of;
-use mx_base::{Refusal, StreamId, SyncId, keys};
-use mx_msgpack::values_under;
+use mx_base::{Refusal, StreamId, SyncId};
 use std::alloc::Global;
 
 /// Reads what a packet's header and body ask. Each is one map; no bytes count as an empty one. Keys
@@ -32,10 +30,11 @@ pub fn read_request(
 ) -> Result<(Head3, Request), RequestFault>
     ensures { ReturnsRequest result (pairs_in header.now) (pairs_in body.now) }
 {
+    let (header, _) = header_at(header);
     match request_in(header, body) {
         Ok((head, request)) => Ok((head, to_owned(alloc, request)?)),
         Err(refusal) => {
-            let (sync, stream) = header_numbers(header);
+            let (sync, stream) = numbers_of(header);
             Err(RequestFault::Refused {
                 sync,
                 stream,
@@ -45,21 +44,13 @@ pub fn read_request(
     }
 }
 
-#[tactic(auto, unfolding(crate::specs::Requests::request_in))]
-fn request_in<'a>(header: &[u8], body: &'a [u8]) -> Result<(Head3, RequestRef<'a>), Refusal>
-    ensures { Gives (λ asked. (asked.0, request_view asked.1)) result (request_in (pairs_in header.now) (pairs_in body.now)) }
+fn request_in<'a>(header: Header, body: &'a [u8]) -> Result<(Head3, RequestRef<'a>), Refusal>
+    ensures { Gives (λ asked. (asked.0, request_view asked.1)) result
+        (request_by header.number header.sync header.stream (pairs_in body.now)) }
 {
-    let mut values = [None; 3];
-    values_under(&[keys::TYPE, keys::SYNC, keys::STREAM], header, &mut values);
-    let [number, sync, stream] = values;
-    let number = optional_unsigned(keys::TYPE, number)?;
-    let request_type = request_type_of(number, body)?;
-    let head = Head3 {
-        sync: SyncId(optional_unsigned(keys::SYNC, sync)?),
-        stream: StreamId(optional_unsigned(keys::STREAM, stream)?),
-        kind: number as u8,
-    };
-    Ok((head, body_request(request_type, body)?))
+    let (request_type, head) = head_of(header, body)?;
+    let request = body_request(request_type, body, &mut false)?;
+    Ok((head, request))
 }
 
 /// The sync and the stream of the header that stands first in the bytes, each 0 where it isn't there
@@ -68,10 +59,6 @@ pub fn header_numbers(header: &[u8]) -> (SyncId, StreamId)
     ensures sync { result.0.0 ≡ sync_in (pairs_in header.now) }
     ensures stream { result.1.0 ≡ stream_in (pairs_in header.now) }
 {
-    let mut values = [None; 2];
-    values_under(&[keys::SYNC, keys::STREAM], header, &mut values);
-    let [sync, stream] = values;
-    let sync = optional_unsigned(keys::SYNC, sync).unwrap_or(0);
-    let stream = optional_unsigned(keys::STREAM, stream).unwrap_or(0);
-    (SyncId(sync), StreamId(stream))
+    let (header, _) = header_at(header);
+    numbers_of(header)
 }

@@ -1,27 +1,31 @@
 //! The values under keys that have to be there, and under keys that have defaults.
 
-ghost use Rattle.std.specs.Prelude.{◌≡◌, ◌≤◌, IfOk};
+ghost use Rattle.std.specs.Prelude.{◌≡◌, ◌≤◌, IfOk, IfSome};
 ghost use Rattle.std.specs.Option.{option_copied};
 ghost use Rattle.mx_request.specs.Values.{array_in, vclock_in, number_32, number_to, uuid_in};
-ghost use Rattle.mx_msgpack.specs.Readers.{unsigned_in};
+ghost use Rattle.mx_msgpack.specs.Items.{IsOneValue};
+ghost use Rattle.mx_request.specs.InPlace.{vclock_or_none};
+ghost use Rattle.mx_request.specs.PacketParts.{number_in};
 ghost use Rattle.mx_request.specs.Requests.{optional_value, required_value, legal_value};
 ghost use Rattle.mx_msgpack.specs.Reading.{Gives};
 
 use crate::values::{array_in, number_to, uuid_in, vclock_in};
 use mx_base::Refusal;
 use mx_msgpack::unsigned_in;
-use mx_vclock::Vclock;
 use uuid::Uuid;
 
-pub(crate) fn optional_unsigned(key: u8, value: Option<&[u8]>) -> Result<u64, Refusal>
-    ensures { result ≡ optional_value key 0 unsigned_in (option_copied value.entry) }
+/// The number that a value is, and 0 without one; `None` where it is no number of 0 or more.
+#[inline(always)]
+pub(crate) fn number_in(value: Option<&[u8]>) -> Option<u64>
+    ensures { result ≡ number_in (option_copied value.entry) }
 {
     match value {
-        Some(value) => legal_value(key, unsigned_in(value)),
-        None => Ok(0),
+        Some(value) => unsigned_in(value),
+        None => Some(0),
     }
 }
 
+#[inline(always)]
 pub(crate) fn optional_number(
     key: u8,
     default: u32,
@@ -38,6 +42,7 @@ pub(crate) fn optional_number(
     }
 }
 
+#[inline(always)]
 pub(crate) fn required_number(key: u8, value: Option<&[u8]>) -> Result<u32, Refusal>
     ensures { result ≡ required_value key number_32 (option_copied value.entry) }
 {
@@ -47,7 +52,9 @@ pub(crate) fn required_number(key: u8, value: Option<&[u8]>) -> Result<u32, Refu
     }
 }
 
+#[inline(always)]
 pub(crate) fn required_array(key: u8, value: Option<&[u8]>) -> Result<&[u8], Refusal>
+    requires { IfSome (option_copied value) IsOneValue }
     ensures { Gives (λ array. array.now) result (required_value key array_in (option_copied value.entry)) }
 {
     match value {
@@ -65,15 +72,20 @@ pub(crate) fn required_uuid(key: u8, value: Option<&[u8]>) -> Result<Uuid, Refus
     }
 }
 
-pub(crate) fn required_clock(key: u8, value: Option<&[u8]>) -> Result<Vclock, Refusal>
-    ensures { result ≡ required_value key vclock_in (option_copied value.entry) }
+/// The value that is a vclock, as it stands.
+pub(crate) fn required_clock(key: u8, value: Option<&[u8]>) -> Result<&[u8], Refusal>
+    ensures { Gives (λ clock. vclock_or_none clock.now) result (required_value key vclock_in (option_copied value.entry)) }
 {
     match value {
-        Some(value) => legal_value(key, vclock_in(value)),
+        Some(value) => match vclock_in(value) {
+            Some(_) => Ok(value),
+            None => Err(Refusal::IllegalValue { key }),
+        },
         None => Err(Refusal::MissingKey { key }),
     }
 }
 
+#[inline(always)]
 fn number_under(key: u8, most: u32, value: &[u8]) -> Result<u32, Refusal>
     ensures value { result ≡ legal_value key (number_to most value.now) }
     ensures most { IfOk result (λ number. number ≤ most) }
@@ -82,7 +94,8 @@ fn number_under(key: u8, most: u32, value: &[u8]) -> Result<u32, Refusal>
     Ok(number as u32)
 }
 
-fn legal_value<X>(key: u8, value: Option<X>) -> Result<X, Refusal>
+#[inline(always)]
+pub(crate) fn legal_value<X>(key: u8, value: Option<X>) -> Result<X, Refusal>
     ensures { result ≡ legal_value key value }
 {
     match value {

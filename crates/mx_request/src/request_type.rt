@@ -7,7 +7,7 @@ ghost use Rattle.mx_request.specs.Requests.{request_type_of, zero_type};
 ghost use Rattle.mx_msgpack.specs.Reading.{Gives};
 
 use mx_base::{Refusal, Unsupported, keys};
-use mx_msgpack::values_under;
+use mx_msgpack::values_at;
 
 /// A request type.
 #[derive(Clone, Copy)]
@@ -62,7 +62,7 @@ fn zero_type(body: &[u8]) -> Result<RequestType, Refusal>
     ensures { Gives (λ x. x) result (zero_type (value_under clock_key (pairs_in body.now))) }
 {
     let mut values = [None; 1];
-    values_under(&[keys::CLOCK], body, &mut values);
+    values_at(&[keys::CLOCK], body, &mut values);
     let [clock] = values;
     match clock {
         Some(_) => Ok(RequestType::Ack),

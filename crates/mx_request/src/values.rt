@@ -3,11 +3,12 @@
 ghost use Rattle.std.specs.Prelude.{◌≡◌, ◌≤◌, IfSome, replicate};
 ghost use Rattle.std.specs.Option.{option_copied};
 ghost use Rattle.mx_vclock.specs.Vclocks.{replicas};
+ghost use Rattle.mx_msgpack.specs.Items.{IsOneValue};
 ghost use Rattle.mx_msgpack.specs.Maps.{pairs_from};
 ghost use Rattle.mx_request.specs.Values.{array_in, vclock_from, vclock_in, number_to, uuid_in};
 ghost use Rattle.mx_msgpack.specs.Readers.{unsigned_in};
 
-use mx_msgpack::{PairsRef, ValueRef, first_pair, read_ref, unsigned_in};
+use mx_msgpack::{PairsRef, ValueRef, first_pair, is_array, read_ref, unsigned_in};
 use mx_vclock::{MAX_LSN, Vclock};
 use uuid::Uuid;
 
@@ -17,6 +18,7 @@ const REPLICAS: u64 = mx_vclock::REPLICAS as u64;
 /// How many bytes the hyphenated text of a UUID has.
 const UUID_TEXT: usize = 36;
 
+#[inline(always)]
 pub(crate) fn number_to(most: u64, value: &[u8]) -> Option<u64>
     ensures value { result ≡ number_to most value.now }
     ensures most { IfSome result (λ number. number ≤ most) }
@@ -28,13 +30,12 @@ pub(crate) fn number_to(most: u64, value: &[u8]) -> Option<u64>
     Some(number)
 }
 
+#[inline(always)]
 pub(crate) fn array_in(value: &[u8]) -> Option<&[u8]>
+    requires { IsOneValue value.now }
     ensures { option_copied result ≡ array_in value.now }
 {
-    match read_ref(value) {
-        Ok((ValueRef::Array { .. }, _)) => Some(value),
-        _ => None,
-    }
+    if is_array(value) { Some(value) } else { None }
 }
 
 /// The UUID whose text stands first: with its hyphens, in letters of either case.
