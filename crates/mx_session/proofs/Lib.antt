@@ -1,2 +1,3 @@
 pub mod OutboxLaws
 pub mod JobLaws
+pub mod NextLaws

@@ -1,32 +1,15 @@
 -- What the packets of a connection come to: a job each, up to and with the first one whose bytes aren't one or two maps.
 use Rattle.std.specs.Prelude.{ℕ, Bool, true, false, List, [], ◌∷◌, map, Option, Some, None, Result, Ok, Err, if◌then◌else◌}
-use Rattle.mx_msgpack.specs.Readers.{◌>>=◌}
 use Rattle.mx_base.specs.declared.refusal.Refusal.{Refusal}
 use Rattle.mx_base.specs.declared.refusal.Refusal.TheVariants.{NotMessagePack}
 use Rattle.mx_frame.specs.Packets.{packets_of, breaks_off}
 use Rattle.mx_request.specs.declared.request.Ask.TheVariants.{Request, Refused}
 use Rattle.mx_request.specs.declared.request.Head3.{Head3}
 use Rattle.mx_request.specs.declared.request.Request as request
-use Rattle.mx_msgpack.specs.Maps.{Pair, map_at, pairs_in}
+use Rattle.mx_msgpack.specs.Maps.{Pair, pairs_in}
+use Rattle.mx_request.specs.Packets.{maps_in}
 use Rattle.mx_request.specs.Requests.{request_in, sync_in, stream_in}
 use Rattle.mx_session.specs.declared.job.Job.{Job}
-
--- a map that nothing follows
-abbrev pub whole_map : List ℕ × List ℕ → Option (List ℕ)
-whole_map (map, []) = Some map
-whole_map _ = None
-
--- a body: no bytes, or one map
-abbrev pub body_in : List ℕ → Option (List ℕ)
-body_in [] = Some []
-body_in (byte ∷ bytes) = map_at (byte ∷ bytes) >>= whole_map
-
--- the header and the body of a packet, where its bytes are one map, or two, and nothing else
-unfoldable pub maps_in : List ℕ → Option (List ℕ × List ℕ)
-maps_in packet = do
-  header ← map_at packet
-  body ← body_in header.1
-  Some (header.0, body)
 
 -- a refusal with the stream and the sync of a header
 abbrev pub refused_job : (connection : ℕ) → List Pair → Refusal → Job

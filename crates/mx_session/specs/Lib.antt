@@ -2,3 +2,4 @@ pub mod Jobs
 pub mod Outboxes
 pub mod Sessions
 pub mod Returns
+pub mod JobViews

@@ -1,13 +1,12 @@
 //! Jobs: what the packets of a connection come to.
 
-ghost use Rattle.std.specs.Prelude.{◌≡◌, IfOk};
-ghost use Rattle.mx_msgpack.specs.Maps.{pairs_in};
-ghost use Rattle.mx_request.specs.Requests.{request_in};
-ghost use Rattle.mx_session.specs.Jobs.{asked_job, broken_job, job_in};
+ghost use Rattle.std.specs.Prelude.{◌≡◌, true, IfOk};
+ghost use Rattle.mx_request.specs.InPlace.{packet_view};
+ghost use Rattle.mx_session.specs.JobViews.{ask_view, job_of, job_view};
+ghost use Rattle.mx_session.specs.Jobs.{broken_job, job_in};
 
-use crate::packet::maps_in;
 use mx_base::{ConnId, Refusal, StreamId, SyncId, TxnName};
-use mx_request::{Ask, RequestFault, header_numbers, read_request};
+use mx_request::{Ask, AskedRef, PacketRef, RequestRef, read_packet, to_owned};
 use std::alloc::{AllocError, Global};
 
 /// What a packet comes to, and the number by which its reply is known.
@@ -18,68 +17,94 @@ pub struct Job {
     pub ask: Ask,
 }
 
-pub(crate) fn job_in(
-    alloc: Global,
-    connection: ConnId,
-    packet: &[u8],
-) -> Result<(Job, bool), AllocError>
-    ensures { IfOk result (λ x. x ≡ job_in connection.0 packet.now) }
+/// A job whose request still stands in the session's bytes. `ends` says whether the connection ends
+/// with it.
+#[derive(Debug, Drop)]
+pub struct JobRef<'a> {
+    pub name: TxnName,
+    pub sync: SyncId,
+    pub ask: AskRef<'a>,
+    pub ends: bool,
+}
+
+/// What a packet asks, in place.
+#[derive(Debug, Drop)]
+pub enum AskRef<'a> {
+    Request(RequestRef<'a>),
+    /// A packet that is refused before anything looks at the database.
+    Refused(Refusal),
+}
+
+#[inline]
+pub(crate) fn job_in(connection: ConnId, packet: &[u8]) -> JobRef<'_>
+    ensures { (job_view result, result.ends) ≡ job_in connection.0 packet.now }
 {
-    let Some((header, body)) = maps_in(packet) else {
-        let (sync, stream) = header_numbers(packet);
-        return Ok((
-            refused_job(connection, stream, sync, Refusal::NotMessagePack),
-            true,
-        ));
+    job_of(connection, read_packet(packet))
+}
+
+#[inline(always)]
+fn job_of(connection: ConnId, packet: PacketRef<'_>) -> JobRef<'_>
+    ensures { (job_view result, result.ends) ≡ job_of connection.0 (packet_view packet.entry) }
+{
+    let name = TxnName {
+        conn: connection,
+        stream: packet.stream,
     };
-    Ok((asked_job(alloc, connection, header, body)?, false))
-}
-
-/// What a size that no packet may have comes to.
-pub(crate) fn broken_job(connection: ConnId) -> Job
-    ensures { result ≡ broken_job connection.0 }
-{
-    refused_job(connection, StreamId(0), SyncId(0), Refusal::NotMessagePack)
-}
-
-fn asked_job(
-    alloc: Global,
-    connection: ConnId,
-    header: &[u8],
-    body: &[u8],
-) -> Result<Job, AllocError>
-    ensures { let header_pairs = pairs_in header.now in
-        IfOk result (λ job. job ≡ asked_job connection.0 header_pairs (request_in header_pairs (pairs_in body.now))) }
-{
-    match read_request(alloc, header, body) {
-        Ok((head, request)) => Ok(Job {
-            name: TxnName {
-                conn: connection,
-                stream: head.stream,
-            },
-            sync: head.sync,
-            ask: Ask::Request(request),
-        }),
-        Err(
-            RequestFault::Refused {
-                sync,
-                stream,
-                refusal,
-            },
-        ) => Ok(refused_job(connection, stream, sync, refusal)),
-        Err(RequestFault::NoMemory) => Err(AllocError),
+    let sync = packet.sync;
+    match packet.asked {
+        AskedRef::Request(request) => JobRef {
+            name,
+            sync,
+            ask: AskRef::Request(request),
+            ends: false,
+        },
+        AskedRef::Refused(refusal) => JobRef {
+            name,
+            sync,
+            ask: AskRef::Refused(refusal),
+            ends: false,
+        },
+        AskedRef::NotMessagePack => JobRef {
+            name,
+            sync,
+            ask: AskRef::Refused(Refusal::NotMessagePack),
+            ends: true,
+        },
     }
 }
 
-fn refused_job(connection: ConnId, stream: StreamId, sync: SyncId, refusal: Refusal) -> Job
-    ensures { result ≡ record { name = record { conn = connection; stream = stream }; sync = sync; ask = Ask.Refused refusal } }
+/// What a size that no packet may have comes to.
+pub(crate) fn broken_job<'a>(connection: ConnId) -> JobRef<'a>
+    ensures job { job_view result ≡ broken_job connection.0 }
+    ensures ends { result.ends ≡ true }
 {
-    Job {
+    JobRef {
         name: TxnName {
             conn: connection,
-            stream,
+            stream: StreamId(0),
         },
-        sync,
-        ask: Ask::Refused(refusal),
+        sync: SyncId(0),
+        ask: AskRef::Refused(Refusal::NotMessagePack),
+        ends: true,
+    }
+}
+
+/// The job with a request of its own.
+pub(crate) fn owned_job(alloc: Global, job: JobRef<'_>) -> Result<Job, AllocError>
+    ensures { IfOk result (λ owned. owned ≡ job_view job.entry) }
+{
+    Ok(Job {
+        name: job.name,
+        sync: job.sync,
+        ask: owned_ask(alloc, job.ask)?,
+    })
+}
+
+fn owned_ask(alloc: Global, ask: AskRef<'_>) -> Result<Ask, AllocError>
+    ensures { IfOk result (λ owned. owned ≡ ask_view ask.entry) }
+{
+    match ask {
+        AskRef::Request(request) => Ok(Ask::Request(to_owned(alloc, request)?)),
+        AskRef::Refused(refusal) => Ok(Ask::Refused(refusal)),
     }
 }

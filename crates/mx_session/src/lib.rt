@@ -4,12 +4,11 @@
 mod job;
 mod laws;
 mod outbox;
-mod packet;
 mod session;
 
-pub use job::Job;
+pub use job::{AskRef, Job, JobRef};
 pub use laws::jobs_are_those_of_the_stream;
-pub use session::{Next, Session};
+pub use session::{Next, NextRef, Session};
 
 #[cfg(test)]
 mod tests;

@@ -1,11 +1,13 @@
 //! The session.
 
-ghost use Rattle.std.specs.Prelude.{◌≡◌, ◌≤◌, ◌++◌, ◌∷◌, [], length, drop, true, false, IfOk, MatchResult, if◌then◌else◌};
+ghost use Rattle.std.specs.Prelude.{◌≡◌, ◌≤◌, ◌++◌, ◌∷◌, [], ℕ, List, length, drop, true, false, IfOk, MatchResult, if◌then◌else◌};
 ghost use Rattle.mx_request.specs.declared.request.Ask.TheVariants as ask;
-ghost use Rattle.mx_session.specs.Sessions.{first_front, released};
+ghost use Rattle.mx_session.specs.declared.job.Job.{Job};
+ghost use Rattle.mx_session.specs.JobViews.{IsJobNext, ShowsNext};
+ghost use Rattle.mx_session.specs.Sessions.{JobSeen, first_front, next_of, released};
 ghost use Rattle.mx_session.specs.Returns.{ReturnsNext};
 
-use crate::job::{Job, broken_job, job_in};
+use crate::job::{Job, JobRef, broken_job, job_in, owned_job};
 use crate::outbox::Outbox;
 use mx_base::{ConnId, StreamId, SyncId, TxnName};
 use mx_frame::{Framed, Framer};
@@ -22,6 +24,14 @@ pub enum Next {
     /// No whole packet came yet.
     NeedMore,
     /// A packet came that is no MessagePack, and the connection ended with it.
+    Ended,
+}
+
+/// As `Next`, in place.
+#[derive(Debug, Drop)]
+pub enum NextRef<'a> {
+    Job(JobRef<'a>),
+    NeedMore,
     Ended,
 }
 
@@ -73,32 +83,49 @@ impl Session {
         self.framer.feed(piece)
     }
 
-    /// What the next packet comes to, which is then done with.
+    /// What the next packet comes to, in place, which is still the next one.
+    pub fn peek(&self) -> NextRef<'_>
+        ensures { ShowsNext result self.now }
+    {
+        if self.ended {
+            return NextRef::Ended;
+        }
+        match self.framer.next() {
+            Framed::NeedMore => NextRef::NeedMore,
+            Framed::Broken { .. } => NextRef::Job(broken_job(self.connection)),
+            Framed::Packet(packet) => NextRef::Job(job_in(self.connection, packet)),
+        }
+    }
+
+    /// Passes the next packet, whose job `peek` showed with this `ends`.
+    pub fn pass(&mut self, ends: bool)
+        requires { IsJobNext self.old ends }
+        ensures { (job : Job) (rest : List ℕ) → next_of self.old ≡ JobSeen job rest ends
+            → self.new ≡ record self.old { rest = if ends then [] else rest; ended = ends } }
+    {
+        if ends {
+            self.end();
+        } else {
+            self.framer.pass();
+        }
+    }
+
+    /// What the next packet comes to, which is then passed.
     ///
     /// # Errors
     /// Out of memory; the packet is still the next one.
     pub fn next_job(&mut self) -> Result<Next, AllocError>
         ensures { ReturnsNext result self.old self.new }
     {
-        if self.ended {
-            return Ok(Next::Ended);
-        }
-        match self.framer.next() {
-            Framed::NeedMore => Ok(Next::NeedMore),
-            Framed::Broken { .. } => {
-                let job = broken_job(self.connection);
-                self.end();
+        match self.peek() {
+            NextRef::Job(job) => {
+                let ends = job.ends;
+                let job = owned_job(self.alloc, job)?;
+                self.pass(ends);
                 Ok(Next::Job(job))
             }
-            Framed::Packet(packet) => {
-                let (job, ends) = job_in(self.alloc, self.connection, packet)?;
-                if ends {
-                    self.end();
-                } else {
-                    self.framer.pass();
-                }
-                Ok(Next::Job(job))
-            }
+            NextRef::NeedMore => Ok(Next::NeedMore),
+            NextRef::Ended => Ok(Next::Ended),
         }
     }
 
@@ -126,7 +153,19 @@ impl Session {
             (λ _. self.new ≡ record self.old { waiting = self.old.waiting ++ record { front = front; reply = reply } ∷ [] })
             (λ _. self.new ≡ self.old) }
     {
-        self.outbox.push(front, reply.as_slice())
+        self.push_reply_bytes(front, reply.as_slice())
+    }
+
+    /// As `push_reply`, of a reply whose bytes the caller keeps.
+    ///
+    /// # Errors
+    /// Out of memory; the reply isn't added.
+    pub fn push_reply_bytes(&mut self, front: u64, reply: &[u8]) -> Result<(), AllocError>
+        ensures { MatchResult result
+            (λ _. self.new ≡ record self.old { waiting = self.old.waiting ++ record { front = front; reply = reply.now } ∷ [] })
+            (λ _. self.new ≡ self.old) }
+    {
+        self.outbox.push(front, reply)
     }
 
     /// Lets replies be sent, in order, up to the first whose `front` is above `durable`, the number of
