@@ -114,7 +114,34 @@ pub fn unsigned_in(bytes: &[u8]) -> Option<u64>
 fn wide_in(bytes: &[u8]) -> Option<u64>
     ensures { result ≡ unsigned_in bytes.now }
 {
-    let (number, _) = unsigned_at(bytes)?;
+    let Some((leading, rest)) = bytes.split_first() else {
+        return read_in(bytes);
+    };
+    match *leading {
+        0xcc => digits_in(1, rest),
+        0xcd => digits_in(2, rest),
+        0xce => digits_in(4, rest),
+        0xcf => digits_in(8, rest),
+        _ => read_in(bytes),
+    }
+}
+
+#[inline(always)]
+fn digits_in(width: usize, bytes: &[u8]) -> Option<u64>
+    requires width { (width ≡ 1) ⊎ (width ≡ 2) ⊎ (width ≡ 4) ⊎ (width ≡ 8) }
+    ensures { result ≡ option_map (λ found. found.0) (number_at width bytes.now) }
+{
+    if bytes.len() < width {
+        return None;
+    }
+    Some(number_of(bytes.split_at(width).0))
+}
+
+#[inline(never)]
+fn read_in(bytes: &[u8]) -> Option<u64>
+    ensures { result ≡ unsigned_in bytes.now }
+{
+    let (number, _) = unsigned_read(bytes)?;
     Some(number)
 }
 
