@@ -6,4 +6,5 @@ pub mod Returns
 pub mod InPlace
 pub mod Packets
 pub mod PacketParts
+pub mod ValueFaults
 pub mod Views

@@ -70,6 +70,7 @@ pub(crate) fn body_request<'a>(
     }
 }
 
+#[inline(never)]
 #[tactic(auto, unfolding(crate::specs::Requests::select_in))]
 fn select_in<'a>(body: &'a [u8], is_whole: &mut bool) -> Result<RequestRef<'a>, Refusal>
     ensures asked { Gives request_view result (select_in (pairs_in body.now)) }
@@ -99,6 +100,7 @@ fn select_in<'a>(body: &'a [u8], is_whole: &mut bool) -> Result<RequestRef<'a>, 
     })
 }
 
+#[inline(never)]
 #[tactic(auto, unfolding(crate::specs::Requests::insert_in))]
 fn insert_in<'a>(body: &'a [u8], is_whole: &mut bool) -> Result<RequestRef<'a>, Refusal>
     ensures asked { Gives request_view result (insert_in (pairs_in body.now)) }
@@ -113,6 +115,7 @@ fn insert_in<'a>(body: &'a [u8], is_whole: &mut bool) -> Result<RequestRef<'a>, 
     })
 }
 
+#[inline(never)]
 #[tactic(auto, unfolding(crate::specs::Requests::replace_in))]
 fn replace_in<'a>(body: &'a [u8], is_whole: &mut bool) -> Result<RequestRef<'a>, Refusal>
     ensures asked { Gives request_view result (replace_in (pairs_in body.now)) }
@@ -127,6 +130,7 @@ fn replace_in<'a>(body: &'a [u8], is_whole: &mut bool) -> Result<RequestRef<'a>,
     })
 }
 
+#[inline(never)]
 #[tactic(auto, unfolding(crate::specs::Requests::update_in))]
 fn update_in<'a>(body: &'a [u8], is_whole: &mut bool) -> Result<RequestRef<'a>, Refusal>
     ensures asked { Gives request_view result (update_in (pairs_in body.now)) }
@@ -154,6 +158,7 @@ fn update_in<'a>(body: &'a [u8], is_whole: &mut bool) -> Result<RequestRef<'a>, 
     })
 }
 
+#[inline(never)]
 #[tactic(auto, unfolding(crate::specs::Requests::delete_in))]
 fn delete_in<'a>(body: &'a [u8], is_whole: &mut bool) -> Result<RequestRef<'a>, Refusal>
     ensures asked { Gives request_view result (delete_in (pairs_in body.now)) }
@@ -169,6 +174,7 @@ fn delete_in<'a>(body: &'a [u8], is_whole: &mut bool) -> Result<RequestRef<'a>, 
     })
 }
 
+#[inline(never)]
 #[tactic(auto, unfolding(crate::specs::Requests::upsert_in))]
 fn upsert_in<'a>(body: &'a [u8], is_whole: &mut bool) -> Result<RequestRef<'a>, Refusal>
     ensures asked { Gives request_view result (upsert_in (pairs_in body.now)) }
@@ -190,6 +196,7 @@ fn upsert_in<'a>(body: &'a [u8], is_whole: &mut bool) -> Result<RequestRef<'a>, 
 }
 
 /// The isolation level is checked and not kept, since there is only one.
+#[inline(never)]
 #[tactic(auto, unfolding(crate::specs::Requests::begin_in))]
 fn begin_in<'a>(body: &'a [u8], is_whole: &mut bool) -> Result<RequestRef<'a>, Refusal>
     ensures asked { Gives request_view result (begin_in (pairs_in body.now)) }
@@ -202,6 +209,7 @@ fn begin_in<'a>(body: &'a [u8], is_whole: &mut bool) -> Result<RequestRef<'a>, R
     Ok(RequestRef::Begin)
 }
 
+#[inline(never)]
 #[tactic(auto, unfolding(crate::specs::Requests::join_in))]
 fn join_in<'a>(body: &'a [u8], is_whole: &mut bool) -> Result<RequestRef<'a>, Refusal>
     ensures asked { Gives request_view result (join_in (pairs_in body.now)) }
@@ -215,6 +223,7 @@ fn join_in<'a>(body: &'a [u8], is_whole: &mut bool) -> Result<RequestRef<'a>, Re
     })
 }
 
+#[inline(never)]
 #[tactic(auto, unfolding(crate::specs::Requests::subscribe_in))]
 fn subscribe_in<'a>(body: &'a [u8], is_whole: &mut bool) -> Result<RequestRef<'a>, Refusal>
     ensures asked { Gives request_view result (subscribe_in (pairs_in body.now)) }
@@ -234,6 +243,7 @@ fn subscribe_in<'a>(body: &'a [u8], is_whole: &mut bool) -> Result<RequestRef<'a
     })
 }
 
+#[inline(never)]
 #[tactic(auto, unfolding(crate::specs::Requests::ack_in))]
 fn ack_in<'a>(body: &'a [u8], is_whole: &mut bool) -> Result<RequestRef<'a>, Refusal>
     ensures asked { Gives request_view result (ack_in (pairs_in body.now)) }

@@ -14,6 +14,7 @@ mod request;
 mod request_ref;
 mod request_type;
 mod type_number;
+mod value_fault;
 mod values;
 
 pub use decode::{header_numbers, read_request};
