@@ -5,9 +5,7 @@ use Rattle.std.specs.Option.{option_map}
 use Rattle.std.proofs.lemmas.List.{append-nil, take_at, drop_at, take-append-drop, length-append}
 use Rattle.mx_msgpack.specs.declared.bad.Bad.{Bad}
 use Rattle.mx_msgpack.specs.declared.head.Head.{Head}
-use Rattle.mx_msgpack.specs.declared.head.Head.TheVariants.{Nil, Bool as Boolean, Int, Str, Bin, Array, Map, Fixed, Extension}
-use Rattle.std.specs.Prelude.{false, is_some}
-use Rattle.mx_msgpack.specs.Lookups.{is_array_head}
+use Rattle.mx_msgpack.specs.declared.head.Head.TheVariants.{Array}
 use Rattle.mx_msgpack.specs.Grammar as grammar
 use Rattle.mx_msgpack.specs.Grammar.{Value, Values, NoValue, MoreValues, value_count, max_length, max_nesting, ArrayHead, Spells, SpellsAll}
 use Rattle.mx_msgpack.specs.Reading.{Shown, ShownArray, shown, head_at, after_first, reading_of, measured}
@@ -151,6 +149,26 @@ array_row bytes count content e = by_spelling (array_of_spelled bytes count cont
 -- its items fill the bytes after its head
 pub row_fills : (bytes : List ℕ) (count : ℕ) (content : List ℕ) → Row bytes count content → concat (values_from count content) ≡ content
 row_fills bytes count content row = rw (← row.many) (values_fill row.values content row.spelled)
+
+-- and its head alone tells its count, and where its items begin
+pub array_head : (bytes : List ℕ) (array : ℕ × List ℕ) → array_of bytes ≡ Some array → head_at 0 bytes ≡ Ok (Array array.0, array.1)
+array_head bytes (count, content) e = by_spelling (array_of_spelled bytes count content e)
+  where
+    by_spelling : (values : Values) × Spells 64 (grammar.Array values) bytes → head_at 0 bytes ≡ Ok (Array count, content)
+    by_spelling (values, (head, inside, h, few, parts, s)) =
+        let same = same_some (value_count values, inside) (count, content) (sym (ap array_of parts ∙ array_read values head inside h few s) ∙ e) in
+        ap (head_at 0) parts ∙ head_again 0 (Array (value_count values)) head inside h ∙ ap (λ (x : ℕ × List ℕ). Ok (Array x.0, x.1)) same
+
+pub known_by_head : (bytes : List ℕ) (array : ℕ × List ℕ) (head : Head) (items : List ℕ) (count : ℕ) → array_of bytes ≡ Some array → head_at 0 bytes ≡ Ok (head, items)
+    → ((announced : ℕ) → head ≡ Array announced → count ≡ announced) → array_of bytes ≡ Some (count, items)
+known_by_head bytes array head items count is read announces =
+    let same = ok_is (Array array.0, array.1) (head, items) (sym (array_head bytes array is) ∙ read) in
+    let many = sym (announces array.0 (ap (λ (x : Head × List ℕ). x.0) (sym same))) in
+    let items_same = ap (λ (x : Head × List ℕ). x.1) same in
+    is ∙ (λ i. Some (many i, items_same i))
+
+pub known_has_head : (bytes : List ℕ) (array : ℕ × List ℕ) (bad : Bad) → array_of bytes ≡ Some array → head_at 0 bytes ≡ Err bad → ⊥
+known_has_head bytes array bad is fails = let read = sym (array_head bytes array is) ∙ fails in absurd cc
 
 -- an array that is spelled is a head and the spellings of its values, which are its items
 pub array_items : (bytes : List ℕ) (values : Values) → Spells max_nesting (grammar.Array values) bytes

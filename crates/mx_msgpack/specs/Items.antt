@@ -34,6 +34,10 @@ array_of bytes = do
   array ← as_array first.0
   if first.1 == length bytes then Some array else None
 
+-- the bytes are one array and nothing else
+abbrev pub IsArray : List ℕ → Type 0
+IsArray bytes = (array : ℕ × List ℕ) × (array_of bytes ≡ Some array)
+
 -- the items, each by its spelling
 abbrev pub items_of : List ℕ → Option (List (List ℕ))
 items_of bytes = option_map (λ array. values_from array.0 array.1) (array_of bytes)

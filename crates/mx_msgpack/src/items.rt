@@ -1,10 +1,9 @@
 //! Values that stand in a row, and the items of an array, in place.
 
-ghost use Rattle.std.specs.Prelude.{◌≡◌, is_some};
+ghost use Rattle.std.specs.Prelude.{◌≡◌, ℕ, Some};
 ghost use Rattle.std.specs.Option.{option_map};
-ghost use Rattle.mx_msgpack.specs.Items.{IsOneValue, array_of, first_value, after_value};
-ghost use Rattle.mx_msgpack.specs.Lookups.{is_array_head};
-ghost use Rattle.mx_msgpack.specs.Projections.{as_array, first_as};
+ghost use Rattle.mx_msgpack.specs.declared.head.Head.TheVariants.{Array};
+ghost use Rattle.mx_msgpack.specs.Items.{IsArray, array_of, first_value, after_value};
 
 use crate::head::{Head, head_at, short_head};
 use crate::size::skip;
@@ -43,32 +42,44 @@ pub fn array_of(bytes: &[u8]) -> Option<Items<'_>>
     }
 }
 
-/// Whether the value that these bytes are is an array, by its head.
+/// The items of the array that these bytes are, by its head alone.
 #[inline]
-pub fn is_array(value: &[u8]) -> bool
-    requires { IsOneValue value.now }
-    ensures { result ≡ is_some (first_as as_array value.now) }
+pub fn known_array(bytes: &[u8]) -> Items<'_>
+    requires array { IsArray bytes.now }
+    ensures { array_of bytes.now ≡ Some (result.count, result.bytes.now) }
 {
-    match short_head(value) {
-        Some((head, _)) => is_array_head(head),
-        None => is_long_array(value),
+    if let Some((head, items)) = short_head(bytes) {
+        return Items {
+            count: item_count(head),
+            bytes: items,
+        };
+    }
+    match head_at(0, bytes) {
+        Ok((head, items)) => Items {
+            count: item_count(head),
+            bytes: items,
+        },
+        Err(_) => Items {
+            count: 0,
+            bytes: &[],
+        },
     }
 }
 
-#[inline(never)]
-fn is_long_array(value: &[u8]) -> bool
-    requires { IsOneValue value.now }
-    ensures { result ≡ is_some (first_as as_array value.now) }
-{
-    match head_at(0, value) {
-        Ok((head, _)) => is_array_head(head),
-        Err(_) => false,
-    }
-}
-
+/// How many items follow the head, where it is an array's.
 #[inline(always)]
-fn is_array_head(head: Head) -> bool
-    ensures { result ≡ is_array_head head }
+fn item_count(head: Head) -> u32
+    ensures { (count : ℕ) → head ≡ Array count → result ≡ count }
 {
-    matches!(head, Head::Array(_))
+    match head {
+        Head::Array(count) => count,
+        Head::Nil => 0,
+        Head::Bool(_) => 0,
+        Head::Int(_) => 0,
+        Head::Str(_) => 0,
+        Head::Bin(_) => 0,
+        Head::Map(_) => 0,
+        Head::Fixed(_) => 0,
+        Head::Extension(_) => 0,
+    }
 }
