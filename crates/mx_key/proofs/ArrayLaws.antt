@@ -1,10 +1,13 @@
 -- What an array gives for an index, by how many items it has.
-use Rattle.std.proofs.Common.{◌≡◌, ℕ, zero, suc, ◌<◌, ◌≤◌, List, [], ◌∷◌, length, Option, Some, Err, refl, ap, ◌∙◌}
+use Rattle.std.proofs.Common.{◌≡◌, ℕ, zero, suc, ◌<◌, ◌≤◌, List, [], ◌∷◌, length, Option, Some, Result, Ok, Err, refl, sym, ap, ◌∙◌, ◌⊎◌, inl, inr}
 use Rattle.std.proofs.lemmas.Bool.{lt-ltb, le-ltb}
 use Rattle.std.specs.Option.{option_map}
 use Rattle.mx_msgpack.specs.Items.{array_of, after_value, values_from}
 use Rattle.mx_key.specs.declared.part.Part.{Part}
+use Rattle.mx_key.specs.declared.fault.Misfit.{Misfit}
 use Rattle.mx_key.specs.declared.fault.Misfit.TheVariants.{TooLong}
+use Rattle.mx_key.specs.declared.fault.RangeFault.{RangeFault}
+use Rattle.mx_key.specs.declared.fault.RangeFault.TheVariants as faults
 use Rattle.mx_key.specs.declared.iterator.IterKind.{IterKind}
 use Rattle.mx_key.specs.declared.edge.Edge.TheVariants.{Open}
 use Rattle.mx_key.specs.Keys.{Key, KeyPart, Boolean, Integer, Text, Binary}
@@ -45,3 +48,21 @@ range_of_nothing iterator (part ∷ parts) e = absurd (some_bytes part parts e)
 pub range_of_some : (iterator : IterKind) (key : Key) → (comparable_of key ≡ [] → ⊥) → range_of iterator key ≡ range_by iterator key
 range_of_some iterator [] some = absurd (some refl)
 range_of_some iterator (part ∷ parts) some = refl
+
+-- ---- the key that the items are, and why they are none
+
+pub same_key : (one other : Key) (read : Result Key Misfit) → read ≡ Ok one → read ≡ Ok other → one ≡ other
+same_key one other read is also = let same : ◌≡◌ {A = Result Key Misfit} (Ok one) (Ok other) = sym is ∙ also in cc
+
+-- what doesn't fit isn't a key, nor out of memory
+pub no_misfit : (fitting : Key) (read : Result Key Misfit) (fault : RangeFault) → read ≡ Ok fitting
+    → ((misfit : Misfit) × (fault ≡ faults.Misfit misfit) × (read ≡ Err misfit)) ⊎ (fault ≡ faults.NoMemory) → fault ≡ faults.NoMemory
+no_misfit fitting read fault is (inl (misfit, told, fails)) = let same : ◌≡◌ {A = Result Key Misfit} (Ok fitting) (Err misfit) = sym is ∙ fails in absurd cc
+no_misfit fitting read fault is (inr none) = none
+
+-- a fault of the items is one of the key
+pub key_fault : (key items : Result Key Misfit) (fault : RangeFault) → key ≡ items
+    → ((misfit : Misfit) × (fault ≡ faults.Misfit misfit) × (items ≡ Err misfit)) ⊎ (fault ≡ faults.NoMemory)
+    → ((misfit : Misfit) × (fault ≡ faults.Misfit misfit) × (key ≡ Err misfit)) ⊎ (fault ≡ faults.NoMemory)
+key_fault key items fault same (inl (misfit, told, fails)) = inl (misfit, told, same ∙ fails)
+key_fault key items fault same (inr none) = inr none

@@ -5,3 +5,6 @@ pub mod FitLaws
 pub mod SliceLaws
 pub mod MakingLaws
 pub mod ArrayLaws
+pub mod PlaceLaws
+pub mod EscapeLaws
+pub mod DigitLaws

@@ -1,16 +1,14 @@
 -- Keys that are made part by part.
-use Rattle.std.proofs.Common.{◌≡◌, ℕ, suc, ◌+◌, ◌-◌, ◌<◌, ◌≤◌, true, false, get_or, List, [], ◌∷◌, ◌++◌, length, drop, Option, Some, None, Result, Ok, Err, refl, sym, ap, subst, ◌∙◌, append_assoc, arith}
+use Rattle.std.proofs.Common.{◌≡◌, ℕ, suc, ◌+◌, ◌-◌, ◌<◌, ◌≤◌, get_or, List, [], ◌∷◌, ◌++◌, length, drop, Option, Some, None, Result, Ok, Err, refl, sym, ap, subst, ◌∙◌, append_assoc, arith}
 use Rattle.std.specs.List.{slice_get}
-use Rattle.std.specs.Option.{is_some, ok_or, option_map}
+use Rattle.std.specs.Option.{ok_or}
 use Rattle.std.proofs.lemmas.List.{append-nil, at_drop_more}
 use Rattle.mx_msgpack.specs.declared.value.Value.{Value}
 use Rattle.mx_msgpack.specs.Items.{first_value, after_value, values_from}
 use Rattle.mx_key.specs.declared.part.Part.{Part}
-use Rattle.mx_key.specs.declared.fault.KeyFault.{KeyFault}
+use Rattle.mx_key.specs.declared.fault.NoKey.{NoKey}
 use Rattle.mx_key.specs.declared.fault.Misfit.{Misfit}
 use Rattle.mx_key.specs.declared.fault.Misfit.TheVariants.{WrongPart}
-use Rattle.mx_key.specs.declared.part_ref.PartRef.{PartRef}
-use Rattle.mx_key.specs.PartViews.{part_view}
 use Rattle.mx_key.specs.Keys.{Key, KeyPart, IsFit, AreFit}
 use Rattle.mx_key.specs.Parts.{◌>>=◌, part_of, part_in, parts_of_items, key_of}
 use Rattle.mx_key.specs.Comparable.{part_bytes, comparable_of, part_of_value, AreParts}
@@ -64,7 +62,10 @@ module _ {E : Type 0} (whole : Result Key E) where
 module _ (fields : List (List ℕ)) where
   pub next_field : (part : Part) (parts : List Part) (found : KeyPart) → part_of part (slice_get fields part.field) ≡ Ok found
       → key_of (part ∷ parts) fields ≡ (key_of parts fields >>= λ rest. Ok (found ∷ rest))
-  next_field part parts found e = ap (λ (r : Result KeyPart KeyFault). r >>= λ first. (key_of parts fields >>= λ others. Ok (first ∷ others))) e
+  next_field part parts found e = ap (λ (r : Result KeyPart NoKey). r >>= λ first. (key_of parts fields >>= λ others. Ok (first ∷ others))) e
+
+  pub no_field : (part : Part) (parts : List Part) (why : NoKey) → part_of part (slice_get fields part.field) ≡ Err why → key_of (part ∷ parts) fields ≡ Err why
+  no_field part parts why e = ap (λ (r : Result KeyPart NoKey). r >>= λ first. (key_of parts fields >>= λ others. Ok (first ∷ others))) e
 
 -- ---- by the items of an array
 
@@ -116,28 +117,16 @@ written_more left others value out more key written next adds = by_rest written.
       whole = ap (λ (l : List ℕ). l ++ comparable_of rest) (adds part parts.0 fit.0) ∙ append_assoc out (part_bytes part) (comparable_of rest) ∙ whole;
     }
 
--- ---- an item and what the code made of it
+-- ---- an item, by the part in its place
 
-pub some_there : (o : Option PartRef) → is_some o ≡ true → (part : PartRef) × (o ≡ Some part)
-some_there None e = absurd cc
-some_there (Some part) e = (part, refl)
-
-pub none_there : (o : Option PartRef) → is_some o ≡ false → o ≡ None
-none_there None e = refl
-none_there (Some part) e = absurd cc
-
-module _ (def : List Part) (any : Part) (count place : ℕ) (rest first : List ℕ) (o : Option PartRef)
-    (below : place < count) (within : count ≤ length def) (item : first ≡ first_value rest)
-    (exact : option_map part_view o ≡ part_in (get_or def place any).kind first) where
-  pub item_taken : (after : List ℕ) (found : PartRef) → o ≡ Some found → after ≡ after_value rest
-      → parts_left def count place rest ≡ (parts_left def count (place + 1) after >>= λ last. Ok (part_view found ∷ last))
+module _ (def : List Part) (any : Part) (count place : ℕ) (rest : List ℕ) (below : place < count) (within : count ≤ length def) where
+  pub item_taken : (after : List ℕ) (found : KeyPart) → part_in (get_or def place any).kind (first_value rest) ≡ Some found → after ≡ after_value rest
+      → parts_left def count place rest ≡ (parts_left def count (place + 1) after >>= λ last. Ok (found ∷ last))
   item_taken after found some behind =
-      next_item def (get_or def place any) count place (place + 1) rest after (part_view found) below (omega arith)
-      (at_drop_more (λ (l : List Part). l) def place any (omega arith))
-      (ap (part_in (get_or def place any).kind) (sym item) ∙ sym exact ∙ ap (option_map part_view) some) behind
+      next_item def (get_or def place any) count place (place + 1) rest after found below (omega arith)
+      (at_drop_more (λ (l : List Part). l) def place any (omega arith)) some behind
 
-  pub item_refused : o ≡ None → parts_left def count place rest ≡ Err (WrongPart place (get_or def place any).kind)
+  pub item_refused : part_in (get_or def place any).kind (first_value rest) ≡ None → parts_left def count place rest ≡ Err (WrongPart place (get_or def place any).kind)
   item_refused none =
       bad_item def (drop (place + 1) def) (get_or def place any) count place rest below
-      (at_drop_more (λ (l : List Part). l) def place any (omega arith))
-      (ap (part_in (get_or def place any).kind) (sym item) ∙ sym exact ∙ ap (option_map part_view) none)
+      (at_drop_more (λ (l : List Part). l) def place any (omega arith)) none

@@ -11,8 +11,8 @@ use Rattle.mx_msgpack.specs.Items.{items_of}
 use Rattle.mx_key.specs.declared.part.Part.{Part}
 use Rattle.mx_key.specs.declared.part.PartKind.{PartKind}
 use Rattle.mx_key.specs.declared.part.PartKind.TheVariants as kind
-use Rattle.mx_key.specs.declared.fault.KeyFault.{KeyFault}
-use Rattle.mx_key.specs.declared.fault.KeyFault.TheVariants.{Missing, Wrong}
+use Rattle.mx_key.specs.declared.fault.NoKey.{NoKey}
+use Rattle.mx_key.specs.declared.fault.NoKey.TheVariants.{Missing, Wrong}
 use Rattle.mx_key.specs.declared.fault.Misfit.{Misfit}
 use Rattle.mx_key.specs.declared.fault.Misfit.TheVariants.{TooLong, WrongPart}
 use Rattle.mx_key.specs.Keys.{Key, KeyPart, Boolean, Integer, Text, Binary}
@@ -34,10 +34,14 @@ part_shown (ShownStr text) = Some (Text text)
 part_shown (ShownBin content) = Some (Binary content)
 part_shown _ = None
 
--- the part that a value read is, where it is of this type
+-- the same, where it is of this type
+abbrev pub part_of_type : PartKind → Shown → Option KeyPart
+part_of_type kind shown = if takes (part_value_type kind) shown then part_shown shown else None
+
+-- the part that a value read is
 abbrev pub part_read : PartKind → Result (Shown × ℕ) Bad → Option KeyPart
 part_read kind (Err bad) = None
-part_read kind (Ok (shown, size)) = if takes (part_value_type kind) shown then part_shown shown else None
+part_read kind (Ok (shown, size)) = part_of_type kind shown
 
 -- the part of this type that a value's spelling is
 unfoldable pub part_in : PartKind → List ℕ → Option KeyPart
@@ -49,13 +53,13 @@ abbrev pub ◌>>=◌ : {A B E : Type 0} → Result A E → (A → Result B E) �
 (Err e) >>= f = Err e
 
 -- the part that a field is, which may be missing
-abbrev pub part_of : Part → Option (List ℕ) → Result KeyPart KeyFault
+abbrev pub part_of : Part → Option (List ℕ) → Result KeyPart NoKey
 part_of part field = do
   spelling ← ok_or field (Missing part.field)
   ok_or (part_in part.kind spelling) (Wrong part.field part.kind)
 
 -- the key that fields make, or the first part whose field is missing or of another type
-abbrev pub key_of : List Part → List (List ℕ) → Result Key KeyFault
+abbrev pub key_of : List Part → List (List ℕ) → Result Key NoKey
 key_of [] fields = Ok []
 key_of (part ∷ parts) fields = do
   first ← part_of part (slice_get fields part.field)

@@ -16,11 +16,11 @@ mod writing;
 
 pub use edge::{Edge, KeyRange};
 pub use encoding::comparable;
-pub use fault::{KeyFault, Misfit};
+pub use fault::{KeyFault, Misfit, NoKey, RangeFault};
 pub use fields::FieldSlices;
 pub use iterator::IterKind;
 pub use key_def::KeyDef;
-pub use keys::key_of;
+pub use keys::{key_of, key_of_tuple};
 pub use laws::{a_range_holds_its_keys, bytes_are_ordered_as_keys};
 pub use part::{Part, PartKind};
-pub use ranges::{misfit, range};
+pub use ranges::{misfit, range, range_of_key};

@@ -1,10 +1,11 @@
 //! A part of a key where it stands in its bytes.
 
-ghost use Rattle.std.specs.Prelude.{◌≡◌, Some};
+ghost use Rattle.std.specs.Prelude.{◌≡◌, Some, IfSome};
 ghost use Rattle.std.specs.Option.{option_map};
+ghost use Rattle.mx_msgpack.specs.Items.{after_value, first_value};
 ghost use Rattle.mx_msgpack.specs.View.{view};
 ghost use Rattle.mx_key.specs.Keys.{IsFit};
-ghost use Rattle.mx_key.specs.Parts.{part_in, part_shown};
+ghost use Rattle.mx_key.specs.Parts.{part_in, part_of_type, part_shown};
 ghost use Rattle.mx_key.specs.declared.part_ref.PartRef.{PartRef};
 ghost use Rattle.mx_key.specs.PartViews.{part_view};
 
@@ -29,6 +30,26 @@ pub fn part_in(kind: PartKind, spelling: &[u8]) -> Option<PartRef<'_>>
     let Ok((value, _)) = read_ref(spelling) else {
         return None;
     };
+    part_of_type(kind, value)
+}
+
+/// The part of this type that stands first among values in a row, and the bytes after it.
+pub fn part_at(kind: PartKind, bytes: &[u8]) -> Option<(PartRef<'_>, &[u8])>
+    ensures exact { option_map (λ x. part_view x.0) result ≡ part_in kind (first_value bytes.now) }
+    ensures after { IfSome result (λ x. x.1.now ≡ after_value bytes.now) }
+    ensures fit { IfSome result (λ x. IsFit (part_view x.0)) }
+{
+    let Ok((value, size)) = read_ref(bytes) else {
+        return None;
+    };
+    let part = part_of_type(kind, value)?;
+    let (_, after) = bytes.split_at(size);
+    Some((part, after))
+}
+
+fn part_of_type(kind: PartKind, value: ValueRef<'_>) -> Option<PartRef<'_>>
+    ensures { option_map part_view result ≡ part_of_type kind (view value.entry) }
+{
     if kind.value_type().takes(&value) {
         part_of(value)
     } else {

@@ -1,24 +1,26 @@
 //! The range that an iterator scans from a key.
 
-ghost use Rattle.std.specs.Prelude.{◌≡◌, ◌≤◌, ◌++◌, length, OnOk, Ok, Err, IfOk, MatchOption};
+ghost use Rattle.std.specs.Prelude.{◌≡◌, ◌⊎◌, ◌≤◌, ◌++◌, length, Ok, Err, IfOk, MatchOption, MatchResult};
 ghost use Rattle.std.specs.BTreeMap.Range.{IsLeBy, IsLtBy};
 ghost use Rattle.std.specs.Cmp.Lexicographic.{slice_cmp};
 ghost use Rattle.std.specs.Ordering.{nat_cmp};
 ghost use Rattle.std.specs.Range.Bound.{IsForward};
-ghost use Rattle.mx_msgpack.specs.Items.{values_from};
+ghost use Rattle.mx_msgpack.specs.Items.{IsArray, values_from};
+ghost use Rattle.mx_key.specs.declared.fault.Misfit.{Misfit};
+ghost use Rattle.mx_key.specs.declared.fault.RangeFault.TheVariants as faults;
 ghost use Rattle.mx_key.specs.Comparable.{bound_of, comparable_of, edges_of};
 ghost use Rattle.mx_key.specs.Parts.{key_of_array, parts_of_items};
 ghost use Rattle.mx_key.specs.Keys.{Key, AreFit};
 ghost use Rattle.mx_key.specs.Ranges.{range_by, range_of};
 
 use crate::edge::{Edge, KeyRange, prefix_end};
-use crate::fault::Misfit;
+use crate::fault::{Misfit, RangeFault};
 use crate::iterator::IterKind;
 use crate::key_def::KeyDef;
 use crate::part::Part;
-use crate::part_ref::part_in;
-use crate::writing::write_part;
-use mx_msgpack::{Bytes, Items, array_of, parted};
+use crate::part_ref::part_at;
+use crate::writing::{NUMBER_SIZE, write_first};
+use mx_msgpack::{Bytes, Items, array_of, known_array};
 use std::alloc::{AllocError, Global};
 
 /// Why a key, which is an array, doesn't fit an index of these parts: it is too long, or its first
@@ -45,13 +47,12 @@ fn wrong_part(parts: &[Part], items: Items<'_>) -> Option<Misfit>
     let mut rest = items.bytes;
     for place in 0..items.count {
         let expected = parts[place as usize].kind;
-        let (item, after) = parted(rest);
-        if part_in(expected, item).is_none() {
+        let Some((_, after)) = part_at(expected, rest) else {
             return Some(Misfit::WrongPart {
                 part: place,
                 expected,
             });
-        }
+        };
         rest = after;
     }
     None
@@ -68,13 +69,48 @@ pub fn range(
     ensures forward { IfOk result (λ range. IsForward (IsLeBy (slice_cmp nat_cmp)) (IsLtBy (slice_cmp nat_cmp)) (bound_of range.low) (bound_of range.high)) }
 {
     let bytes = key_bytes(alloc, def, key)?;
-    if bytes.is_empty() {
+    range_from(alloc, iterator, bytes)
+}
+
+/// The range that an iterator scans from a key, which is an array. Reads the key once, where `misfit` and
+/// `range` read it one after the other.
+///
+/// # Errors
+/// `Misfit` where it doesn't fit an index of these parts.
+pub fn range_of_key(
+    alloc: Global,
+    def: &KeyDef,
+    iterator: IterKind,
+    key: &[u8],
+) -> Result<KeyRange, RangeFault>
+    requires array { IsArray key.now }
+    ensures picked { MatchResult result
+        (λ range. (fitting : Key) × (key_of_array def.now key.now ≡ Ok fitting) × AreFit fitting × (range ≡ edges_of (range_of iterator fitting)))
+        (λ fault. ((misfit : Misfit) × (fault ≡ faults.Misfit misfit) × (key_of_array def.now key.now ≡ Err misfit)) ⊎ (fault ≡ faults.NoMemory)) }
+    ensures forward { IfOk result (λ range. IsForward (IsLeBy (slice_cmp nat_cmp)) (IsLtBy (slice_cmp nat_cmp)) (bound_of range.low) (bound_of range.high)) }
+{
+    let items = known_array(key);
+    let parts = def.as_slice();
+    if items.count as usize > parts.len() {
+        return Err(RangeFault::Misfit(Misfit::TooLong { parts: items.count }));
+    }
+    let mut bytes = Bytes::new(alloc);
+    write_items(parts, items, &mut bytes)?;
+    Ok(range_from(alloc, iterator, bytes)?)
+}
+
+/// By the comparable bytes of a key.
+fn range_from(alloc: Global, iterator: IterKind, key: Bytes) -> Result<KeyRange, AllocError>
+    ensures picked { (fitting : Key) → key ≡ comparable_of fitting → IfOk result (λ range. range ≡ edges_of (range_of iterator fitting)) }
+    ensures forward { IfOk result (λ range. IsForward (IsLeBy (slice_cmp nat_cmp)) (IsLtBy (slice_cmp nat_cmp)) (bound_of range.low) (bound_of range.high)) }
+{
+    if key.is_empty() {
         return Ok(KeyRange {
             low: Edge::Open,
             high: Edge::Open,
         });
     }
-    range_by(alloc, iterator, bytes)
+    range_by(alloc, iterator, key)
 }
 
 /// The key has one part or more.
@@ -108,22 +144,33 @@ fn key_bytes(alloc: Global, def: &KeyDef, key: &[u8]) -> Result<Bytes, AllocErro
     if items.count as usize > parts.len() {
         return Ok(bytes);
     }
-    write_items(parts, items, &mut bytes)?;
-    Ok(bytes)
+    match write_items(parts, items, &mut bytes) {
+        Ok(()) => Ok(bytes),
+        Err(RangeFault::Misfit(_)) => Ok(bytes),
+        Err(RangeFault::NoMemory) => Err(AllocError),
+    }
 }
 
-fn write_items(parts: &[Part], items: Items<'_>, out: &mut Bytes) -> Result<(), AllocError>
+/// Adds the items' comparable bytes, and makes room for the end of a prefix. At an error some may have
+/// been added.
+fn write_items(parts: &[Part], items: Items<'_>, out: &mut Bytes) -> Result<(), RangeFault>
     requires { items.count ≤ length parts.now }
-    ensures { OnOk result ((fitting : Key) → parts_of_items 0 parts.now (values_from items.entry.count items.entry.bytes.now) ≡ Ok fitting
-        → out.new ≡ out.old ++ comparable_of fitting) }
+    ensures { MatchResult result
+        (λ _. (fitting : Key) × (parts_of_items 0 parts.now (values_from items.entry.count items.entry.bytes.now) ≡ Ok fitting) × AreFit fitting
+        × (out.new ≡ out.old ++ comparable_of fitting))
+        (λ fault. ((misfit : Misfit) × (fault ≡ faults.Misfit misfit) × (parts_of_items 0 parts.now (values_from items.entry.count items.entry.bytes.now) ≡ Err misfit))
+        ⊎ (fault ≡ faults.NoMemory)) }
 {
     let mut rest = items.bytes;
     for place in 0..items.count {
-        let (item, after) = parted(rest);
-        let Some(part) = part_in(parts[place as usize].kind, item) else {
-            return Ok(());
+        let expected = parts[place as usize].kind;
+        let others = (items.count - 1 - place) as usize;
+        let Some(after) = write_first(expected, rest, NUMBER_SIZE * others + 1, out)? else {
+            return Err(RangeFault::Misfit(Misfit::WrongPart {
+                part: place,
+                expected,
+            }));
         };
-        write_part(part, out)?;
         rest = after;
     }
     Ok(())
