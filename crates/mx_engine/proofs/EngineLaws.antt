@@ -29,7 +29,8 @@ use Rattle.mx_model.specs.State.{State, test_space, test_parts}
 use Rattle.mx_model.specs.Stored.{Holds}
 use Rattle.mx_model.specs.Answers.{answer_to, state_after_row}
 use Rattle.mx_model.specs.statements.Replace.{replace_answer_in, replaced}
-use Rattle.mx_model.specs.statements.Select.{select_answer, iterator_of, misfit_refusal, stop_refusal}
+use Rattle.mx_model.specs.statements.Select.{select_answer, iterator_of, misfit_refusal}
+use Rattle.mx_model.specs.Selecting.{stop_refusal}
 use Rattle.mx_model.specs.statements.Lookup.{schema_reads, in_space}
 use Rattle.mx_model.specs.statements.Answer.{Answer, Read, refusal_alone, refusal_after, not_built}
 use Rattle.mx_model.specs.Transactions.{state_after}

@@ -7,6 +7,8 @@ use Rattle.mx_base.specs.declared.refusal.Refusal.{Refusal}
 use Rattle.mx_base.specs.declared.refusal.Refusal.TheVariants.{OutOfMemory, SpaceMissing, IndexMissing, ResultTooLong, TupleTooLong}
 use Rattle.mx_key.specs.declared.fault.KeyFault.{KeyFault}
 use Rattle.mx_key.specs.declared.fault.KeyFault.TheVariants.{NoMemory}
+use Rattle.mx_key.specs.declared.fault.NoKey.{NoKey}
+use Rattle.mx_key.specs.Faults.{key_fault_of}
 use Rattle.mx_key.specs.declared.fault.Misfit.{Misfit}
 use Rattle.mx_key.specs.declared.iterator.IterKind.{IterKind}
 use Rattle.mx_key.specs.Keys.{Key}
@@ -95,8 +97,8 @@ module _ (now : State) (has : HasOneSpace now) (space : ℕ) (tuple : List ℕ) 
     by_primary_key = space_is_there now has space (λ _. replace_answer space tuple) same ∙ ap put_by (le-ltb max_tuple_size (length tuple) short)
 
     -- it has no primary key
-    pub tuple_has_no_key : (fault : KeyFault) → key_in test_parts tuple ≡ Err fault → put ≡ refusal_after (schema_reads space) (fault_refusal fault)
-    tuple_has_no_key fault is = by_primary_key ∙ ap (replace_by_key space tuple) is
+    pub tuple_has_no_key : (why : NoKey) → key_in test_parts tuple ≡ Err why → put ≡ refusal_after (schema_reads space) (fault_refusal why)
+    tuple_has_no_key why is = by_primary_key ∙ ap (replace_by_key space tuple) is
 
     -- it is put
     pub tuple_is_replaced : (key : Key) → key_in test_parts tuple ≡ Ok key
@@ -114,8 +116,9 @@ module _ (memory : coded.State) (before : State) (holds : Holds memory before) (
   pub long_refused : space ≡ test_space → max_tuple_size < length tuple → IsRefused (TupleTooLong (length tuple))
   long_refused same above = inl (schema_reads space, tuple_is_too_long before (one_space memory before holds) space tuple same above)
 
-  pub unkeyed_refused : space ≡ test_space → length tuple ≤ max_tuple_size → (fault : KeyFault) (refusal : Refusal) → refusal ≡ fault_refusal fault
-      → (key_in test_parts tuple ≡ Err fault) ⊎ (fault ≡ NoMemory) → IsRefused refusal
-  unkeyed_refused same short fault refusal is (inl faulty) =
-      inl (schema_reads space, tuple_has_no_key before (one_space memory before holds) space tuple same short fault faulty ∙ ap (refusal_after (schema_reads space)) (sym is))
-  unkeyed_refused same short fault refusal is (inr none) = inr (is ∙ ap fault_refusal none)
+  pub unkeyed_refused : space ≡ test_space → length tuple ≤ max_tuple_size → (fault : KeyFault) (refusal : Refusal)
+      → ((why : NoKey) → fault ≡ key_fault_of why → refusal ≡ fault_refusal why) → (fault ≡ NoMemory → refusal ≡ OutOfMemory)
+      → ((why : NoKey) × (fault ≡ key_fault_of why) × (key_in test_parts tuple ≡ Err why)) ⊎ (fault ≡ NoMemory) → IsRefused refusal
+  unkeyed_refused same short fault refusal refuses stops (inl (why, is, unkeyed)) =
+      inl (schema_reads space, tuple_has_no_key before (one_space memory before holds) space tuple same short why unkeyed ∙ ap (refusal_after (schema_reads space)) (sym (refuses why is)))
+  unkeyed_refused same short fault refusal refuses stops (inr none) = inr (stops none)

@@ -19,7 +19,7 @@ use Rattle.mx_row.specs.declared.tx.Tx.{Tx}
 use Rattle.mx_model.specs.declared.reply.Reply.{Reply}
 use Rattle.mx_model.specs.State as state
 use Rattle.mx_model.specs.State.{State, test_parts, key_in}
-use Rattle.mx_key.specs.declared.fault.KeyFault.{KeyFault}
+use Rattle.mx_key.specs.declared.fault.NoKey.{NoKey}
 use Rattle.mx_key.specs.Keys.{Key}
 use Rattle.mx_model.specs.Answers.{answer_to, state_after_rows}
 use Rattle.mx_model.specs.statements.Replace.{replace_answer, replace_by_key, max_tuple_size}
@@ -92,7 +92,7 @@ module _ (now : State) (clock : List ℕ) (replica space : ℕ) (tuple : List �
   numbered_follows false key can node takes test = one_follows without_memory can node takes test
 
   -- what a tuple with this primary key, or none, commits
-  keyed_follows : (tuples : state.Tuples) (key : Result Key KeyFault) → key_in test_parts tuple ≡ key → nat_lt max_tuple_size (length tuple) ≡ false
+  keyed_follows : (tuples : state.Tuples) (key : Result Key NoKey) → key_in test_parts tuple ≡ key → nat_lt max_tuple_size (length tuple) ≡ false
       → replica ≡ writable_node → map.get now space ≡ Some tuples
       → AllFollow now clock (commits (with_lsn (lsn_of clock replica) (replace_by_key space tuple key) (replace_by_key space tuple key).row))
   keyed_follows tuples (Err fault) is short node there = no_commit now clock replica (lsn_of clock replica) without_memory

@@ -9,7 +9,8 @@ pub mod CommitLaws
 pub mod BlockLaws
 pub mod OnceLaws
 pub mod AnswerLaws
-pub mod FieldLaws
+pub mod NoKeyLaws
+pub mod AppendLaws
 pub mod StoredLaws
 pub mod WindowLaws
 pub mod PickLaws

@@ -11,6 +11,9 @@ use Rattle.std.specs.Ordering.{nat_cmp}
 use Rattle.std.specs.Cmp.Lexicographic.{slice_cmp}
 use Rattle.mx_key.specs.declared.fault.KeyFault.{KeyFault}
 use Rattle.mx_key.specs.declared.fault.KeyFault.TheVariants.{NoMemory as NoKeyMemory}
+use Rattle.mx_key.specs.declared.fault.NoKey.{NoKey}
+use Rattle.mx_key.specs.Faults.{key_fault_of}
+use Rattle.mx_model.proofs.NoKeyLaws.{same_why, is_no_memory}
 use Rattle.mx_base.specs.declared.ids.SpaceId.{SpaceId}
 use Rattle.mx_base.specs.declared.ids.IndexId.{IndexId}
 use Rattle.mx_request.specs.declared.request.Request.{Request}
@@ -121,11 +124,13 @@ module _ (slow : Slow) (before : State) (is : IsSlow slow before) (space : ℕ) 
     slow_refuses_length above = told (TupleTooLong (length tuple)) (schema_reads space) (answers.tuple_is_too_long before has space tuple same above)
 
     module _ (short : length tuple ≤ max_tuple_size) where
-      pub slow_refuses_fault : (fault : KeyFault) (refusal : Refusal) → refusal ≡ fault_refusal fault
-          → (key_in test_parts tuple ≡ Err fault) ⊎ (fault ≡ NoKeyMemory) → (fault ≡ NoKeyMemory → ⊥) → Told refusal
-      slow_refuses_fault fault refusal is (inl keyed) other =
-          subst Told (sym is) (told (fault_refusal fault) (schema_reads space) (answers.tuple_has_no_key before has space tuple same short fault keyed))
-      slow_refuses_fault fault refusal is (inr none) other = absurd (other none)
+      pub slow_refuses_fault : (fault : KeyFault) (why : NoKey) (refusal : Refusal) → fault ≡ key_fault_of why → refusal ≡ fault_refusal why
+          → ((told : NoKey) × (fault ≡ key_fault_of told) × (key_in test_parts tuple ≡ Err told)) ⊎ (fault ≡ NoKeyMemory) → Told refusal
+      slow_refuses_fault fault why refusal by is (inl (found, also, keyed)) =
+          let same_one = same_why found why (sym also ∙ by) in
+          subst Told (ap fault_refusal same_one ∙ sym is)
+          (told (fault_refusal found) (schema_reads space) (answers.tuple_has_no_key before has space tuple same short found keyed))
+      slow_refuses_fault fault why refusal by is (inr none) = absurd (is_no_memory why (sym by ∙ none))
 
       pub slow_replaces : (new : Slow) (key : Key) (bytes copy shown : List ℕ) (tuples : List (List ℕ)) → key_in test_parts tuple ≡ Ok key → AreFit key
           → bytes ≡ comparable_of key → copy ≡ tuple → shown ≡ tuple → tuples ≡ shown ∷ [] → new.parts ≡ slow.parts

@@ -2,13 +2,10 @@
 use Rattle.std.specs.Prelude.{ℕ, List, [], ◌∷◌, Result, Ok, Err, codes}
 use Rattle.std.specs.Ordering.{nat_cmp}
 use Rattle.std.specs.FinMap.{FinMap, empty, insert}
-use Rattle.mx_tuple.specs.declared.tuple.TupleBad.{TupleBad}
-use Rattle.mx_tuple.specs.declared.tuple.TupleBad.TheVariants as tuple
 use Rattle.mx_tuple.specs.Fields.{tuple_of}
 use Rattle.mx_key.specs.declared.part.Part.{Part}
 use Rattle.mx_key.specs.declared.part.PartKind.TheVariants.{Unsigned}
-use Rattle.mx_key.specs.declared.fault.KeyFault.{KeyFault}
-use Rattle.mx_key.specs.declared.fault.KeyFault.TheVariants as key
+use Rattle.mx_key.specs.declared.fault.NoKey.{NoKey}
 use Rattle.mx_key.specs.Keys.{Key, key_cmp}
 use Rattle.mx_key.specs.Parts.{key_of}
 
@@ -35,17 +32,12 @@ unfoldable pub first_state : State
 first_state = insert empty test_space empty
 
 -- the key that a tuple has in an index of these parts; bytes that are no array have no fields
-abbrev pub key_in : List Part → List ℕ → Result Key KeyFault
+abbrev pub key_in : List Part → List ℕ → Result Key NoKey
 key_in parts tuple = key_of parts (tuple_of tuple).fields
 
--- why bytes that are no tuple have no key: what is no array has no first field
-abbrev pub key_fault_of : TupleBad → KeyFault
-key_fault_of tuple.Bad = key.Missing 0
-key_fault_of tuple.NoMemory = key.NoMemory
-
-abbrev pub key_or_none : Result Key KeyFault → Key
+abbrev pub key_or_none : Result Key NoKey → Key
 key_or_none (Ok key) = key
-key_or_none (Err fault) = []
+key_or_none (Err why) = []
 
 -- a tuple's primary key in the one space; the empty key where it has none
 abbrev pub primary_key : List ℕ → Key

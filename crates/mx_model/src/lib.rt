@@ -18,7 +18,7 @@ pub use ids::Ids;
 pub use keyed::Keyed;
 pub use laws::{a_directory_stands_once, commits_are_sound, replies_are_determined};
 pub use out_units::{OutUnit, OutUnits};
-pub use pick::{Pick, SelectStop, Selected};
+pub use pick::{Appended, Pick, SelectFault, SelectStop, Selected};
 pub use reply::Reply;
 pub use slow::Slow;
 pub use state::{State, bootstrap};

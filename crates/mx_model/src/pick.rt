@@ -1,12 +1,14 @@
 //! Range scans: what a SELECT picks of an index's entries.
 
 ghost use Rattle.std.specs.Prelude.{◌≡◌, ◌⊎◌, ◌<◌, ◌≤◌, ◌+◌, ◌++◌, ◌∷◌, [], ℕ, List, map, take, drop, length, MatchOption, MatchResult};
+ghost use Rattle.std.specs.List.{concat};
 ghost use Rattle.std.specs.Option.{option_map};
+ghost use Rattle.mx_model.specs.declared.pick.SelectFault.TheVariants as fault;
 ghost use Rattle.mx_model.specs.declared.pick.SelectStop.TheVariants.{TooLong, NoMemory};
 ghost use Rattle.mx_model.specs.Picks.{directed, total_bytes, max_result_size};
-ghost use Rattle.mx_model.specs.Selecting.{last_key_of};
+ghost use Rattle.mx_model.specs.Selecting.{last_key_of, select_fault_of, stop_fault_of};
 
-use mx_key::{IterKind, KeyRange};
+use mx_key::{IterKind, KeyRange, Misfit, RangeFault};
 use mx_msgpack::{Bytes, Tuples};
 use std::alloc::{AllocError, Global};
 use std::collections::btree_map::Range;
@@ -49,6 +51,56 @@ impl From<AllocError> for SelectStop {
 
     fn from(_fault: AllocError) -> SelectStop {
         SelectStop::NoMemory
+    }
+}
+
+/// Tuples that a SELECT picked and appended to a buffer.
+#[derive(Debug, Drop)]
+pub struct Appended {
+    /// How many tuples they are.
+    pub count: u32,
+    /// The keys that were read, as in `Selected`.
+    pub read: Option<KeyRange>,
+}
+
+/// Why a SELECT appends no tuples.
+#[derive(Clone, Copy, Debug, Drop, PartialEq, Eq)]
+pub enum SelectFault {
+    /// The key doesn't fit the index.
+    Misfit(Misfit),
+    /// They have more than 16,777,216 bytes together.
+    TooLong,
+    /// An allocation failed.
+    NoMemory,
+}
+
+impl From<AllocError> for SelectFault {
+    ghost from_gives = { λ _ e. e ≡ fault.NoMemory };
+
+    fn from(_fault: AllocError) -> SelectFault {
+        SelectFault::NoMemory
+    }
+}
+
+impl From<RangeFault> for SelectFault {
+    ghost from_gives = { λ why e. e ≡ select_fault_of why };
+
+    fn from(why: RangeFault) -> SelectFault {
+        match why {
+            RangeFault::Misfit(misfit) => SelectFault::Misfit(misfit),
+            RangeFault::NoMemory => SelectFault::NoMemory,
+        }
+    }
+}
+
+impl From<SelectStop> for SelectFault {
+    ghost from_gives = { λ stop e. e ≡ stop_fault_of stop };
+
+    fn from(stop: SelectStop) -> SelectFault {
+        match stop {
+            SelectStop::TooLong => SelectFault::TooLong,
+            SelectStop::NoMemory => SelectFault::NoMemory,
+        }
     }
 }
 
@@ -109,6 +161,46 @@ pub(crate) fn collect<'a>(
         left -= 1;
     }
     Ok(Collected { tuples, last })
+}
+
+/// How many tuples were appended, and the key of the last one.
+#[derive(Drop)]
+pub(crate) struct Copied<'a> {
+    pub(crate) count: u32,
+    pub(crate) last: Option<&'a Bytes>,
+}
+
+/// Appends the bytes of the next tuples, one after the other. At an error some may have been appended.
+pub(crate) fn append<'a>(
+    entries: &mut Range<'a, Bytes, Bytes>,
+    down: bool,
+    limit: u32,
+    out: &mut Bytes,
+) -> Result<Copied<'a>, SelectStop>
+    ensures appended { MatchResult result
+        (λ found. (out.new ≡ out.old ++ concat (map (λ entry. entry.1) (take limit (directed down entries.old))))
+        × (found.count ≡ length (take limit (directed down entries.old)))
+        × (total_bytes (map (λ entry. entry.1) (take limit (directed down entries.old))) ≤ max_result_size)
+        × (option_map (λ key. key.now) found.last ≡ last_key_of (take limit (directed down entries.old))))
+        (λ stop. ((stop ≡ TooLong) × (max_result_size < total_bytes (map (λ entry. entry.1) (take limit (directed down entries.old))))) ⊎ (stop ≡ NoMemory)) }
+    ensures before { take (length out.old) out.new ≡ out.old }
+{
+    let mut last = None;
+    let mut bytes = 0;
+    let mut left = limit;
+    while left > 0 {
+        let Some((key, tuple)) = next_in(entries, down) else {
+            return Ok(Copied {
+                count: limit - left,
+                last,
+            });
+        };
+        bytes = result_size(bytes, tuple.len())?;
+        out.extend_from_slice(tuple.as_slice())?;
+        last = Some(key);
+        left -= 1;
+    }
+    Ok(Copied { count: limit, last })
 }
 
 fn result_size(bytes: usize, more: usize) -> Result<usize, SelectStop>

@@ -1,18 +1,17 @@
 //! The plain slow program: it keeps its tuples in one list, and scans all of it.
 
-ghost use Rattle.std.specs.Prelude.{◌≡◌, ◌≢◌, ◌⊎◌, ◌<◌, ◌≤◌, ◌∷◌, [], Ok, true, false, map, take, length, IfOk, IfSome, OnOk, OnErr, MatchOption, MatchResult};
+ghost use Rattle.std.specs.Prelude.{◌≡◌, ◌⊎◌, ◌<◌, ◌≤◌, ◌∷◌, [], Ok, true, false, map, take, length, IfOk, IfSome, OnOk, OnErr, MatchOption, MatchResult};
 ghost use Rattle.std.specs.List.{All, filter, slice_get, sum_by};
 ghost use Rattle.std.specs.Option.{option_to_list};
 ghost use Rattle.std.specs.BTreeMap.{insert_entry};
 ghost use Rattle.std.specs.FinMap.{get};
 ghost use Rattle.std.specs.Ordering.{nat_cmp, is_gt, is_lt};
 ghost use Rattle.std.specs.Cmp.Lexicographic.{slice_cmp};
-ghost use Rattle.mx_key.specs.declared.fault.KeyFault.TheVariants.{NoMemory as NoKeyMemory};
 ghost use Rattle.mx_key.specs.Comparable.{holds};
 ghost use Rattle.mx_key.specs.Ranges.{descends};
 ghost use Rattle.mx_model.specs.declared.pick.SelectStop.TheVariants.{TooLong, NoMemory};
 ghost use Rattle.mx_model.specs.Answers.{answer_to, state_after_rows};
-ghost use Rattle.mx_model.specs.statements.Replace.{fault_refusal, replace_answer};
+ghost use Rattle.mx_model.specs.statements.Replace.{replace_answer};
 ghost use Rattle.mx_model.specs.statements.Select.{select_answer};
 ghost use Rattle.mx_model.specs.statements.Lookup.{in_space};
 ghost use Rattle.mx_model.specs.Picks.{directed, window, total_bytes, max_result_size};
@@ -20,14 +19,14 @@ ghost use Rattle.mx_model.specs.Slow.{IsSlow, stored_list, stored_view};
 ghost use Rattle.mx_model.specs.State as plain;
 ghost use Rattle.mx_model.specs.State.{first_state};
 
-use crate::keyed::{Keyed, key_tuple};
+use crate::keyed::{Keyed, key_tuple, no_key};
 use crate::pick::{MAX_RESULT_SIZE, Pick, SelectStop};
 use crate::reply::Reply;
 use crate::statements::lookup::{TEST_SPACE, index_missing, not_built};
 use crate::statements::replace::{MAX_TUPLE_SIZE, fault_refusal};
 use crate::statements::select::{iterator_of, misfit_refusal};
 use mx_base::{IndexId, Refusal, SpaceId, TxnName};
-use mx_key::{KeyDef, KeyFault, KeyRange, Part, PartKind, misfit, range};
+use mx_key::{KeyDef, KeyRange, Part, PartKind, misfit, range};
 use mx_msgpack::{Bytes, Tuples};
 use mx_request::Request;
 use std::alloc::{AllocError, Global};
@@ -136,23 +135,12 @@ impl Slow {
         }
         let keyed = match key_tuple(self.alloc, &self.parts, tuple) {
             Ok(keyed) => keyed,
-            Err(fault) => return Ok(Reply::Refused(refusal_of(fault)?)),
+            Err(fault) => return Ok(Reply::Refused(fault_refusal(no_key(fault)?))),
         };
         let mut tuples = Tuples::new(self.alloc);
         tuples.push(Bytes::from_slice(self.alloc, tuple)?)?;
         put(&mut self.kept, keyed)?;
         Ok(Reply::Tuples(tuples))
-    }
-}
-
-/// Out of memory is an error of this call, and no refusal.
-fn refusal_of(fault: KeyFault) -> Result<Refusal, AllocError>
-    ensures { IfOk result (λ refusal. (refusal ≡ fault_refusal fault) × (fault ≢ NoKeyMemory)) }
-{
-    match fault {
-        KeyFault::NoMemory => Err(AllocError),
-        KeyFault::Missing { .. } => Ok(fault_refusal(fault)),
-        KeyFault::Wrong { .. } => Ok(fault_refusal(fault)),
     }
 }
 

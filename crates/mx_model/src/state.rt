@@ -1,10 +1,19 @@
 //! The state of a database: the tuples of its one space.
 
-ghost use Rattle.std.specs.Prelude.{◌≡◌, ◌⊎◌, ◌<◌, ◌≤◌, Ok, Err, IfOk, OnOk, OnErr, MatchOption, MatchResult};
+ghost use Rattle.std.specs.Prelude.{◌≡◌, ◌⊎◌, ◌<◌, ◌≤◌, ◌++◌, length, take, Ok, Err, IfOk, OnOk, OnErr, MatchOption, MatchResult};
+ghost use Rattle.std.specs.BTreeMap.Range.{IsLeBy, IsLtBy};
+ghost use Rattle.std.specs.Cmp.Lexicographic.{slice_cmp};
+ghost use Rattle.std.specs.List.{concat};
 ghost use Rattle.std.specs.Option.{option_map};
-ghost use Rattle.mx_key.specs.Comparable.{comparable_of, edges_of};
+ghost use Rattle.std.specs.Ordering.{nat_cmp};
+ghost use Rattle.std.specs.Range.Bound.{IsForward};
+ghost use Rattle.mx_msgpack.specs.Items.{IsArray};
+ghost use Rattle.mx_key.specs.declared.fault.Misfit.{Misfit};
+ghost use Rattle.mx_key.specs.Comparable.{bound_of, comparable_of, edges_of};
 ghost use Rattle.mx_key.specs.Keys.{Key, AreFit};
 ghost use Rattle.mx_key.specs.Parts.{key_of_array};
+ghost use Rattle.mx_key.specs.Ranges.{range_of};
+ghost use Rattle.mx_model.specs.declared.pick.SelectFault.TheVariants as faults;
 ghost use Rattle.mx_model.specs.declared.pick.SelectStop.TheVariants as stops;
 ghost use Rattle.mx_model.specs.Answers.{state_after_row};
 ghost use Rattle.mx_row.specs.declared.row.Row.TheVariants.{Replaced};
@@ -14,8 +23,8 @@ ghost use Rattle.mx_model.specs.State.{first_state, key_in, test_parts, test_spa
 ghost use Rattle.mx_model.specs.Stored.{Holds};
 
 use crate::keyed::Keyed;
-use crate::pick::{Pick, SelectStop, Selected, collect, pass_over};
-use mx_key::{KeyDef, Misfit, Part, PartKind, misfit, range};
+use crate::pick::{Appended, Pick, SelectFault, SelectStop, Selected, append, collect, pass_over};
+use mx_key::{KeyDef, KeyRange, Misfit, Part, PartKind, misfit, range, range_of_key};
 use mx_msgpack::{Bytes, Tuples};
 use std::alloc::{AllocError, Global};
 use std::collections::BTreeMap;
@@ -95,6 +104,80 @@ impl State {
         }
         Ok(Selected {
             tuples: found.tuples,
+            read: Some(range),
+        })
+    }
+
+    /// Appends the tuples that an iterator picks to the bytes, one after the other.
+    ///
+    /// # Errors
+    /// The key, which is an array, doesn't fit the one index; or the tuples have more than 16,777,216
+    /// bytes together; or out of memory. Nothing is appended then.
+    pub fn select_into(
+        &self,
+        alloc: Global,
+        wanted: &Pick<'_>,
+        out: &mut Bytes,
+    ) -> Result<Appended, SelectFault>
+        requires array { IsArray wanted.now.key.now }
+        ensures picked { (state : plain.State) (holds : Holds self.now state) → MatchResult result
+            (λ found. (key : Key) × (key_of_array test_parts wanted.now.key.now ≡ Ok key) × AreFit key
+            × (let picked = pick (entries_of holds.keeps.tuples) wanted.now.iterator key wanted.now.offset wanted.now.limit in
+            (out.new ≡ out.old ++ concat picked.tuples) × (found.count ≡ length picked.tuples) × (total_bytes picked.tuples ≤ max_result_size)
+            × (found.read ≡ option_map edges_of picked.read)))
+            (λ fault. ((misfit : Misfit) × (fault ≡ faults.Misfit misfit) × (key_of_array test_parts wanted.now.key.now ≡ Err misfit))
+            ⊎ ((fault ≡ faults.TooLong) × (key : Key) × (key_of_array test_parts wanted.now.key.now ≡ Ok key) × AreFit key
+            × (max_result_size < total_bytes (pick (entries_of holds.keeps.tuples) wanted.now.iterator key wanted.now.offset wanted.now.limit).tuples))
+            ⊎ (fault ≡ faults.NoMemory)) }
+        ensures err { OnErr result (out.new ≡ out.old) }
+    {
+        let range = range_of_key(alloc, &self.parts, wanted.iterator, wanted.key)?;
+        if wanted.limit == 0 {
+            return Ok(Appended {
+                count: 0,
+                read: None,
+            });
+        }
+        let before = out.len();
+        match self.append_range(alloc, range, wanted, out) {
+            Ok(found) => Ok(found),
+            Err(stop) => {
+                out.truncate(before);
+                Err(SelectFault::from(stop))
+            }
+        }
+    }
+
+    /// As `select_into`, by the range of the key. At an error some tuples may have been appended.
+    fn append_range(
+        &self,
+        alloc: Global,
+        mut range: KeyRange,
+        wanted: &Pick<'_>,
+        out: &mut Bytes,
+    ) -> Result<Appended, SelectStop>
+        requires forward { IsForward (IsLeBy (slice_cmp nat_cmp)) (IsLtBy (slice_cmp nat_cmp)) (bound_of range.low) (bound_of range.high) }
+        requires more { 0 < wanted.now.limit }
+        ensures picked { (state : plain.State) (holds : Holds self.now state) (key : Key) → AreFit key → range ≡ edges_of (range_of wanted.now.iterator key) → MatchResult result
+            (λ found. (out.new ≡ out.old ++ concat (pick (entries_of holds.keeps.tuples) wanted.now.iterator key wanted.now.offset wanted.now.limit).tuples)
+            × (found.count ≡ length (pick (entries_of holds.keeps.tuples) wanted.now.iterator key wanted.now.offset wanted.now.limit).tuples)
+            × (total_bytes (pick (entries_of holds.keeps.tuples) wanted.now.iterator key wanted.now.offset wanted.now.limit).tuples ≤ max_result_size)
+            × (found.read ≡ option_map edges_of (pick (entries_of holds.keeps.tuples) wanted.now.iterator key wanted.now.offset wanted.now.limit).read))
+            (λ stop. ((stop ≡ stops.TooLong) × (max_result_size < total_bytes (pick (entries_of holds.keeps.tuples) wanted.now.iterator key wanted.now.offset wanted.now.limit).tuples))
+            ⊎ (stop ≡ stops.NoMemory)) }
+        ensures before { take (length out.old) out.new ≡ out.old }
+    {
+        let down = wanted.iterator.descends();
+        let mut entries = self.tuples.range((range.low_bound(), range.high_bound()));
+        pass_over(&mut entries, down, wanted.offset);
+        let found = append(&mut entries, down, wanted.limit, out)?;
+        if found.count == wanted.limit {
+            if let Some(last) = found.last {
+                range.end_with(alloc, down, last.as_slice())?;
+            }
+        }
+        Ok(Appended {
+            count: found.count,
             read: Some(range),
         })
     }

@@ -2,9 +2,9 @@
 use Rattle.std.specs.Prelude.{ℕ, List, [], ◌∷◌, length, Option, Some, None, Result, Ok, Err, nat_lt, if◌then◌else◌}
 use Rattle.std.specs.FinMap.{get, insert}
 use Rattle.mx_base.specs.declared.refusal.Refusal.{Refusal}
-use Rattle.mx_base.specs.declared.refusal.Refusal.TheVariants.{OutOfMemory, TupleTooLong, FieldMissing, FieldType}
-use Rattle.mx_key.specs.declared.fault.KeyFault.{KeyFault}
-use Rattle.mx_key.specs.declared.fault.KeyFault.TheVariants.{Missing, Wrong, NoMemory}
+use Rattle.mx_base.specs.declared.refusal.Refusal.TheVariants.{TupleTooLong, FieldMissing, FieldType}
+use Rattle.mx_key.specs.declared.fault.NoKey.{NoKey}
+use Rattle.mx_key.specs.declared.fault.NoKey.TheVariants.{Missing, Wrong}
 use Rattle.mx_key.specs.Keys.{Key}
 use Rattle.mx_model.specs.State as state
 use Rattle.mx_model.specs.State.{State, test_parts, key_in, primary_key}
@@ -18,18 +18,17 @@ abbrev pub max_tuple_size : ℕ
 max_tuple_size = 1048576
 
 -- why a tuple has no primary key
-abbrev pub fault_refusal : KeyFault → Refusal
+abbrev pub fault_refusal : NoKey → Refusal
 fault_refusal (Missing field) = FieldMissing field
 fault_refusal (Wrong field expected) = FieldType field (type_of expected)
-fault_refusal NoMemory = OutOfMemory
 
 -- the answer to a REPLACE that is no error
 abbrev pub replaced : (space : ℕ) → (tuple : List ℕ) → Answer
 replaced space tuple = record { reply = Tuples (tuple ∷ []); row = Some (Replaced space tuple); reads = schema_reads space }
 
 -- a REPLACE of a tuple that has this primary key, or none
-abbrev pub replace_by_key : (space : ℕ) → (tuple : List ℕ) → Result Key KeyFault → Answer
-replace_by_key space tuple (Err fault) = refusal_after (schema_reads space) (fault_refusal fault)
+abbrev pub replace_by_key : (space : ℕ) → (tuple : List ℕ) → Result Key NoKey → Answer
+replace_by_key space tuple (Err why) = refusal_after (schema_reads space) (fault_refusal why)
 replace_by_key space tuple (Ok key) = replaced space tuple
 
 -- a tuple that may be too long, or lack its primary key

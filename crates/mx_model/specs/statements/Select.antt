@@ -1,7 +1,7 @@
 -- SELECT.
 use Rattle.std.specs.Prelude.{ℕ, List, [], ◌∷◌, ◌++◌, length, Option, Some, None, Result, Ok, Err, nat_lt, ◌==◌, if◌then◌else◌}
 use Rattle.mx_base.specs.declared.refusal.Refusal.{Refusal}
-use Rattle.mx_base.specs.declared.refusal.Refusal.TheVariants.{IndexMissing, KeyPartCount, KeyPartType, OutOfMemory, ResultTooLong}
+use Rattle.mx_base.specs.declared.refusal.Refusal.TheVariants.{IndexMissing, KeyPartCount, KeyPartType, ResultTooLong}
 use Rattle.mx_key.specs.declared.fault.Misfit.{Misfit}
 use Rattle.mx_key.specs.declared.fault.Misfit.TheVariants.{TooLong, WrongPart}
 use Rattle.mx_key.specs.declared.iterator.IterKind.{IterKind}
@@ -9,8 +9,6 @@ use Rattle.mx_key.specs.declared.iterator.IterKind.TheVariants as iterator
 use Rattle.mx_key.specs.Keys.{Key}
 use Rattle.mx_key.specs.Parts.{key_of_array}
 use Rattle.mx_key.specs.Ranges.{Range, range_of}
-use Rattle.mx_model.specs.declared.pick.SelectStop.{SelectStop}
-use Rattle.mx_model.specs.declared.pick.SelectStop.TheVariants as stop
 use Rattle.mx_model.specs.State as state
 use Rattle.mx_model.specs.State.{test_name, test_parts}
 use Rattle.mx_model.specs.Picks.{Selection, pick, entries_of, total_bytes, max_result_size}
@@ -45,11 +43,6 @@ select_found space index whole found =
 abbrev pub misfit_refusal : Misfit → Refusal
 misfit_refusal (TooLong parts) = KeyPartCount parts (length test_parts)
 misfit_refusal (WrongPart part expected) = KeyPartType part (type_of expected)
-
--- why it returns no tuples
-abbrev pub stop_refusal : SelectStop → Refusal
-stop_refusal stop.TooLong = ResultTooLong
-stop_refusal stop.NoMemory = OutOfMemory
 
 -- a SELECT by a key that fits, or not
 abbrev pub select_by_key : (space limit offset : ℕ) → IterKind → state.Tuples → Result Key Misfit → Answer

@@ -2,8 +2,12 @@
 
 ghost use Rattle.std.specs.Prelude.{◌≡◌, ◌⊎◌, Ok, List, MatchResult};
 ghost use Rattle.mx_base.specs.declared.refusal.Refusal.TheVariants.{OutOfMemory};
+ghost use Rattle.mx_key.specs.declared.fault.KeyFault.TheVariants.{NoMemory};
+ghost use Rattle.mx_key.specs.declared.fault.NoKey.{NoKey};
 ghost use Rattle.mx_key.specs.Comparable.{comparable_of};
+ghost use Rattle.mx_key.specs.Faults.{key_fault_of};
 ghost use Rattle.mx_key.specs.Keys.{Key, AreFit};
+ghost use Rattle.mx_msgpack.specs.Items.{IsArray};
 ghost use Rattle.mx_model.specs.State as plain;
 ghost use Rattle.mx_model.specs.State.{key_in, test_parts, test_space};
 ghost use Rattle.mx_model.specs.Stored.{Holds};
@@ -11,11 +15,11 @@ ghost use Rattle.mx_model.specs.statements.Answer.{Read, refusal_after};
 ghost use Rattle.mx_model.specs.statements.Replace as spec;
 ghost use Rattle.mx_model.specs.statements.Replace.{replace_answer_in, replaced};
 
-use crate::keyed::{Keyed, key_tuple};
+use crate::keyed::{Keyed, key_array, key_tuple, no_key};
 use crate::state::State;
 use crate::statements::lookup::{TEST_SPACE, type_of};
 use mx_base::{Refusal, SpaceId};
-use mx_key::KeyFault;
+use mx_key::{KeyFault, NoKey};
 use std::alloc::Global;
 
 /// The maximum size of a tuple, in bytes.
@@ -46,21 +50,59 @@ impl State {
         }
         match key_tuple(alloc, &self.parts, tuple) {
             Ok(keyed) => Ok(keyed),
-            Err(fault) => Err(fault_refusal(fault)),
+            Err(fault) => Err(refusal_of(fault)),
+        }
+    }
+
+    /// As `check_replace`, of a tuple that is known to be an array.
+    ///
+    /// # Errors
+    /// Why the REPLACE is refused.
+    pub fn check_replace_of_array(
+        &self,
+        alloc: Global,
+        space: SpaceId,
+        tuple: &[u8],
+    ) -> Result<Keyed, Refusal>
+        requires array { IsArray tuple.now }
+        ensures { (state : plain.State) → Holds self.now state → MatchResult result
+            (λ keyed. (space.0 ≡ test_space) × (replace_answer_in state space.0 tuple.now ≡ replaced space.0 tuple.now)
+            × ((key : Key) × (key_in test_parts tuple.now ≡ Ok key) × AreFit key × (keyed.key ≡ comparable_of key) × (keyed.tuple ≡ tuple.now)))
+            (λ refusal. ((reads : List Read) × (replace_answer_in state space.0 tuple.now ≡ refusal_after reads refusal)) ⊎ (refusal ≡ OutOfMemory)) }
+    {
+        if space.0 != TEST_SPACE {
+            return Err(Refusal::SpaceMissing { space });
+        }
+        if tuple.len() > MAX_TUPLE_SIZE {
+            let bytes = tuple.len() as u64;
+            return Err(Refusal::TupleTooLong { bytes });
+        }
+        match key_array(alloc, &self.parts, tuple) {
+            Ok(keyed) => Ok(keyed),
+            Err(fault) => Err(refusal_of(fault)),
         }
     }
 }
 
-/// The refusal of a tuple that has no primary key.
-pub fn fault_refusal(fault: KeyFault) -> Refusal
-    ensures { result ≡ spec.fault_refusal fault }
+fn refusal_of(fault: KeyFault) -> Refusal
+    ensures refused { (why : NoKey) → fault ≡ key_fault_of why → result ≡ spec.fault_refusal why }
+    ensures memory { fault ≡ NoMemory → result ≡ OutOfMemory }
 {
-    match fault {
-        KeyFault::Missing { field } => Refusal::FieldMissing { field },
-        KeyFault::Wrong { field, expected } => Refusal::FieldType {
+    match no_key(fault) {
+        Ok(why) => fault_refusal(why),
+        Err(_) => Refusal::OutOfMemory,
+    }
+}
+
+/// The refusal of a tuple that has no primary key.
+pub fn fault_refusal(why: NoKey) -> Refusal
+    ensures { result ≡ spec.fault_refusal why }
+{
+    match why {
+        NoKey::Missing { field } => Refusal::FieldMissing { field },
+        NoKey::Wrong { field, expected } => Refusal::FieldType {
             field,
             expected: type_of(expected),
         },
-        KeyFault::NoMemory => Refusal::OutOfMemory,
     }
 }

@@ -1,6 +1,7 @@
 //! What a SELECT's numbers mean, and why its key is refused.
 
 ghost use Rattle.std.specs.Prelude.{◌≡◌};
+ghost use Rattle.mx_model.specs.Selecting as selecting;
 ghost use Rattle.mx_model.specs.statements.Select as spec;
 
 use crate::pick::SelectStop;
@@ -23,7 +24,7 @@ pub fn misfit_refusal(misfit: Misfit) -> Refusal
 
 /// The refusal of a SELECT that gives no tuples.
 pub fn stop_refusal(stop: SelectStop) -> Refusal
-    ensures { result ≡ spec.stop_refusal stop }
+    ensures { result ≡ selecting.stop_refusal stop }
 {
     match stop {
         SelectStop::TooLong => Refusal::ResultTooLong,

@@ -1,18 +1,11 @@
-use Rattle.std.proofs.Common.{◌∙◌}
-use Rattle.std.proofs.lemmas.Result.{err_from_is_err_and}
-use Rattle.mx_model.proofs.FieldLaws.{same_key, same_fault}
+use Rattle.std.proofs.Common.{ℕ, List, [], Option, sym, ap, inl, refl}
+use Rattle.std.specs.Option.{option_map, unwrap_or}
+use Rattle.mx_msgpack.specs.Items.{values_from}
+use Rattle.mx_key.specs.declared.fault.NoKey.TheVariants.{Missing}
+use Rattle.mx_key.specs.Parts.{key_of}
+use Rattle.mx_model.specs.State.{test_parts}
 use Rattle.mx_model.proofs.keyed.key_tuple.Goals as goal
 
-pub returns-in_err-key : goal.returns-in_err-key
-returns-in_err-key c = λ same.
-    let p = err_from_is_err_and c.from_residual.result c.from_residual.ensures.1 in
-    let is = same_key c.in-Ok.tuple c.args.tuple.now c.bytes.result.now c.places.result.now c.args.parts.now c.in-Ok.ensures.1
-    c.bytes.ensures c.places.ensures same in
-    rw (p.1, p.2) (same_fault _ _ _ is c.in_err-key.ensures)
-
-pub returns : goal.returns
-returns c = λ same.
-    let is = same_key c.in-Ok.tuple c.args.tuple.now c.bytes.result.now c.places.result.now c.args.parts.now c.in-Ok.ensures.1
-    c.bytes.ensures c.places.ensures same in
-    let told = c.in_ok-key.ensures in
-    (told.0, is ∙ told.1, told.2, told.3, c.into_bytes-tuple.ensures ∙ c.in-Ok.ensures.0)
+pub returns-in_default : goal.returns-in_default
+returns-in_default c = λ same.
+    inl (Missing 0, refl, ap (λ (o : Option (ℕ × List ℕ)). key_of test_parts (unwrap_or (option_map (λ (array : ℕ × List ℕ). values_from array.0 array.1) o) [])) (sym c.in_default.ensures))

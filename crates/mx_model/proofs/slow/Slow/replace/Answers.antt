@@ -12,7 +12,7 @@ returns-then-tuple-gt-MAX_TUPLE_SIZE c = λ state is.
 pub returns-in-Err : goal.returns-in-Err
 returns-in-Err c = λ state is.
     slow_refuses_fault c.args.self.now state is c.args.space.0 c.args.tuple.now c.if-space-ne-TEST_SPACE.false c.if-tuple-gt-MAX_TUPLE_SIZE.false
-    c.in-Err.fault c.in_ok-refusal_of-in-Err.field-0 c.in_ok-refusal_of-in-Err.ensures.0 (c.in-Err.ensures is.parts) c.in_ok-refusal_of-in-Err.ensures.1
+    c.in-Err.fault c.in_ok-no_key-in-Err.field-0 c.fault_refusal.result c.in_ok-no_key-in-Err.ensures c.fault_refusal.ensures (c.in-Err.ensures is.parts)
 
 pub returns : goal.returns
 returns c = λ state is.

@@ -20,4 +20,4 @@ returns-in-Ok c = λ state holds.
 pub returns-in-Err : goal.returns-in-Err
 returns-in-Err c = λ state holds.
     unkeyed_refused c.args.self.now state holds c.args.space.0 c.args.tuple.now c.if-space-ne-TEST_SPACE.false c.if-tuple-gt-MAX_TUPLE_SIZE.false
-    c.in-Err.fault c.fault_refusal.result c.fault_refusal.ensures (c.in-Err.ensures holds.parts)
+    c.in-Err.fault c.refusal_of.result c.refusal_of.ensures.refused c.refusal_of.ensures.memory (c.in-Err.ensures holds.parts)
