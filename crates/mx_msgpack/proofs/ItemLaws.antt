@@ -5,7 +5,9 @@ use Rattle.std.specs.Option.{option_map}
 use Rattle.std.proofs.lemmas.List.{append-nil, take_at, drop_at, take-append-drop, length-append}
 use Rattle.mx_msgpack.specs.declared.bad.Bad.{Bad}
 use Rattle.mx_msgpack.specs.declared.head.Head.{Head}
-use Rattle.mx_msgpack.specs.declared.head.Head.TheVariants.{Array}
+use Rattle.mx_msgpack.specs.declared.head.Head.TheVariants.{Nil, Bool as Boolean, Int, Str, Bin, Array, Map, Fixed, Extension}
+use Rattle.std.specs.Prelude.{false, is_some}
+use Rattle.mx_msgpack.specs.Lookups.{is_array_head}
 use Rattle.mx_msgpack.specs.Grammar as grammar
 use Rattle.mx_msgpack.specs.Grammar.{Value, Values, NoValue, MoreValues, value_count, max_length, max_nesting, ArrayHead, Spells, SpellsAll}
 use Rattle.mx_msgpack.specs.Reading.{Shown, ShownArray, shown, head_at, after_first, reading_of, measured}

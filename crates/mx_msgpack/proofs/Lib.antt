@@ -14,6 +14,7 @@ pub mod NumberLaws
 pub mod Options
 pub mod ReaderLaws
 pub mod PieceLaws
+pub mod CutLaws
 pub mod UnsignedLaws
 pub mod SpellingLaws
 pub mod FrontLaws

@@ -7,6 +7,7 @@ pub mod Projections
 pub mod Readers
 pub mod Spelling
 pub mod Owned
+pub mod Pieces
 pub mod Writing
 pub mod Items
 pub mod Types

@@ -1,9 +1,11 @@
 //! Values that stand in a row, and the items of an array, in place.
 
-ghost use Rattle.std.specs.Prelude.{◌≡◌, ℕ, Some};
+ghost use Rattle.std.specs.Prelude.{◌≡◌, ℕ, Some, is_some};
 ghost use Rattle.std.specs.Option.{option_map};
 ghost use Rattle.mx_msgpack.specs.declared.head.Head.TheVariants.{Array};
-ghost use Rattle.mx_msgpack.specs.Items.{IsArray, array_of, first_value, after_value};
+ghost use Rattle.mx_msgpack.specs.Items.{IsArray, IsOneValue, array_of, first_value, after_value};
+ghost use Rattle.mx_msgpack.specs.Lookups.{is_array_head};
+ghost use Rattle.mx_msgpack.specs.Projections.{as_array, first_as};
 
 use crate::head::{Head, head_at, short_head};
 use crate::size::skip;
@@ -82,4 +84,34 @@ fn item_count(head: Head) -> u32
         Head::Fixed(_) => 0,
         Head::Extension(_) => 0,
     }
+}
+
+/// Whether the value that these bytes are is an array, by its head.
+#[inline]
+pub fn is_array(value: &[u8]) -> bool
+    requires { IsOneValue value.now }
+    ensures { result ≡ is_some (first_as as_array value.now) }
+{
+    match short_head(value) {
+        Some((head, _)) => is_array_head(head),
+        None => is_long_array(value),
+    }
+}
+
+#[inline(never)]
+fn is_long_array(value: &[u8]) -> bool
+    requires { IsOneValue value.now }
+    ensures { result ≡ is_some (first_as as_array value.now) }
+{
+    match head_at(0, value) {
+        Ok((head, _)) => is_array_head(head),
+        Err(_) => false,
+    }
+}
+
+#[inline(always)]
+fn is_array_head(head: Head) -> bool
+    ensures { result ≡ is_array_head head }
+{
+    matches!(head, Head::Array(_))
 }

@@ -21,7 +21,7 @@ pub use bad::Bad;
 pub use bytes::Bytes;
 pub use decode::{ReadBad, read_value};
 pub use encode::{write_map_head, write_str_head, write_unsigned, write_value};
-pub use items::{Items, array_of, known_array, parted};
+pub use items::{Items, array_of, is_array, known_array, parted};
 pub use laws::{
     a_value_or_its_fault_stands_first, array_items_are_spelled, no_spelling_begins_another,
     what_is_written_is_read_again, what_is_written_is_shortest,

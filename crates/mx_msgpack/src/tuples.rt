@@ -1,23 +1,28 @@
-//! Rows of bytes, which a contract sees as a list of lists of numbers.
+//! Tuples in a row, which a contract sees as a list of lists of numbers.
 
-ghost use Rattle.std.specs.Prelude.{◌≡◌, [], ◌∷◌, ◌++◌, length, OnOk, OnErr, IsTrue, ◌↔◌};
+ghost use Rattle.std.specs.Prelude.{◌≡◌, [], ◌∷◌, ◌++◌, length, IsTrue, MatchResult, ◌↔◌};
+ghost use Rattle.std.specs.List.{concat};
 
-use crate::bytes::Bytes;
 use std::alloc::{AllocError, Global};
 use std::marker::Model;
 
-/// Tuples in order, each as its bytes.
+/// Tuples in order: their bytes, one tuple after the other, and how many bytes each has.
 #[derive(Debug, Drop)]
 pub struct Tuples {
-    items: Vec<Bytes>,
+    bytes: Vec<u8>,
+    sizes: Vec<usize>,
 }
 
 impl Model for Tuples {
-    ghost use Rattle.std.specs.Prelude.{ℕ, List};
+    ghost use Rattle.std.specs.Prelude.{◌≡◌, ℕ, List, length};
+    ghost use Rattle.std.specs.List.{sum};
+    ghost use Rattle.mx_msgpack.specs.Pieces.{pieces};
 
     ghost Value = { List (List ℕ) };
 
-    ghost view = { λ t. t.items.items };
+    ghost view = { λ t. pieces t.sizes.items t.bytes.items };
+
+    ghost invariant = { λ t. sum t.sizes.items ≡ length t.bytes.items };
 }
 
 impl Tuples {
@@ -26,54 +31,50 @@ impl Tuples {
         ensures { result ≡ [] }
     {
         Tuples {
-            items: Vec::new(alloc),
+            bytes: Vec::new(alloc),
+            sizes: Vec::new(alloc),
         }
     }
 
-    /// The tuples of the vector.
-    pub fn from_vec(items: Vec<Bytes>) -> Tuples
-        ensures { result ≡ items.items }
-    {
-        Tuples { items }
-    }
-
-    /// The tuples as a vector.
-    pub fn into_vec(self) -> Vec<Bytes>
-        ensures { result.items ≡ self }
-    {
-        self.items
-    }
-
-    /// The tuples in place.
-    pub fn as_slice(&self) -> &[Bytes]
-        ensures { result.now ≡ self.now }
-    {
-        self.items.as_slice()
-    }
-
-    /// Adds a tuple at the end.
+    /// Adds a copy of a tuple at the end.
     ///
     /// # Errors
     /// Out of memory; the tuples are as they were.
-    pub fn push(&mut self, tuple: Bytes) -> Result<(), AllocError>
-        ensures ok { OnOk result (self.new ≡ self.old ++ tuple ∷ []) }
-        ensures err { OnErr result (self.new ≡ self.old) }
+    pub fn push(&mut self, tuple: &[u8]) -> Result<(), AllocError>
+        ensures { MatchResult result (λ _. self.new ≡ self.old ++ tuple.now ∷ []) (λ _. self.new ≡ self.old) }
     {
-        self.items.push(tuple)?;
+        self.sizes.reserve(1)?;
+        self.bytes.extend_from_slice(tuple)?;
+        self.sizes.push_reserved(tuple.len());
         Ok(())
+    }
+
+    /// Drops all tuples, and keeps their memory.
+    pub fn clear(&mut self)
+        ensures { self.new ≡ [] }
+    {
+        self.bytes.clear();
+        self.sizes.clear();
+    }
+
+    /// The bytes of all tuples, one after the other.
+    pub fn bytes(&self) -> &[u8]
+        ensures { result.now ≡ concat self.now }
+    {
+        self.bytes.as_slice()
     }
 
     /// How many tuples there are.
     pub fn len(&self) -> usize
         ensures { result ≡ length self.now }
     {
-        self.items.len()
+        self.sizes.as_slice().len()
     }
 
     /// Whether there is no tuple.
     pub fn is_empty(&self) -> bool
         ensures { IsTrue result ↔ (self.now ≡ []) }
     {
-        self.items.is_empty()
+        self.len() == 0
     }
 }
