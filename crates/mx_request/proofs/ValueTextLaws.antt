@@ -1,7 +1,8 @@
 -- The values of keys are whole as they are written, and are read again.
 use Rattle.std.proofs.Common.{◌≡◌, ℕ, ◌-◌, ◌^◌, ◌<◌, ◌≤◌, List, [], length, Some, Ok, All, refl, sym, ap, ◌∙◌, subst, inl, arith}
 use Rattle.std.specs.Prelude.{pos}
-use Rattle.std.proofs.lemmas.Bool.{le-leb}
+use Rattle.std.proofs.lemmas.Bool.{le-leb, eq-eqb}
+use Rattle.mx_msgpack.specs.Items.{IsArray, array_of}
 use Rattle.std.proofs.lemmas.List.{append-nil, take_all, length-append, get_or_default}
 use Rattle.uuid.specs.Text.{hyphenated_text, lower}
 use Rattle.uuid.proofs.RoundTrips.{parses_hyphenated_text}
@@ -32,6 +33,7 @@ record Alone (value : Value) (bytes : List ℕ) : Type 0 where
   what : Shown
   size : ℕ
   read : reading_of bytes ≡ Ok (what, size)
+  whole : size ≡ length bytes
   shows : Shows what value
 
 seen_alone : (value : Value) (bytes : List ℕ) (what : Shown) → Spells 64 value bytes → Seen bytes what (length bytes) → Alone value bytes
@@ -39,7 +41,7 @@ seen_alone value bytes what s seen =
     let v = seen.spelled.1 in
     let whole = take_all (length bytes) bytes (omega arith) in
     let same : v ≡ value = one_value 64 v value bytes (subst (λ (l : List ℕ). Spells 64 v l) whole seen.spelled.2) s in
-    record { what = what; size = length bytes; read = seen.exact; shows = subst (λ (x : Value). Shows what x) same seen.spelled.3 }
+    record { what = what; size = length bytes; read = seen.exact; whole = refl; shows = subst (λ (x : Value). Shows what x) same seen.spelled.3 }
 
 alone : (value : Value) (bytes : List ℕ) → Spells 63 value bytes → Alone value bytes
 alone value bytes inner =
@@ -82,6 +84,13 @@ pub array_read_again : (bytes : List ℕ) → IsInnerArray bytes → array_in by
 array_read_again bytes (values, s) =
     let a = alone (Array values) bytes s in
     rw (a.read, (array_shown values a.what a.shows).1) refl
+
+pub inner_is_array : (bytes : List ℕ) → IsInnerArray bytes → IsArray bytes
+unfolding array_of
+inner_is_array bytes (values, s) =
+    let a = alone (Array values) bytes s in
+    let shown = array_shown values a.what a.shows in
+    (shown.0, rw (a.read, shown.1, eq-eqb a.size (length bytes) a.whole) refl)
 
 -- ---- UUIDs
 

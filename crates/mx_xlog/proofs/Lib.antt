@@ -1,5 +1,5 @@
 pub mod BlockLaws
-mod FileLaws
+pub mod FileLaws
 mod HeaderLaws
 mod LastLaws
 mod LineLaws
