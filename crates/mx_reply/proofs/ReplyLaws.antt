@@ -1,23 +1,8 @@
 -- A reply is what is written of it: its size and header, and then its body.
-use Rattle.std.proofs.Common.{◌≡◌, ℕ, ◌+◌, ◌^◌, ◌<◌, List, [], ◌∷◌, ◌++◌, length, get_or, take, drop, min, length-append, refl, sym, ap, ◌∙◌, append-nil, append_assoc, arith}
-use Rattle.std.proofs.lemmas.List.{take_more}
-use Rattle.std.proofs.lemmas.List.Folds.{concat-append}
-use Rattle.std.specs.List.{concat}
+use Rattle.std.proofs.Common.{◌≡◌, ℕ, ◌+◌, ◌^◌, ◌<◌, List, [], ◌∷◌, ◌++◌, length, take, drop, length-append, refl, ap, ◌∙◌, append_assoc, arith}
 use Rattle.byteorder.specs.Endian.{big_bytes, big_number}
 use Rattle.byteorder.specs.Numbers.{big_number-reads_back}
 use Rattle.mx_reply.specs.Replies.{reply_header, reply_packet}
-
--- one part more
-pub concat_more : (parts : List (List ℕ)) (index : ℕ) (part : List ℕ) → index < length parts → part ≡ get_or parts index part
-    → concat (take (index + 1) parts) ≡ concat (take index parts) ++ part
-concat_more parts index part within is =
-    ap concat (take_more parts index part within)
-    ∙ concat-append (take index parts) (get_or parts index part ∷ [])
-    ∙ ap (λ l. concat (take index parts) ++ l) (append-nil (get_or parts index part) ∙ sym is)
-
--- a sum that stays at the greatest number once it is reached
-pub sum_more : (most size item next all more : ℕ) → size ≡ min all most → next ≡ min (size + item) most → more ≡ all + item → next ≡ min more most
-sum_more most size item next all more so_far added joined = omega arith
 
 header-length : (schema sync kind : ℕ) → length (reply_header schema sync kind) ≡ 23
 header-length schema sync kind = refl

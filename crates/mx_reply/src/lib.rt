@@ -10,4 +10,4 @@ mod replies;
 pub use body::ReplyBody;
 pub use greeting::write_greeting;
 pub use laws::replies_are_packets;
-pub use replies::{write_error, write_id, write_ok};
+pub use replies::{write_error, write_id, write_ok, write_tuples};

@@ -1,7 +1,6 @@
 //! The packet of a reply: its size, its header and its body.
 
-ghost use Rattle.std.specs.Prelude.{◌≡◌, ◌+◌, ◌<◌, ◌++◌, ◌∷◌, ◌-◌, ◌^◌, length, min, take, OnOk, MatchResult};
-ghost use Rattle.std.specs.List.{concat};
+ghost use Rattle.std.specs.Prelude.{◌≡◌, ◌+◌, ◌<◌, ◌++◌, ◌∷◌, ◌^◌, length, take, OnOk, MatchResult};
 ghost use Rattle.byteorder.specs.Endian.{big_bytes};
 ghost use Rattle.mx_reply.specs.Replies.{reply_header, reply_packet};
 
@@ -28,16 +27,16 @@ pub(crate) struct Header {
 pub(crate) fn write_packet(
     header: Header,
     prefix: &[u8],
-    parts: &[Bytes],
+    rest: &[u8],
     out: &mut Bytes,
 ) -> Result<(), AllocError>
     ensures written { MatchResult result
-        (λ _. out.new ≡ out.old ++ reply_packet header.schema header.sync.0 header.kind (prefix.now ++ concat parts.now))
+        (λ _. out.new ≡ out.old ++ reply_packet header.schema header.sync.0 header.kind (prefix.now ++ rest.now))
         (λ _. out.new ≡ out.old) }
-    ensures fits { OnOk result (23 + length (prefix.now ++ concat parts.now) < 2 ^ 32) }
+    ensures fits { OnOk result (23 + length (prefix.now ++ rest.now) < 2 ^ 32) }
 {
     let before = out.len();
-    let written = write_pieces(header, prefix, parts, out);
+    let written = write_pieces(header, prefix, rest, out);
     if written.is_err() {
         out.truncate(before);
     }
@@ -47,15 +46,15 @@ pub(crate) fn write_packet(
 fn write_pieces(
     header: Header,
     prefix: &[u8],
-    parts: &[Bytes],
+    rest: &[u8],
     out: &mut Bytes,
 ) -> Result<(), AllocError>
     ensures written { MatchResult result
-        (λ _. out.new ≡ out.old ++ reply_packet header.schema header.sync.0 header.kind (prefix.now ++ concat parts.now))
+        (λ _. out.new ≡ out.old ++ reply_packet header.schema header.sync.0 header.kind (prefix.now ++ rest.now))
         (λ _. take (length out.old) out.new ≡ out.old) }
-    ensures fits { OnOk result (23 + length (prefix.now ++ concat parts.now) < 2 ^ 32) }
+    ensures fits { OnOk result (23 + length (prefix.now ++ rest.now) < 2 ^ 32) }
 {
-    let body_size = total_size(parts).saturating_add(prefix.len());
+    let body_size = rest.len().saturating_add(prefix.len());
     let Ok(size) = u32::try_from(body_size.saturating_add(HEADER_SIZE)) else {
         return Err(AllocError);
     };
@@ -63,26 +62,7 @@ fn write_pieces(
     out.reserve(body_size.saturating_add(head.len()))?;
     out.extend_from_slice(&head)?;
     out.extend_from_slice(prefix)?;
-    write_each(parts, out)?;
-    Ok(())
-}
-
-fn total_size(parts: &[Bytes]) -> usize
-    ensures { result ≡ min (length (concat parts.now)) (2 ^ 64 - 1) }
-{
-    let mut size = 0_usize;
-    for part in parts {
-        size = size.saturating_add(part.len());
-    }
-    size
-}
-
-fn write_each(parts: &[Bytes], out: &mut Bytes) -> Result<(), AllocError>
-    ensures { MatchResult result (λ _. out.new ≡ out.old ++ concat parts.now) (λ _. take (length out.old) out.new ≡ out.old) }
-{
-    for part in parts {
-        out.extend_from_slice(part.as_slice())?;
-    }
+    out.extend_from_slice(rest)?;
     Ok(())
 }
 
