@@ -9,6 +9,7 @@ ghost use Rattle.mx_model.specs.Directories as files;
 ghost use Rattle.mx_model.specs.Directories.{after_block, after_blocks, after_file, after_transaction, nothing_yet, head_fits, are_its_ids, same_id};
 ghost use Rattle.mx_xlog.specs.Files.{FileRead, ReadsAs};
 ghost use Rattle.mx_files.specs.Names.{same_bytes};
+ghost use Rattle.mx_msgpack.specs.Items.{IsArray};
 ghost use Rattle.mx_row.specs.Views.{tx_view};
 ghost use Rattle.mx_recover.specs.declared.fault.RecoverFault.TheVariants.{Damaged, Failed};
 ghost use Rattle.mx_recover.specs.Recovered.{StandsFor};
@@ -125,14 +126,16 @@ impl Recovered {
     }
 
     fn take_tx(&mut self, alloc: Global, tx: &TxRef<'_>) -> Result<bool, AllocError>
-        requires { (1 ≤ tx.now.replica) × (tx.now.replica < 32) }
+        requires replica { (1 ≤ tx.now.replica) × (tx.now.replica < 32) }
+        requires array { IsArray tx.now.tuple.now }
         ensures { (before : files.Reached) → StandsFor self.old before → IfOk result (λ taken. MatchOption (after_transaction (tx_view tx.now) before)
             (taken ≡ false) (λ after. (taken ≡ true) × StandsFor self.new after)) }
     {
         if self.clock.follow(tx.replica, tx.lsn).is_err() {
             return Ok(false);
         }
-        let keyed = match self.state.check_replace(alloc, SpaceId(tx.space), tx.tuple) {
+        let space = SpaceId(tx.space);
+        let keyed = match self.state.check_replace_of_array(alloc, space, tx.tuple) {
             Ok(keyed) => keyed,
             Err(refusal) => return refused(&refusal),
         };

@@ -1,3 +1,4 @@
 pub mod Rows
 pub mod Clocks
 pub mod Views
+pub mod RowParts

@@ -16,6 +16,6 @@ returns c = λ before stands.
     let tx = c.args.tx.now in
     let followed = was_ok _ _ c.follow.result (sym c.is_err.ensures.value ∙ c.if-is_err.false) c.follow.ensures in
     let (there, put, (key, keyed, fit, coded, copied)) = c.in-Ok.ensures before.state stands.holds in
-    taken_row c.args.self.now _ before stands tx.replica tx.lsn tx.tuple.now c.in-Ok.keyed.tuple c.requires.0 c.requires.1
+    taken_row c.args.self.now _ before stands tx.replica tx.lsn tx.tuple.now c.in-Ok.keyed.tuple c.requires.replica.0 c.requires.replica.1
     followed.0 followed.1 refl (subst (λ space. replace_answer_in before.state space tx.tuple.now ≡ replaced space tx.tuple.now) there put) copied
     (c.in_ok-replace.ensures.ok before.state key stands.holds (ap (key_in test_parts) copied ∙ keyed) fit coded) tx.space there
