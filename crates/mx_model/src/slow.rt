@@ -1,48 +1,53 @@
 //! The plain slow program: it keeps its tuples in one list, and scans all of it.
 
-ghost use Rattle.std.specs.Prelude.{◌≡◌, ◌⊎◌, ◌<◌, ◌≤◌, ◌∷◌, [], Ok, true, false, map, take, length, IfOk, IfSome, OnOk, OnErr, MatchOption, MatchResult};
+ghost use Rattle.std.specs.Prelude.{◌≡◌, ◌≢◌, ◌⊎◌, ◌<◌, ◌≤◌, ◌∷◌, [], Ok, true, false, map, take, length, IfOk, IfSome, OnOk, OnErr, MatchOption, MatchResult};
 ghost use Rattle.std.specs.List.{All, filter, slice_get, sum_by};
-ghost use Rattle.std.specs.Option.{option_to_list};
 ghost use Rattle.std.specs.BTreeMap.{insert_entry};
 ghost use Rattle.std.specs.FinMap.{get};
 ghost use Rattle.std.specs.Ordering.{nat_cmp, is_gt, is_lt};
 ghost use Rattle.std.specs.Cmp.Lexicographic.{slice_cmp};
+ghost use Rattle.mx_base.specs.declared.ids.TxnName.{TxnName};
+ghost use Rattle.mx_request.specs.declared.request.Request.TheVariants.{Replace};
 ghost use Rattle.mx_key.specs.Comparable.{holds};
 ghost use Rattle.mx_key.specs.Ranges.{descends};
 ghost use Rattle.mx_model.specs.declared.pick.SelectStop.TheVariants.{TooLong, NoMemory};
-ghost use Rattle.mx_model.specs.Answers.{answer_to, state_after_rows};
-ghost use Rattle.mx_model.specs.statements.Replace.{replace_answer};
 ghost use Rattle.mx_model.specs.statements.Select.{select_answer};
 ghost use Rattle.mx_model.specs.statements.Lookup.{in_space};
 ghost use Rattle.mx_model.specs.Picks.{directed, window, total_bytes, max_result_size};
-ghost use Rattle.mx_model.specs.Slow.{IsSlow, stored_list, stored_view};
+ghost use Rattle.mx_model.specs.Histories.{Ledger, is_write, ledger_of, writable_node};
+ghost use Rattle.mx_model.specs.Slow.{Answers, IsSlow, KeepsTuples, Takes, stored_list, stored_view};
 ghost use Rattle.mx_model.specs.State as plain;
 ghost use Rattle.mx_model.specs.State.{first_state};
 
+use crate::ids::Ids;
 use crate::keyed::{Keyed, key_tuple, no_key};
+use crate::node::{WRITABLE_NODE, is_write, next_lsn};
 use crate::pick::{MAX_RESULT_SIZE, Pick, SelectStop};
 use crate::reply::Reply;
 use crate::statements::lookup::{TEST_SPACE, index_missing, not_built};
 use crate::statements::replace::{MAX_TUPLE_SIZE, fault_refusal};
 use crate::statements::select::{iterator_of, misfit_refusal};
-use mx_base::{IndexId, Refusal, SpaceId, TxnName};
+use mx_base::{IndexId, Refusal, ReplicaId, SpaceId, TxnName};
 use mx_key::{KeyDef, KeyRange, Part, PartKind, misfit, range};
 use mx_msgpack::{Bytes, Tuples};
 use mx_request::Request;
+use mx_vclock::Vclock;
 use std::alloc::{AllocError, Global};
 
-/// A database that keeps its tuples in one list, by their keys.
+/// A database that keeps its tuples in one list, by their keys, on one node.
 #[derive(Debug, Drop)]
 pub struct Slow {
     alloc: Global,
     parts: KeyDef,
     kept: Vec<Keyed>,
+    clock: Vclock,
+    ids: Ids,
 }
 
 impl Slow {
-    /// A new database.
-    pub fn new(alloc: Global) -> Result<Slow, AllocError>
-        ensures { IfOk result (λ slow. IsSlow slow first_state) }
+    /// A database without tuples that has come to a vclock, on the node with these identifiers.
+    pub fn new(alloc: Global, clock: Vclock, ids: Ids) -> Result<Slow, AllocError>
+        ensures { IfOk result (λ slow. IsSlow slow (ledger_of (record { state = first_state; clock = clock; ids = ids }) [])) }
     {
         let mut parts = KeyDef::new(alloc);
         parts.push(Part {
@@ -53,6 +58,8 @@ impl Slow {
             alloc,
             parts,
             kept: Vec::new(alloc),
+            clock,
+            ids,
         })
     }
 
@@ -61,11 +68,12 @@ impl Slow {
     /// # Errors
     /// Out of memory. The database is then as it was.
     pub fn ask(&mut self, _name: TxnName, request: &Request) -> Result<Reply, AllocError>
-        ensures { (state : plain.State) → IsSlow self.old state → MatchResult result
-            (λ reply. (reply ≡ (answer_to state request.now).reply)
-            × IsSlow self.new (state_after_rows state (option_to_list (answer_to state request.now).row)))
-            (λ _. IsSlow self.new state) }
+        ensures { (ledger : Ledger) → IsSlow self.old ledger → MatchResult result (λ reply. Answers self.new ledger _name request.now reply) (λ _. IsSlow self.new ledger) }
     {
+        if !self.takes(request) {
+            let writable = ReplicaId(WRITABLE_NODE);
+            return Ok(Reply::Refused(Refusal::ReadOnly { writable }));
+        }
         match request {
             Request::Select {
                 space,
@@ -95,12 +103,21 @@ impl Slow {
             | Request::Rollback
             | Request::Join { .. }
             | Request::Subscribe { .. }
-            | Request::Ack { .. } => Ok(Reply::Refused(not_built(request))),
+            | Request::Ack { .. } => Ok(Reply::Refused(not_built(request.kind()))),
         }
     }
 
+    /// Every node takes reads; only one takes writes.
+    fn takes(&self, request: &Request) -> bool
+        ensures taken { result ≡ true → Takes self.now request.now }
+        ensures refused { result ≡ false → (is_write request.now ≡ true) × (self.now.ids.me ≢ writable_node) }
+    {
+        self.ids.me == WRITABLE_NODE || !is_write(request.kind())
+    }
+
+    #[tactic(auto, unfolding(crate::specs::statements::Lookup::in_space))]
     fn select(&self, space: SpaceId, index: IndexId, pick: &Pick<'_>) -> Result<Reply, AllocError>
-        ensures { (state : plain.State) → IsSlow self.now state → IfOk result (λ reply. reply
+        ensures { (state : plain.State) → KeepsTuples self.now state → IfOk result (λ reply. reply
             ≡ (in_space space.0 (get state space.0) (select_answer space.0 index.0 pick.now.limit pick.now.offset pick.now.iterator pick.now.key.now)).reply) }
     {
         if space.0 != TEST_SPACE {
@@ -121,10 +138,10 @@ impl Slow {
     }
 
     fn replace(&mut self, space: SpaceId, tuple: &[u8]) -> Result<Reply, AllocError>
-        ensures { (state : plain.State) → IsSlow self.old state → MatchResult result
-            (λ reply. (reply ≡ (in_space space.0 (get state space.0) (λ _. replace_answer space.0 tuple.now)).reply)
-            × IsSlow self.new (state_after_rows state (option_to_list (in_space space.0 (get state space.0) (λ _. replace_answer space.0 tuple.now)).row)))
-            (λ _. IsSlow self.new state) }
+        requires { self.old.ids.me ≡ writable_node }
+        ensures { (ledger : Ledger) (name : TxnName) → IsSlow self.old ledger → MatchResult result
+            (λ reply. Answers self.new ledger name (Replace space tuple.now) reply)
+            (λ _. IsSlow self.new ledger) }
     {
         if space.0 != TEST_SPACE {
             return Ok(Reply::Refused(Refusal::SpaceMissing { space }));
@@ -137,9 +154,14 @@ impl Slow {
             Ok(keyed) => keyed,
             Err(fault) => return Ok(Reply::Refused(fault_refusal(no_key(fault)?))),
         };
+        let mut clock = self.clock;
+        let Some(_) = next_lsn(&mut clock) else {
+            return Ok(Reply::Refused(Refusal::LsnsUsedUp));
+        };
         let mut tuples = Tuples::new(self.alloc);
-        tuples.push(Bytes::from_slice(self.alloc, tuple)?)?;
+        tuples.push(tuple)?;
         put(&mut self.kept, keyed)?;
+        self.clock = clock;
         Ok(Reply::Tuples(tuples))
     }
 }
@@ -209,7 +231,7 @@ fn gather(
             return Err(SelectStop::TooLong);
         }
         bytes += one.tuple.len();
-        tuples.push(Bytes::from_slice(alloc, one.tuple.as_slice())?)?;
+        tuples.push(one.tuple.as_slice())?;
         left -= 1;
     }
     Ok(tuples)

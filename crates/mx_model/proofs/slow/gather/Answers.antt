@@ -39,7 +39,7 @@ loop-left-preserved c =
     let none : c.loop-left.offset ≡ 0 = search rules in
     let more : 0 < c.loop-left.left = search rules in
     let pushed : c.push.new.self ≡ c.loop-left.tuples ++ c.in-Some.one.now.tuple ∷ [] = search rules in
-    let long : c.len-in-loop-left.result ≡ length c.in-Some.one.now.tuple = search rules in
+    let long : c.len-bytes.result ≡ length c.in-Some.one.now.tuple = search rules in
     let next : directed c.descends-down.result (stored_list c.loop-left.rest.now) ≡ stored_view c.in-Some.one.now ∷ directed c.descends-down.result (stored_list c.in-Some.others.now) =
     next_seen stored_view c.descends-down.result c.in-Some.one.now c.loop-left.rest.now c.in-Some.others.now c.in-Some.ensures in
     rw (pushed, long) (

@@ -1,4 +1,4 @@
-use Rattle.std.proofs.Common.{ap, ◌∙◌, ◌++◌, ◌∷◌, []}
+use Rattle.std.proofs.Common.{refl, ap, ◌∙◌, ◌++◌, ◌∷◌, []}
 use Rattle.mx_key.specs.declared.part.PartKind.TheVariants.{Unsigned}
 use Rattle.mx_model.specs.Slow.{stored_list}
 use Rattle.mx_model.proofs.StoredLaws.{keeps_first}
@@ -6,6 +6,10 @@ use Rattle.mx_model.proofs.slow.Slow.new.Goals as goal
 
 pub returns : goal.returns
 returns c = record {
-  parts = c.in_ok-push.ensures.ok ∙ ap (λ front. front ++ record { field = 0; kind = Unsigned } ∷ []) c.new-parts.ensures;
-  keeps = keeps_first (stored_list c.new.result.items) (ap stored_list c.new.ensures.items);
+  keeps = record {
+    parts = c.in_ok-push.ensures.ok ∙ ap (λ front. front ++ record { field = 0; kind = Unsigned } ∷ []) c.new-parts.ensures;
+    keeps = keeps_first (stored_list c.new.result.items) (ap stored_list c.new.ensures.items);
+  };
+  clock = refl;
+  ids = refl;
 }
