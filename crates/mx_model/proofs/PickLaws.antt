@@ -21,7 +21,7 @@ use Rattle.mx_key.specs.Ranges.{Range, AreFitEnds, lies_in, range_of, descends, 
 use Rattle.mx_key.specs.Comparable.{comparable_of, edges_of, holds, bound_of, is_within_low, is_within_high}
 use Rattle.mx_model.specs.Stored.{StoredTuple, stored_tuple}
 use Rattle.mx_model.specs.Picks.{Indexed, directed, window, picked, last_key, up_to_last, range_read, pick}
-use Rattle.mx_model.specs.Selecting.{last_key_or, last_key_of}
+use Rattle.mx_model.specs.Selecting.{last_key_or, last_key_of, found_in}
 use Rattle.mx_model.proofs.WindowLaws.{map-directed}
 
 -- the bytes of a range hold those of exactly the keys that lie in it
@@ -147,13 +147,13 @@ short_reads iterator key found (suc n) more short =
 
 module _ (iterator : IterKind) (key : Key) (law : HoldsItsKeys (range_of iterator key)) (all : List Indexed) (fit : AreFitEntries all) (kept : List StoredTuple) (same : map stored_tuple all ≡ kept) (offset limit : ℕ) where
   -- what is found of what is kept
-  abbrev pub found_in : List StoredTuple
-  found_in = window offset limit (directed (descends iterator) (filter (λ entry. holds (edges_of (range_of iterator key)) entry.0) kept))
+  abbrev pub found_by_key : List StoredTuple
+  found_by_key = found_in kept (edges_of (range_of iterator key)) iterator offset limit
 
   -- the same of the entries between the bounds
   pub found_between : (between : List StoredTuple)
       → between ≡ entries_between (slice_cmp nat_cmp) (bound_of (edges_of (range_of iterator key)).low) (bound_of (edges_of (range_of iterator key)).high) kept
-      → window offset limit (directed (descends iterator) between) ≡ found_in
+      → window offset limit (directed (descends iterator) between) ≡ found_by_key
   found_between between is =
       ap (λ l. window offset limit (directed (descends iterator) l)) (is ∙ entries_held (edges_of (range_of iterator key)) kept)
 
@@ -161,12 +161,12 @@ module _ (iterator : IterKind) (key : Key) (law : HoldsItsKeys (range_of iterato
   pub found_past : (down : Bool) → down ≡ descends iterator → (between rest : List StoredTuple)
       → between ≡ entries_between (slice_cmp nat_cmp) (bound_of (edges_of (range_of iterator key)).low) (bound_of (edges_of (range_of iterator key)).high) kept
       → directed down rest ≡ drop offset (directed down between)
-      → take limit (directed down rest) ≡ found_in
+      → take limit (directed down rest) ≡ found_by_key
   found_past down is between rest held passed =
       ap (take limit) passed ∙ ap (λ d. window offset limit (directed d between)) is ∙ found_between between held
 
   -- it is what the iterator picks
-  pub found_is_picked : found_in ≡ map stored_tuple (picked iterator key offset limit all)
+  pub found_is_picked : found_by_key ≡ map stored_tuple (picked iterator key offset limit all)
   found_is_picked =
       let lying = filter (λ (entry : Indexed). lies_in (range_of iterator key) entry.0) all in
       ap (λ l. window offset limit (directed (descends iterator) (filter (λ entry. holds (edges_of (range_of iterator key)) entry.0) l))) (sym same)
@@ -175,7 +175,7 @@ module _ (iterator : IterKind) (key : Key) (law : HoldsItsKeys (range_of iterato
       ∙ ap (take limit) (drop-map stored_tuple offset (directed (descends iterator) lying))
       ∙ take-map stored_tuple limit (drop offset (directed (descends iterator) lying))
 
-  pub tuples_are_picked : map (λ entry. entry.1) found_in ≡ (pick all iterator key offset limit).tuples
+  pub tuples_are_picked : map (λ entry. entry.1) found_by_key ≡ (pick all iterator key offset limit).tuples
   tuples_are_picked = ap (map (λ (entry : StoredTuple). entry.1)) found_is_picked ∙ tuples_of_kept (picked iterator key offset limit all)
 
   length_of_tuples : length (pick all iterator key offset limit).tuples ≡ length (picked iterator key offset limit all)
@@ -183,7 +183,7 @@ module _ (iterator : IterKind) (key : Key) (law : HoldsItsKeys (range_of iterato
 
   -- the range is read up to the last one where the limit was reached
   pub reads_to_last : 0 < limit → length (pick all iterator key offset limit).tuples ≡ limit
-      → ReadsTo found_in (descends iterator) (range_of iterator key) (pick all iterator key offset limit).read
+      → ReadsTo found_by_key (descends iterator) (range_of iterator key) (pick all iterator key offset limit).read
   reads_to_last more full =
       subst (λ found. ReadsTo found (descends iterator) (range_of iterator key) (pick all iterator key offset limit).read)
       (sym found_is_picked)
@@ -232,13 +232,14 @@ kept_with law key tuple fit (entry ∷ all) others =
     by_case Equal same = refl
     by_case Greater same = ap (λ l. stored_tuple entry ∷ l) same
 
--- and the keys are fit as before
-pub fit_with : (key : Key) (tuple : List ℕ) → AreFit key → (all : List Indexed) → AreFitEntries all → AreFitEntries (put key_cmp key tuple all)
-fit_with key tuple fit [] others = (fit, tt)
-fit_with key tuple fit (entry ∷ all) others = by_case (key_cmp key entry.0) (fit_with key tuple fit all others.1)
+-- and the keys have a property as before
+pub all_with : (P : Key → Type 0) (key : Key) (tuple : List ℕ) → P key → (all : List Indexed) → AllByRecursion (λ (entry : Indexed). P entry.0) all
+    → AllByRecursion (λ (entry : Indexed). P entry.0) (put key_cmp key tuple all)
+all_with P key tuple has [] others = (has, tt)
+all_with P key tuple has (entry ∷ all) others = by_case (key_cmp key entry.0) (all_with P key tuple has all others.1)
   where
-    by_case : (o : Ordering) → AreFitEntries (put key_cmp key tuple all)
-        → AreFitEntries (by_order o ((key, tuple) ∷ entry ∷ all) ((entry.0, tuple) ∷ all) (entry ∷ put key_cmp key tuple all))
-    by_case Less later = (fit, others)
+    by_case : (o : Ordering) → AllByRecursion (λ (entry : Indexed). P entry.0) (put key_cmp key tuple all)
+        → AllByRecursion (λ (entry : Indexed). P entry.0) (by_order o ((key, tuple) ∷ entry ∷ all) ((entry.0, tuple) ∷ all) (entry ∷ put key_cmp key tuple all))
+    by_case Less later = (has, others)
     by_case Equal later = others
     by_case Greater later = (others.0, later)

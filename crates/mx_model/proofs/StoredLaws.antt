@@ -1,5 +1,5 @@
 -- What is stored in memory and the state that it holds.
-use Rattle.std.proofs.Common.{◌≡◌, ℕ, cond, List, [], map, sym, ap, ◌∙◌, subst}
+use Rattle.std.proofs.Common.{◌≡◌, ℕ, cond, List, [], map, length, sym, ap, ◌∙◌, subst}
 use Rattle.std.specs.Prelude.{Some, None, Ok}
 use Rattle.std.specs.List.{AllByRecursion}
 use Rattle.std.specs.BTreeMap.{insert_entry}
@@ -18,7 +18,8 @@ use Rattle.mx_model.specs.Answers.{state_after_row}
 use Rattle.mx_row.specs.declared.row.Row.TheVariants.{Replaced}
 use Rattle.mx_model.specs.Stored.{StoredTuple, stored_tuple, StoresTuples}
 use Rattle.mx_model.proofs.StateLaws.{HasOneSpace, get-first_state, get-state_after_row}
-use Rattle.mx_model.proofs.PickLaws.{kept_with, fit_with}
+use Rattle.mx_model.proofs.PickLaws.{kept_with, all_with}
+use Rattle.mx_model.proofs.WholeKeyLaws.{key_length}
 
 no_entries : entries_of finite.empty ≡ []
 no_entries = nil_from_length _ (sym (finite.len-entries finite.empty) ∙ finite.len-empty key_cmp (List ℕ))
@@ -31,6 +32,7 @@ keeps_first kept none = record {
   others = λ space other. get-first_state space ∙ ap (λ b. cond b (Some finite.empty) None) other;
   same = ap (map stored_tuple) no_entries ∙ sym none;
   fit = subst (AllByRecursion (λ (entry : Indexed). AreFit entry.0)) (sym no_entries) tt;
+  whole = subst (AllByRecursion (λ (entry : Indexed). length entry.0 ≡ length test_parts)) (sym no_entries) tt;
 }
 
 -- a tuple more is kept under its key
@@ -51,7 +53,9 @@ keeps_put kept after before key bytes tuple keeps keyed fit is put_in =
       same = ap (map stored_tuple) new ∙ sym (kept_with bytes_order key tuple fit all keeps.fit)
           ∙ ap (λ es. insert_entry (slice_cmp nat_cmp) es (comparable_of key) tuple) keeps.same
           ∙ ap (λ k. insert_entry (slice_cmp nat_cmp) kept k tuple) (sym is) ∙ sym put_in;
-      fit = subst (AllByRecursion (λ (entry : Indexed). AreFit entry.0)) (sym new) (fit_with key tuple fit all keeps.fit);
+      fit = subst (AllByRecursion (λ (entry : Indexed). AreFit entry.0)) (sym new) (all_with AreFit key tuple fit all keeps.fit);
+      whole = subst (AllByRecursion (λ (entry : Indexed). length entry.0 ≡ length test_parts)) (sym new)
+          (all_with (λ k. length k ≡ length test_parts) key tuple (key_length test_parts _ key keyed) all keeps.whole);
     }
 
 -- the one space is there, and no other

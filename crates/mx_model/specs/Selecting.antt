@@ -1,13 +1,20 @@
--- Only functions beside the claims and proofs need these: the last of the entries that were scanned, and the refusal of a scan.
-use Rattle.std.specs.Prelude.{ℕ, List, [], ◌∷◌, Option, Some, None}
+-- Only functions beside the claims and proofs need these: what a scan or a lookup collects, and the refusal of a scan.
+use Rattle.std.specs.Prelude.{◌≡◌, ◌⊎◌, ◌<◌, ◌≤◌, ℕ, List, [], ◌∷◌, map, drop, Option, Some, None}
+use Rattle.std.specs.List.{filter}
+use Rattle.std.specs.Option.{option_to_list}
 use Rattle.mx_base.specs.declared.refusal.Refusal.{Refusal}
 use Rattle.mx_base.specs.declared.refusal.Refusal.TheVariants.{OutOfMemory, ResultTooLong}
 use Rattle.mx_key.specs.declared.fault.RangeFault.{RangeFault}
 use Rattle.mx_key.specs.declared.fault.RangeFault.TheVariants as range
+use Rattle.mx_key.specs.declared.edge.KeyRange.{KeyRange}
+use Rattle.mx_key.specs.declared.iterator.IterKind.{IterKind}
+use Rattle.mx_key.specs.Comparable.{holds}
+use Rattle.mx_key.specs.Ranges.{descends}
 use Rattle.mx_model.specs.declared.pick.SelectFault.{SelectFault}
 use Rattle.mx_model.specs.declared.pick.SelectFault.TheVariants as fault
 use Rattle.mx_model.specs.declared.pick.SelectStop.{SelectStop}
 use Rattle.mx_model.specs.declared.pick.SelectStop.TheVariants as stop
+use Rattle.mx_model.specs.Picks.{directed, window, total_bytes, max_result_size}
 use Rattle.mx_model.specs.Stored.{StoredTuple}
 
 abbrev pub last_key_or : List ℕ → List StoredTuple → List ℕ
@@ -32,3 +39,19 @@ select_fault_of range.NoMemory = fault.NoMemory
 abbrev pub stop_fault_of : SelectStop → SelectFault
 stop_fault_of stop.TooLong = fault.TooLong
 stop_fault_of stop.NoMemory = fault.NoMemory
+
+-- the entries that a scan of these keys finds among those that are kept
+abbrev pub found_in : List StoredTuple → KeyRange → IterKind → (offset limit : ℕ) → List StoredTuple
+found_in kept range iterator offset limit = window offset limit (directed (descends iterator) (filter (λ entry. holds range entry.0) kept))
+
+-- an entry that was looked up, where the offset doesn't skip it
+abbrev pub one_found : (offset : ℕ) → Option StoredTuple → List StoredTuple
+one_found offset entry = drop offset (option_to_list entry)
+
+-- these are the tuples of these entries, and this is the last one's key
+abbrev pub IsCollected : List (List ℕ) → List StoredTuple → Option (List ℕ) → Type 0
+IsCollected tuples found last = (tuples ≡ map (λ entry. entry.1) found) × (total_bytes tuples ≤ max_result_size) × (last ≡ last_key_of found)
+
+-- why those of these entries weren't collected
+abbrev pub IsStopped : SelectStop → List StoredTuple → Type 0
+IsStopped why found = ((why ≡ stop.TooLong) × (max_result_size < total_bytes (map (λ entry. entry.1) found))) ⊎ (why ≡ stop.NoMemory)

@@ -1,16 +1,14 @@
 //! Range scans: what a SELECT picks of an index's entries.
 
-ghost use Rattle.std.specs.Prelude.{◌≡◌, ◌⊎◌, ◌<◌, ◌≤◌, ◌+◌, ◌++◌, ◌∷◌, [], ℕ, List, map, take, drop, length, MatchOption, MatchResult};
-ghost use Rattle.std.specs.List.{concat};
+ghost use Rattle.std.specs.Prelude.{◌≡◌, ◌<◌, ◌≤◌, ◌+◌, ◌∷◌, [], take, drop, MatchOption, MatchResult};
 ghost use Rattle.std.specs.Option.{option_map};
-ghost use Rattle.mx_model.specs.declared.pick.SelectFault.TheVariants as fault;
 ghost use Rattle.mx_model.specs.declared.pick.SelectStop.TheVariants.{TooLong, NoMemory};
-ghost use Rattle.mx_model.specs.Picks.{directed, total_bytes, max_result_size};
-ghost use Rattle.mx_model.specs.Selecting.{last_key_of, select_fault_of, stop_fault_of};
+ghost use Rattle.mx_model.specs.Picks.{directed, max_result_size};
+ghost use Rattle.mx_model.specs.Selecting.{IsCollected, IsStopped, one_found, select_fault_of, stop_fault_of};
 
-use mx_key::{IterKind, KeyRange, Misfit, RangeFault};
+use mx_key::{IterKind, Misfit, RangeFault};
 use mx_msgpack::{Bytes, Tuples};
-use std::alloc::{AllocError, Global};
+use std::alloc::AllocError;
 use std::collections::btree_map::Range;
 
 /// The maximum size of a SELECT's result, in bytes.
@@ -26,15 +24,6 @@ pub struct Pick<'a> {
     pub offset: u32,
     /// The maximum number of tuples.
     pub limit: u32,
-}
-
-/// The tuples that a SELECT picks.
-#[derive(Debug, Drop)]
-pub struct Selected {
-    pub tuples: Tuples,
-    /// The keys that were read: up to the last tuple's where the limit was reached, else to the
-    /// iterator's end. None are read by the limit 0.
-    pub read: Option<KeyRange>,
 }
 
 /// Why a SELECT returns no tuples.
@@ -54,16 +43,7 @@ impl From<AllocError> for SelectStop {
     }
 }
 
-/// Tuples that a SELECT picked and appended to a buffer.
-#[derive(Debug, Drop)]
-pub struct Appended {
-    /// How many tuples they are.
-    pub count: u32,
-    /// The keys that were read, as in `Selected`.
-    pub read: Option<KeyRange>,
-}
-
-/// Why a SELECT appends no tuples.
+/// Why a SELECT by a key picks no tuples.
 #[derive(Clone, Copy, Debug, Drop, PartialEq, Eq)]
 pub enum SelectFault {
     /// The key doesn't fit the index.
@@ -72,14 +52,6 @@ pub enum SelectFault {
     TooLong,
     /// An allocation failed.
     NoMemory,
-}
-
-impl From<AllocError> for SelectFault {
-    ghost from_gives = { λ _ e. e ≡ fault.NoMemory };
-
-    fn from(_fault: AllocError) -> SelectFault {
-        SelectFault::NoMemory
-    }
 }
 
 impl From<RangeFault> for SelectFault {
@@ -102,13 +74,6 @@ impl From<SelectStop> for SelectFault {
             SelectStop::NoMemory => SelectFault::NoMemory,
         }
     }
-}
-
-/// Copies of tuples, and the key of the last one.
-#[derive(Drop)]
-pub(crate) struct Collected<'a> {
-    pub(crate) tuples: Tuples,
-    pub(crate) last: Option<&'a Bytes>,
 }
 
 fn next_in<'a>(entries: &mut Range<'a, Bytes, Bytes>, down: bool) -> Option<(&'a Bytes, &'a Bytes)>
@@ -135,72 +100,53 @@ pub(crate) fn pass_over(entries: &mut Range<'_, Bytes, Bytes>, down: bool, count
     }
 }
 
+/// Copies the tuples of at most so many entries, and gives the key of the last one.
 pub(crate) fn collect<'a>(
-    alloc: Global,
     entries: &mut Range<'a, Bytes, Bytes>,
     down: bool,
     limit: u32,
-) -> Result<Collected<'a>, SelectStop>
+    tuples: &mut Tuples,
+) -> Result<Option<&'a Bytes>, SelectStop>
+    requires { tuples.old ≡ [] }
     ensures { MatchResult result
-        (λ found. (found.tuples ≡ map (λ entry. entry.1) (take limit (directed down entries.old)))
-        × (total_bytes found.tuples ≤ max_result_size)
-        × (option_map (λ key. key.now) found.last ≡ last_key_of (take limit (directed down entries.old))))
-        (λ stop. ((stop ≡ TooLong) × (max_result_size < total_bytes (map (λ entry. entry.1) (take limit (directed down entries.old))))) ⊎ (stop ≡ NoMemory)) }
-{
-    let mut tuples = Tuples::new(alloc);
-    let mut last = None;
-    let mut bytes = 0;
-    let mut left = limit;
-    while left > 0 {
-        let Some((key, tuple)) = next_in(entries, down) else {
-            return Ok(Collected { tuples, last });
-        };
-        bytes = result_size(bytes, tuple.len())?;
-        tuples.push(Bytes::from_slice(alloc, tuple.as_slice())?)?;
-        last = Some(key);
-        left -= 1;
-    }
-    Ok(Collected { tuples, last })
-}
-
-/// How many tuples were appended, and the key of the last one.
-#[derive(Drop)]
-pub(crate) struct Copied<'a> {
-    pub(crate) count: u32,
-    pub(crate) last: Option<&'a Bytes>,
-}
-
-/// Appends the bytes of the next tuples, one after the other. At an error some may have been appended.
-pub(crate) fn append<'a>(
-    entries: &mut Range<'a, Bytes, Bytes>,
-    down: bool,
-    limit: u32,
-    out: &mut Bytes,
-) -> Result<Copied<'a>, SelectStop>
-    ensures appended { MatchResult result
-        (λ found. (out.new ≡ out.old ++ concat (map (λ entry. entry.1) (take limit (directed down entries.old))))
-        × (found.count ≡ length (take limit (directed down entries.old)))
-        × (total_bytes (map (λ entry. entry.1) (take limit (directed down entries.old))) ≤ max_result_size)
-        × (option_map (λ key. key.now) found.last ≡ last_key_of (take limit (directed down entries.old))))
-        (λ stop. ((stop ≡ TooLong) × (max_result_size < total_bytes (map (λ entry. entry.1) (take limit (directed down entries.old))))) ⊎ (stop ≡ NoMemory)) }
-    ensures before { take (length out.old) out.new ≡ out.old }
+        (λ last. IsCollected tuples.new (take limit (directed down entries.old)) (option_map (λ key. key.now) last))
+        (λ stop. IsStopped stop (take limit (directed down entries.old))) }
 {
     let mut last = None;
     let mut bytes = 0;
     let mut left = limit;
     while left > 0 {
         let Some((key, tuple)) = next_in(entries, down) else {
-            return Ok(Copied {
-                count: limit - left,
-                last,
-            });
+            return Ok(last);
         };
         bytes = result_size(bytes, tuple.len())?;
-        out.extend_from_slice(tuple.as_slice())?;
+        tuples.push(tuple.as_slice())?;
         last = Some(key);
         left -= 1;
     }
-    Ok(Copied { count: limit, last })
+    Ok(last)
+}
+
+/// As `collect`, of an entry, if there is one, that the offset may skip.
+pub(crate) fn collect_one<'a>(
+    entry: Option<(&'a Bytes, &'a Bytes)>,
+    offset: u32,
+    tuples: &mut Tuples,
+) -> Result<Option<&'a Bytes>, SelectStop>
+    requires { tuples.old ≡ [] }
+    ensures { MatchResult result
+        (λ last. IsCollected tuples.new (one_found offset (option_map (λ one. (one.0.now, one.1.now)) entry.entry)) (option_map (λ key. key.now) last))
+        (λ stop. IsStopped stop (one_found offset (option_map (λ one. (one.0.now, one.1.now)) entry.entry))) }
+{
+    let Some((key, tuple)) = entry else {
+        return Ok(None);
+    };
+    if offset > 0 {
+        return Ok(None);
+    }
+    result_size(0, tuple.len())?;
+    tuples.push(tuple.as_slice())?;
+    Ok(Some(key))
 }
 
 fn result_size(bytes: usize, more: usize) -> Result<usize, SelectStop>

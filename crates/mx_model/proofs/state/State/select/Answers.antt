@@ -1,79 +1,19 @@
-use Rattle.std.proofs.Common.{rules, ◌≡◌, ◌<◌, Ok, Some, None, length, map, sym, ap, ◌∙◌, subst, [], ◌≢◌, is_some}
-use mathlib.Core.Bool.{true≢false}
-use Rattle.std.proofs.lemmas.Result.{err_from_is_err_and}
-use Rattle.mx_model.specs.declared.pick.SelectStop.TheVariants.{TooLong, NoMemory}
-use Rattle.std.specs.Option.{unwrap_or, option_map}
-use Rattle.std.specs.Prelude.{◌⊎◌}
-use Rattle.std.specs.Ordering.{nat_cmp}
-use Rattle.std.specs.Cmp.Lexicographic.{slice_cmp}
-use Rattle.std.specs.BTreeMap.Range.{entries_between}
-use Rattle.mx_key.specs.Comparable.{comparable_of, edges_of, bound_of}
-use Rattle.mx_key.specs.Ranges.{range_of, range_until}
+use Rattle.std.proofs.Common.{rules, ◌≡◌, Ok, length, option_map, sym, ap, ◌∙◌, subst}
+use Rattle.std.specs.Bool.{IsTrue}
 use Rattle.mx_key.specs.Parts.{key_of_array}
-use Rattle.mx_model.specs.Stored.{StoredTuple}
-use Rattle.mx_model.specs.Picks.{entries_of, pick, total_bytes, max_result_size}
-use Rattle.mx_model.specs.Selecting.{last_key_of}
-use Rattle.mx_key.proofs.RangeLaws.{range_holds}
-use Rattle.mx_model.proofs.PickLaws.{HoldsItsKeys, fit_ends, found_past, tuples_are_picked, reads_to_last, reads_to_end}
+use Rattle.mx_model.specs.State.{test_parts}
+use Rattle.mx_model.proofs.WholeKeyLaws.{array_is_whole}
 use Rattle.mx_model.proofs.state.State.select.Goals as goal
-use Rattle.mx_model.proofs.state.State.select.Goals.{then-len-wanted+in-Some+in_ok-end_with, then-len-wanted+in_default, else-len-wanted}
+use Rattle.mx_model.proofs.state.State.select.Goals.{in-Some, in-None}
 
 pub returns : goal.returns
 returns c state memory key fits fit =
-    let iterator = c.args.wanted.now.iterator in
-    let offset = c.args.wanted.now.offset in
-    let limit = c.args.wanted.now.limit in
-    let all = entries_of memory.keeps.tuples in
-    let kept = c.args.self.now.tuples.entries in
-    let law : HoldsItsKeys (range_of iterator key) = λ sought f. range_holds (range_of iterator key) sought (fit_ends iterator key fit) f in
-    let more : 0 < c.args.wanted.now.limit = search rules in
-    let edges : c.in_ok-range.range ≡ edges_of (range_of iterator key) = c.in_ok-range.ensures.picked key (subst (λ parts. key_of_array parts c.args.wanted.now.key.now ≡ Ok key) (sym memory.parts) fits) in
-    let low = c.low_bound.ensures ∙ ap (λ r. bound_of r.low) edges in
-    let high = c.high_bound.ensures ∙ ap (λ r. bound_of r.high) edges in
-    let between : c.range-entries.result ≡ entries_between (slice_cmp nat_cmp) (bound_of (edges_of (range_of iterator key)).low) (bound_of (edges_of (range_of iterator key)).high) kept =
-    c.range-entries.ensures.between tt ∙ (λ i. entries_between (slice_cmp nat_cmp) (low i) (high i) kept) in
-    let gone = found_past iterator key law all memory.keeps.fit kept memory.keeps.same offset limit c.descends-down.result c.descends-down.ensures c.range-entries.result c.pass_over.new.entries between c.pass_over.ensures in
-    let tuples : c.in_ok-found.found.tuples ≡ (pick all iterator key offset limit).tuples =
-    c.in_ok-found.ensures.0 ∙ ap (map (λ (entry : StoredTuple). entry.1)) gone ∙ tuples_are_picked iterator key law all memory.keeps.fit kept memory.keeps.same offset limit in
-    let last = c.in_ok-found.ensures.2 ∙ ap last_key_of gone in
-    let read : Some c.if-len-wanted.range ≡ option_map edges_of (pick all iterator key offset limit).read = elim c.if-len-wanted.branch [
-      | then-len-wanted+in-Some+in_ok-end_with w ↦
-          let full : length c.in_ok-found.found.tuples ≡ limit = search rules in
-          let to = reads_to_last iterator key law all memory.keeps.fit kept memory.keeps.same offset limit more (ap length (sym tuples) ∙ full) in
-          let key_is : w.in-Some.last.now ≡ comparable_of to.last =
-          ap (λ o. unwrap_or (option_map (λ key. key.now) o) []) (sym w.in-Some.is) ∙ ap (λ o. unwrap_or o []) (last ∙ to.is) in
-          let told : w.as_slice.result.now ≡ comparable_of to.last = w.as_slice.ensures ∙ key_is in
-          let ended_is = w.in_ok-end_with.ensures.ended (range_of iterator key) to.last edges told in
-          ap Some (w.range-is ∙ ended_is ∙ ap (λ d. edges_of (range_until d to.last (range_of iterator key))) c.descends-down.ensures) ∙ ap (option_map edges_of) (sym to.read_is)
-      | then-len-wanted+in_default w ↦
-          let full : length c.in_ok-found.found.tuples ≡ limit = search rules in
-          let to = reads_to_last iterator key law all memory.keeps.fit kept memory.keeps.same offset limit more (ap length (sym tuples) ∙ full) in
-          let none : c.in_ok-found.found.last ≡ None = search rules in
-          absurd (true≢false (ap is_some (sym (last ∙ to.is)) ∙ ap (λ o. is_some (option_map (λ key. key.now) o)) none))
-      | else-len-wanted w ↦
-          let short : length c.in_ok-found.found.tuples ≢ limit = search rules in
-          let to = reads_to_end iterator key law all memory.keeps.fit kept memory.keeps.same offset limit more (λ full. short (ap length tuples ∙ full)) in
-          ap Some (w.range-is ∙ edges) ∙ ap (option_map edges_of) (sym to)
+    let long : IsTrue c.match-array_of.is_whole → length key ≡ length test_parts = elim c.match-array_of.branch [
+      | in-Some w ↦ λ whole.
+          let items = w.in-Some.items in
+          let array = sym c.array_of.ensures ∙ ap (option_map (λ items. (items.count, items.bytes.now))) w.in-Some.is in
+          array_is_whole c.args.wanted.now.key.now items.count items.bytes.now key w.len.result array fits (w.len.ensures ∙ ap length memory.parts) (sym w.is_whole-is ∙ whole)
+      | in-None w ↦ λ whole. absurd (search rules)
     ] in
-    (tuples, c.in_ok-found.ensures.1, read)
-
-pub returns-in_err-found : goal.returns-in_err-found
-returns-in_err-found c state memory key fits fit =
-    let iterator = c.args.wanted.now.iterator in
-    let offset = c.args.wanted.now.offset in
-    let limit = c.args.wanted.now.limit in
-    let all = entries_of memory.keeps.tuples in
-    let kept = c.args.self.now.tuples.entries in
-    let law : HoldsItsKeys (range_of iterator key) = λ sought f. range_holds (range_of iterator key) sought (fit_ends iterator key fit) f in
-    let edges : c.in_ok-range.range ≡ edges_of (range_of iterator key) = c.in_ok-range.ensures.picked key (subst (λ parts. key_of_array parts c.args.wanted.now.key.now ≡ Ok key) (sym memory.parts) fits) in
-    let low = c.low_bound.ensures ∙ ap (λ r. bound_of r.low) edges in
-    let high = c.high_bound.ensures ∙ ap (λ r. bound_of r.high) edges in
-    let between : c.range-entries.result ≡ entries_between (slice_cmp nat_cmp) (bound_of (edges_of (range_of iterator key)).low) (bound_of (edges_of (range_of iterator key)).high) kept =
-    c.range-entries.ensures.between tt ∙ (λ i. entries_between (slice_cmp nat_cmp) (low i) (high i) kept) in
-    let gone = found_past iterator key law all memory.keeps.fit kept memory.keeps.same offset limit c.descends-down.result c.descends-down.ensures c.range-entries.result c.pass_over.new.entries between c.pass_over.ensures in
-    let tuples = ap (map (λ (entry : StoredTuple). entry.1)) gone ∙ tuples_are_picked iterator key law all memory.keeps.fit kept memory.keeps.same offset limit in
-    let p = err_from_is_err_and c.from_residual-in_err-found.result c.from_residual-in_err-found.ensures.1 in
-    rw (p.1, p.2) (subst (λ l. ((c.in_err-found.field-0.0 ≡ TooLong) × (max_result_size < total_bytes l)) ⊎ (c.in_err-found.field-0.0 ≡ NoMemory)) tuples c.in_err-found.ensures)
-
-pub range-entries-requires : goal.range-entries-requires
-range-entries-requires c = rw (c.low_bound.ensures, c.high_bound.ensures) c.in_ok-range.ensures.forward
+    c.select_range.ensures state memory key fit long
+    (c.in_ok-range.ensures.picked key (subst (λ parts. key_of_array parts c.args.wanted.now.key.now ≡ Ok key) (sym memory.parts) fits))
