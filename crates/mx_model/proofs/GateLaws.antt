@@ -1,6 +1,5 @@
 -- Which replies may be sent as a history grows.
-use Rattle.std.proofs.Common.{◌≡◌, ℕ, suc, ◌-◌, ◌≤◌, List, [], ◌∷◌, length, arith}
-use Rattle.std.specs.Prelude.{⊤}
+use Rattle.std.proofs.Common.{ℕ, suc, ◌≤◌, List, [], ◌∷◌, length, arith}
 use Rattle.mx_row.specs.declared.tx.Tx.{Tx}
 use Rattle.mx_model.specs.Histories.{Base, Asked, Left, Took, Confirmed, Looked, History, ledger_of}
 use Rattle.mx_model.specs.Gate.{AskedWithin, RepliesMayLeave}

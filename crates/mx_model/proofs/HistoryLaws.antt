@@ -8,7 +8,7 @@ use Rattle.mx_request.specs.declared.request.Ask.{Ask}
 use Rattle.mx_request.specs.declared.request.Ask.TheVariants as ask
 use Rattle.mx_request.specs.declared.request.Request.{Request}
 use Rattle.mx_model.specs.declared.reply.Reply.{Reply}
-use Rattle.mx_model.specs.declared.reply.Reply.TheVariants.{Tuples, Refused}
+use Rattle.mx_model.specs.declared.reply.Reply.TheVariants.{Refused}
 use Rattle.mx_row.specs.declared.tx.Tx.{Tx}
 use Rattle.mx_model.specs.declared.ids.Ids.{Ids}
 use Rattle.mx_model.specs.State as state
@@ -22,7 +22,7 @@ use Rattle.mx_key.specs.Ranges.{Range, range_of}
 use Rattle.mx_model.specs.Answers.{answer_to, state_after_rows}
 use Rattle.mx_model.specs.statements.Select.{range_reads, select_found, select_by_key, select_answer}
 use Rattle.mx_model.specs.statements.Lookup.{in_space, schema_reads}
-use Rattle.mx_model.specs.statements.Answer.{refusal_alone, refusal_after}
+use Rattle.mx_model.specs.statements.Answer.{refusal_alone, refusal_after, tuples_after}
 use Rattle.mx_model.specs.Transactions.{state_after}
 use Rattle.mx_row.specs.Clocks.{clock_after}
 use Rattle.mx_model.specs.Histories.{Base, Asked, Left, Took, Confirmed, Looked, History, Ledger, is_out_of_memory, node_answer, with_lsn, commit_of, commits_of, ledger_of, journal_of, state_of, clock_of, reply_to, IsReply, IsLegal, asks_in, HasMemory, answer_in, next_lsn, remembered, asking, leaving, step_for, history_from, is_write, writable_node}
@@ -236,7 +236,7 @@ answered_no_row space index whole found long test = by_test (nat_lt max_result_s
   where
     by_test : (long : Bool)
         → (if long then refusal_after (schema_reads space ++ range_reads space index (Some whole)) ResultTooLong
-        else record { reply = Tuples found.tuples; row = None; reads = schema_reads space ++ range_reads space index found.read }).row ≡ None
+        else tuples_after (schema_reads space ++ range_reads space index found.read) found.tuples).row ≡ None
     by_test true = refl
     by_test false = refl
 
@@ -249,6 +249,7 @@ selected_by_no_row space limit offset iterator tuples (Ok key) =
 -- a SELECT writes no row
 pub select_no_row : (space index limit offset : ℕ) (iterator : IterKind) (key : List ℕ) (found : Option state.Tuples)
     → (in_space space found (select_answer space index limit offset iterator key)).row ≡ None
+unfolding in_space
 select_no_row space index limit offset iterator key None = refl
 select_no_row space index limit offset iterator key (Some tuples) = by_test (index == 0)
   where

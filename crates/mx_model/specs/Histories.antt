@@ -215,12 +215,3 @@ step_for ledger (name, ask.Leave) = Left name.conn.0
 abbrev pub history_from : Base → History → List (TxnName × Ask) → History
 history_from base earlier [] = earlier
 history_from base earlier (asked ∷ others) = history_from base (step_for (ledger_of base earlier) asked ∷ earlier) others
-
-abbrev pub entry_replies : Entry → List Reply
-entry_replies (Asked name ask reply) = reply ∷ []
-entry_replies _ = []
-
--- the replies of a history, the first of them first
-abbrev pub replies_in : History → List Reply
-replies_in [] = []
-replies_in (entry ∷ earlier) = replies_in earlier ++ entry_replies entry
