@@ -1,6 +1,6 @@
 -- What a request is answered on a state that has the one space and no other, by the first test that it fails.
 use Rattle.std.proofs.Common.{◌≡◌, ◌⊎◌, inl, inr, ℕ, Bool, List, [], ◌∷◌, ◌++◌, sym, ap, ◌∙◌, length, ◌<◌, ◌≤◌, ne_eqb, eq-eqb}
-use Rattle.std.specs.Prelude.{Some, None, Ok, Err, if◌then◌else◌}
+use Rattle.std.specs.Prelude.{Some, Ok, Err, if◌then◌else◌}
 use Rattle.std.specs.FinMap.{get}
 use Rattle.std.proofs.lemmas.Bool.{lt-ltb, le-ltb}
 use Rattle.mx_base.specs.declared.refusal.Refusal.{Refusal}
@@ -14,14 +14,13 @@ use Rattle.mx_key.specs.declared.iterator.IterKind.{IterKind}
 use Rattle.mx_key.specs.Keys.{Key}
 use Rattle.mx_key.specs.Parts.{key_of_array}
 use Rattle.mx_key.specs.Ranges.{range_of}
-use Rattle.mx_model.specs.declared.reply.Reply.TheVariants.{Tuples}
 use Rattle.mx_model.specs.State as state
 use Rattle.mx_model.specs.State.{State, test_space, test_name, test_parts, key_in}
 use Rattle.mx_model.specs.Picks.{Selection, pick, entries_of, total_bytes, max_result_size}
 use Rattle.mx_model.specs.statements.Replace.{fault_refusal, replace_by_key, replace_answer, replace_answer_in, replaced, max_tuple_size}
 use Rattle.mx_model.specs.statements.Select.{range_reads, select_found, misfit_refusal, select_by_key, select_answer}
 use Rattle.mx_model.specs.statements.Lookup.{space_read, schema_reads, in_space}
-use Rattle.mx_model.specs.statements.Answer.{Answer, Read, refusal_after}
+use Rattle.mx_model.specs.statements.Answer.{Answer, Read, refusal_after, tuples_after}
 use Rattle.mx_model.specs.declared.state.State as coded
 use Rattle.mx_model.specs.Stored.{Holds}
 use Rattle.mx_model.proofs.StateLaws.{HasOneSpace}
@@ -33,12 +32,14 @@ one_space memory before holds = record { tuples = holds.keeps.tuples; there = ho
 -- a space that isn't the one there is, is missing
 pub space_is_missing : (now : State) (has : HasOneSpace now) (space : ℕ) (answer : state.Tuples → Answer) → (space ≡ test_space → ⊥)
     → in_space space (get now space) answer ≡ refusal_after (space_read space ∷ []) (SpaceMissing (record { 0 = space }))
+unfolding in_space
 space_is_missing now has space answer other =
     ap (λ found. in_space space found answer) (has.others space (ne_eqb space test_space other))
 
 -- the space there is has its answer
 pub space_is_there : (now : State) (has : HasOneSpace now) (space : ℕ) (answer : state.Tuples → Answer) → space ≡ test_space
     → in_space space (get now space) answer ≡ answer has.tuples
+unfolding in_space
 space_is_there now has space answer same =
     ap (λ s. in_space space (get now s) answer) same
     ∙ ap (λ found. in_space space found answer) has.there
@@ -68,7 +69,7 @@ module _ (now : State) (has : HasOneSpace now) (space index limit offset : ℕ) 
       abbrev answer_by : Bool → Answer
       answer_by long =
           if long then refusal_after (schema_reads space ++ range_reads space 0 (Some (range_of iterator fitting))) ResultTooLong
-          else record { reply = Tuples found.tuples; row = None; reads = schema_reads space ++ range_reads space 0 found.read }
+          else tuples_after (schema_reads space ++ range_reads space 0 found.read) found.tuples
 
       -- the tuples have too many bytes
       pub result_is_too_long : max_result_size < total_bytes found.tuples
@@ -77,7 +78,7 @@ module _ (now : State) (has : HasOneSpace now) (space index limit offset : ℕ) 
 
       -- they are answered
       pub tuples_are_picked : total_bytes found.tuples ≤ max_result_size
-          → select ≡ record { reply = Tuples found.tuples; row = None; reads = schema_reads space ++ range_reads space 0 found.read }
+          → select ≡ tuples_after (schema_reads space ++ range_reads space 0 found.read) found.tuples
       tuples_are_picked short = by_range ∙ ap answer_by (le-ltb max_result_size (total_bytes found.tuples) short)
 
 module _ (now : State) (has : HasOneSpace now) (space : ℕ) (tuple : List ℕ) (same : space ≡ test_space) where

@@ -17,7 +17,7 @@ use Rattle.mx_model.specs.Directories.{Named, Reached, ReadAll, Continues, IsDir
 use Rattle.mx_xlog.specs.Files.{ReadsAs}
 use Rattle.mx_files.specs.Names.{is_journal, is_snapshot, journal_name, same_bytes}
 use Rattle.mx_files.proofs.NameLaws.{journal_name-is_journal, snapshot_is_no_journal, name_order, front_order-at_most, signature_fits}
-use Rattle.mx_model.proofs.DirectoryLaws.{by_name, names_in, names_of, ReadAll, same_names, keys-where_key, find-where, names_same}
+use Rattle.mx_model.proofs.DirectoryLaws.{by_name, names_in, names_of, same_names, keys-where_key, find-where, names_same}
 use Rattle.mx_model.proofs.WalkLaws.{Passed, Way, way, without, Nearly, without_newest, nothing_is_sound}
 
 -- A directory without damage, and its journals.
@@ -31,7 +31,7 @@ no_snapshots : (snapshots : List (List ℕ)) (journals : List Named) (reached : 
 no_snapshots [] journals reached is = (refl, sym is)
 no_snapshots (name ∷ snapshots) journals reached is =
     let last = last_some name snapshots in
-    let refused = is ∙ ap (λ found. without_snapshot found journals) last.1 in
+    let refused = is ∙ ap (λ found. after_origin journals (origin_by found)) last.1 in
     absurd cc
 
 -- a directory without damage has no snapshot, and its journals were read one after the other
@@ -44,15 +44,15 @@ pub record Sound (files : Files) (reached : Reached) : Type 0 where
   pub on_way : Way journals nothing_yet reached
 
 pub sound : (files : Files) (reached : Reached) → IsDirectoryState files (Ok reached) → Sound files reached
-sound files reached (journals, unread, reads, enough, is) =
-    let plain = no_snapshots (filter is_snapshot (finite.keys files)) journals reached is in
+sound files reached state =
+    let plain = no_snapshots (filter is_snapshot (finite.keys files)) state.journals reached state.is in
     record {
-      journals = journals;
-      names = sym (append-nil (names_of journals)) ∙ ap (λ rest. names_of journals ++ rest) (sym enough) ∙ reads.names;
-      each = reads.each;
+      journals = state.journals;
+      names = state.names;
+      each = state.each;
       none = plain.0;
       after = plain.1;
-      on_way = way journals nothing_yet reached nothing_is_sound plain.1;
+      on_way = way state.journals nothing_yet reached nothing_is_sound plain.1;
     }
 
 -- what journals recover to has a vclock
@@ -258,8 +258,9 @@ pub begins_again : (files now : Files) (reached : Reached) (base : Base) (file :
     → Continues base (journal_name (sum reached.clock)) now
 begins_again files now reached base file is state clock ids whole same = record {
   earlier = earlier;
+  origin = new_database;
   reached = nearly.reached;
-  no_snapshot = names_same is_snapshot now files (λ q snapshot. ap is_some (snapshot_same q snapshot)) ∙ s.none;
+  begins = ap origin_of (names_same is_snapshot now files (λ q snapshot. ap is_some (snapshot_same q snapshot)) ∙ s.none);
   names = name_behind files now newest file (journal_name-is_journal (sum reached.clock)) (λ q journal. same q (inl journal))
       (subst (AllByRecursion IsEarlier) left_names
       (all_names IsEarlier earlier

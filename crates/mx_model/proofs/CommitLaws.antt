@@ -95,6 +95,7 @@ module _ (now : State) (clock : List ℕ) (replica space : ℕ) (tuple : List �
   keyed_follows : (tuples : state.Tuples) (key : Result Key NoKey) → key_in test_parts tuple ≡ key → nat_lt max_tuple_size (length tuple) ≡ false
       → replica ≡ writable_node → map.get now space ≡ Some tuples
       → AllFollow now clock (commits (with_lsn (lsn_of clock replica) (replace_by_key space tuple key) (replace_by_key space tuple key).row))
+  unfolding in_space
   keyed_follows tuples (Err fault) is short node there = no_commit now clock replica (lsn_of clock replica) without_memory
   keyed_follows tuples (Ok key) is short node there =
       let takes : takes_row now (Replaced space tuple) ≡ true =
@@ -115,6 +116,7 @@ module _ (now : State) (clock : List ℕ) (replica space : ℕ) (tuple : List �
   replaced_follows : (read_only : Bool) (found : Option state.Tuples) → not (replica == writable_node) ≡ read_only → map.get now space ≡ found
       → AllFollow now clock (commits (if read_only then refusal_alone (ReadOnly (record { 0 = writable_node }))
       else with_lsn (lsn_of clock replica) (in_space space found (λ _. replace_answer space tuple)) (in_space space found (λ _. replace_answer space tuple)).row))
+  unfolding in_space
   replaced_follows true found node there = no_commit now clock replica (lsn_of clock replica) without_memory
   replaced_follows false None node there = no_commit now clock replica (lsn_of clock replica) without_memory
   replaced_follows false (Some tuples) node there =
@@ -132,6 +134,7 @@ none_follows ledger name asked reply none =
 -- what a request commits
 request_follows : (ledger : Ledger) (name : TxnName) (asked : Request) (reply : Reply) → IsAskable asked
     → AllFollow (ledger_state ledger) (ledger_clock ledger) (commits_of ledger name (ask.Request asked) reply)
+unfolding answer_to
 request_follows ledger name (request.Select space index limit offset iterator key) reply can =
     none_follows ledger name (request.Select space index limit offset iterator key) reply
     (select_no_row space.0 index.0 limit offset (iterator_of iterator) key (map.get (ledger_state ledger) space.0))

@@ -16,7 +16,7 @@ use Rattle.mx_outside.specs.Disks.{File, Files}
 use Rattle.mx_model.specs.declared.ids.Ids.{Ids}
 use Rattle.mx_model.specs.declared.damage.Damage.{Damage}
 use Rattle.mx_model.specs.Histories.{Base}
-use Rattle.mx_model.specs.Directories.{Named, Reached, Continues, IsDirectoryState, IsEnough, ids_in, same_id, are_its_ids, ids_or, head_fits, nothing_yet, after_blocks, after_head, after_file, after_files, and_then, directory_state}
+use Rattle.mx_model.specs.Directories.{Named, Reached, Continues, ReadAll, IsDirectoryState, ids_in, same_id, are_its_ids, ids_or, head_fits, reached_at, origin_of, after_origin, after_blocks, after_head, after_file, after_files, and_then}
 use Rattle.mx_xlog.specs.Files.{FileRead, ReadsAs}
 use Rattle.mx_files.specs.Names.{is_journal, is_snapshot, journal_name, same_bytes}
 
@@ -134,9 +134,6 @@ there_too name before after others was is q = by_test (same_bytes q name) refl
         ap (λ k. is_some (finite.get after k)) key ∙ is ∙ sym was ∙ ap (λ k. is_some (finite.get before k)) (sym key)
     by_test false other = ap is_some (others q other)
 
-abbrev pub ReadAll : Files → List Named → Type 0
-ReadAll files journals = AllByRecursion (λ file. IfSome (finite.get files file.0) (λ (f : File). ReadsAs f.bytes file.1)) journals
-
 pub reads_same : (name : List ℕ) (before after : Files) (earlier : List Named)
     → ((other : List ℕ) → same_bytes other name ≡ false → finite.get after other ≡ finite.get before other)
     → AllByRecursion (λ (file : Named). same_bytes file.0 name ≡ false) earlier → ReadAll before earlier → ReadAll after earlier
@@ -154,8 +151,9 @@ continues_same base name before after c others was is =
     let keys : finite.keys after ≡ finite.keys before = keys_same after before (there_too name before after others was is) in
     record {
       earlier = c.earlier;
+      origin = c.origin;
       reached = c.reached;
-      no_snapshot = ap (filter is_snapshot) keys ∙ c.no_snapshot;
+      begins = ap (λ names. origin_of (filter is_snapshot names)) keys ∙ c.begins;
       names = ap (filter is_journal) keys ∙ c.names;
       others = c.others;
       reads = reads_same name before after c.earlier others c.others c.reads;
@@ -229,11 +227,6 @@ pub map-append : (earlier more : List Named) → names_of (earlier ++ more) ≡ 
 map-append [] more = refl
 map-append (file ∷ earlier) more = ap (λ names. file.0 ∷ names) (map-append earlier more)
 
--- where all journals are read, they are enough
-pub all_read : (outcome : Result Reached Damage) → IsEnough [] outcome
-all_read (Ok reached) = refl
-all_read (Err damage) = tt
-
 -- the directory recovers to the base and what the newest journal has
 pub stands_after : (base : Base) (name : List ℕ) (files : Files) (file : File) (read : FileRead) (outcome : Result Reached Damage)
     → Continues base name files → finite.get files name ≡ Some file → ReadsAs file.bytes (Some read) → read.head.snapshot ≡ false
@@ -246,22 +239,18 @@ stands_after base name files file read outcome c there reads journal named clock
     let begins : same_bytes c.reached.clock read.head.clock ≡ true = (bytes_decides c.reached.clock read.head.clock).1 (c.clock ∙ sym clock) in
     let its : ids_or (ids_in read.head) c.reached.ids ≡ base.ids = kept c.reached.ids c.ids in
     let state = c.state in
-    let reached = c.clock in (
-      c.earlier ++ last ∷ [],
-      [],
-      record {
-        names = append-nil (names_of (c.earlier ++ last ∷ [])) ∙ map-append c.earlier (last ∷ []) ∙ sym c.names;
-        each = append_all _ c.earlier last c.reads (subst (λ found. IfSome found (λ (f : File). ReadsAs f.bytes (Some read))) (sym there) reads);
-      },
-      all_read outcome,
-      sym after
+    let reached = c.clock in record {
+      journals = c.earlier ++ last ∷ [];
+      names = map-append c.earlier (last ∷ []) ∙ sym c.names;
+      each = append_all _ c.earlier last c.reads (subst (λ found. IfSome found (λ (f : File). ReadsAs f.bytes (Some read))) (sym there) reads);
+      is = sym after
           ∙ (λ i. after_blocks name read.size read.blocks (record { ids = Some (sym its i); state = sym state i; clock = sym reached i }))
           ∙ sym (after_head-fits name read c.reached journal named fits begins)
           ∙ sym (then_nothing (after_head name read c.reached))
           ∙ ap (and_then (after_files (last ∷ []))) (sym c.reaches)
-          ∙ sym (after_files-append c.earlier (last ∷ []) nothing_yet)
-          ∙ ap (λ snapshots. directory_state snapshots (c.earlier ++ last ∷ [])) (sym c.no_snapshot),
-    )
+          ∙ sym (after_files-append c.earlier (last ∷ []) (reached_at c.origin))
+          ∙ ap (after_origin (c.earlier ++ last ∷ [])) (sym c.begins);
+    }
   where
     by_ids : (c.reached.ids ≡ None) ⊎ (c.reached.ids ≡ Some base.ids) → (c.reached.ids ≡ None) ⊎ (c.reached.ids ≡ Some (ids_in read.head))
     by_ids (inl none) = inl none

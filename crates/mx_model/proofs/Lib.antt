@@ -10,7 +10,9 @@ pub mod BlockLaws
 pub mod OnceLaws
 pub mod AnswerLaws
 pub mod NoKeyLaws
-pub mod AppendLaws
+pub mod StopLaws
+mod NodeLaws
+pub mod WholeKeyLaws
 pub mod StoredLaws
 pub mod WindowLaws
 pub mod PickLaws

@@ -13,8 +13,7 @@ use Rattle.std.proofs.lemmas.List.Sums.{sum_by-set}
 use Rattle.std.proofs.lemmas.List.Elements.{All-set}
 use Rattle.mx_vclock.specs.Vclocks.{IsVclock, max_lsn}
 use Rattle.mx_xlog.specs.declared.head.Head.{Head}
-use Rattle.mx_xlog.specs.Reading.{blocks_of}
-use Rattle.mx_xlog.proofs.OneLaws.{one_header}
+use Rattle.mx_xlog.proofs.FileLaws.{one_reading, some_reading}
 use Rattle.mx_outside.specs.Disks.{File, Files}
 use Rattle.mx_model.specs.declared.ids.Ids.{Ids}
 use Rattle.mx_row.specs.declared.row.Row.{Row}
@@ -25,30 +24,12 @@ use Rattle.mx_model.specs.State.{State}
 use Rattle.mx_model.specs.Answers.{state_after_rows}
 use Rattle.mx_row.specs.Clocks.{last_lsn, clock_after_one, clock_after, follows}
 use Rattle.mx_row.specs.Rows.{IsTransaction, transactions_in}
-use Rattle.mx_model.specs.Directories.{Named, Reached, IsDirectoryState, IsEnough, SameIds, SameOutcome, SameText, AllFollow, are_its_ids, ids_in, ids_or, head_fits, nothing_yet, takes_rows, after_transaction, then_all, after_transactions, after_read, after_block, block_reached, after_blocks, after_head, after_file, and_then, after_files, without_snapshot, directory_state}
-use Rattle.mx_xlog.specs.Files.{FileRead, ReadsAs}
+use Rattle.mx_model.specs.Directories.{Named, Reached, ReadAll, Origin, IsDirectoryState, SameIds, SameOutcome, AllFollow, are_its_ids, ids_in, ids_or, head_fits, reached_at, takes_rows, after_transaction, then_all, after_transactions, after_read, after_block, block_reached, after_blocks, after_head, after_file, and_then, after_files, origin_of, after_origin, directory_state}
+use Rattle.mx_xlog.specs.Files.{FileRead, ReadsAs, SameHead, SameFile, SameRead}
 use Rattle.mx_files.specs.Names.{is_journal, is_snapshot, journal_name, same_bytes}
-use Rattle.mx_model.proofs.DirectoryLaws.{by_name, names_in, names_of, same_itself, ReadAll}
+use Rattle.mx_model.proofs.DirectoryLaws.{by_name, names_in, names_of, same_itself}
 
 -- ---- what is alike but for the bytes of identifiers
-
-record SameHead (one other : Head) : Type 0 where
-  snapshot : one.snapshot ≡ other.snapshot
-  clock : one.clock ≡ other.clock
-  replica : one.replica ≡ other.replica
-  instance : SameText one.instance other.instance
-  set : SameText one.set other.set
-
-record SameFile (one other : FileRead) : Type 0 where
-  head : SameHead one.head other.head
-  size : one.size ≡ other.size
-  blocks : one.blocks ≡ other.blocks
-
-abbrev SameRead : Option FileRead → Option FileRead → Type 0
-SameRead None None = ⊤
-SameRead None (Some file) = ⊥
-SameRead (Some file) None = ⊥
-SameRead (Some one) (Some other) = SameFile one other
 
 record Alike (one other : Reached) : Type 0 where
   ids : SameIds one.ids other.ids
@@ -69,26 +50,11 @@ SameEnd (Err damage) (Err other) = damage ≡ other
 
 -- ---- two readings of one file
 
-no_header_read : (bytes : List ℕ) (file : FileRead) → ReadsAs bytes None → ¬ ReadsAs bytes (Some file)
-no_header_read bytes file none read = none.1.4 file.head file.size read.0
-
-read_once : (bytes : List ℕ) (one other : Option FileRead) → ReadsAs bytes one → ReadsAs bytes other → SameRead one other
-read_once bytes None None first second = tt
-read_once bytes None (Some file) first second = no_header_read bytes file first second
-read_once bytes (Some file) None first second = no_header_read bytes file second first
-read_once bytes (Some one) (Some other) first second =
-    let same = one_header bytes one.head other.head one.size other.size first.0 second.0 in
-    record {
-      head = record { snapshot = same.1; clock = same.2; replica = same.3; instance = same.4; set = same.5 };
-      size = same.0;
-      blocks = first.1 ∙ ap (λ size. blocks_of (drop size bytes)) same.0 ∙ sym second.1;
-    }
-
 -- the file that is found under a name reads alike
 found_once : (found : Option File) (one other : Option FileRead) → is_some found ≡ true → IfSome found (λ (file : File). ReadsAs file.bytes one)
     → IfSome found (λ (file : File). ReadsAs file.bytes other) → SameRead one other
 found_once None one other there first second = absurd cc
-found_once (Some file) one other there first second = read_once file.bytes one other first second
+found_once (Some file) one other there first second = one_reading file.bytes one other first second
 
 -- ---- what alike files make of what was reached
 
@@ -211,8 +177,8 @@ file_alike name (Some file) (Some same) one other files alike = head_alike name 
 
 -- ---- the files of a directory
 
-abbrev IsThere : Files → List ℕ → Type 0
-IsThere files name = is_some (finite.get files name) ≡ true
+abbrev pub IsListed : Files → List ℕ → Type 0
+IsListed files name = is_some (finite.get files name) ≡ true
 
 is_there : (value : File) (same : Bool) (found : Option File) → same ≡ true → is_some (cond same (Some value) found) ≡ true
 is_there value true found is = refl
@@ -247,46 +213,43 @@ all_like : (P Q : List ℕ → Type 0) → ((name : List ℕ) → P name → Q n
 all_like P Q like [] all = tt
 all_like P Q like (name ∷ names) all = (like name all.0, all_like P Q like names all.1)
 
-all_there : (files : Files) (p : List ℕ → Bool) → AllByRecursion (IsThere files) (filter p (finite.keys files))
+pub all_there : (files : Files) (p : List ℕ → Bool) → AllByRecursion (IsListed files) (filter p (finite.keys files))
 all_there files p =
-    all_kept (IsThere files) p (finite.keys files)
-    (all_like (λ name. is_some (find by_name name (finite.entries files)) ≡ true) (IsThere files) (λ name found. ap is_some (get-entries files name) ∙ found)
+    all_kept (IsListed files) p (finite.keys files)
+    (all_like (λ name. is_some (find by_name name (finite.entries files)) ≡ true) (IsListed files) (λ name found. ap is_some (get-entries files name) ∙ found)
     (finite.keys files) (all_found (finite.entries files)))
 
 same_parts : (x y : List ℕ) (xs ys : List (List ℕ)) → x ∷ xs ≡ y ∷ ys → (x ≡ y) × (xs ≡ ys)
 same_parts x y xs ys is = (cc, cc)
 
-not_none : (name : List ℕ) (names unread : List (List ℕ)) → unread ≡ name ∷ names → unread ≡ [] → ⊥
-not_none name names unread is none = cc
+none_there : (name : List ℕ) (names : List (List ℕ)) → [] ≡ name ∷ names → ⊥
+none_there name names is = cc
 
--- journals that were read from the same files, as many as decide the outcome
-journals_alike : (files : Files) (journals others : List Named) (unread beyond : List (List ℕ)) (one other : Reached)
-    → names_of journals ++ unread ≡ names_of others ++ beyond → AllByRecursion (IsThere files) (names_of journals ++ unread)
-    → ReadAll files journals → ReadAll files others → IsEnough unread (after_files journals one) → IsEnough beyond (after_files others other) → Alike one other
+-- journals that were read from the same files
+journals_alike : (files : Files) (journals others : List Named) (one other : Reached)
+    → names_of journals ≡ names_of others → AllByRecursion (IsListed files) (names_of journals)
+    → ReadAll files journals → ReadAll files others → Alike one other
     → SameEnd (after_files journals one) (after_files others other)
-journals_alike files [] [] unread beyond one other names there reads its_reads enough its_enough alike = alike
-journals_alike files [] (next ∷ others) unread beyond one other names there reads its_reads enough its_enough alike =
-    absurd (not_none next.0 (names_of others ++ beyond) unread names enough)
-journals_alike files (journal ∷ journals) [] unread beyond one other names there reads its_reads enough its_enough alike =
-    absurd (not_none journal.0 (names_of journals ++ unread) beyond (sym names) its_enough)
-journals_alike files ((name, read) ∷ journals) ((again, same) ∷ others) unread beyond one other names there reads its_reads enough its_enough alike =
-    let parts = same_parts name again (names_of journals ++ unread) (names_of others ++ beyond) names in
+journals_alike files [] [] one other names there reads its_reads alike = alike
+journals_alike files [] (next ∷ others) one other names there reads its_reads alike = absurd (none_there next.0 (names_of others) names)
+journals_alike files (journal ∷ journals) [] one other names there reads its_reads alike = absurd (none_there journal.0 (names_of journals) (sym names))
+journals_alike files ((name, read) ∷ journals) ((again, same) ∷ others) one other names there reads its_reads alike =
+    let parts = same_parts name again (names_of journals) (names_of others) names in
     let its_read = subst (λ n. IfSome (finite.get files n) (λ (file : File). ReadsAs file.bytes same)) (sym parts.0) its_reads.0 in
     let reads_same = found_once (finite.get files name) read same there.0 reads.0 its_read in
     let first : SameEnd (after_file (name, read) one) (after_file (again, same) other) =
     subst (λ n. SameEnd (after_file (name, read) one) (after_file (n, same) other)) parts.0 (file_alike name read same one other reads_same alike) in
     by_first
-    (λ x y alike enough its_enough. journals_alike files journals others unread beyond x y parts.1 there.1 reads.1 its_reads.1 enough its_enough alike)
-    (after_file (name, read) one) (after_file (again, same) other) first enough its_enough
+    (λ x y alike. journals_alike files journals others x y parts.1 there.1 reads.1 its_reads.1 alike)
+    (after_file (name, read) one) (after_file (again, same) other) first
   where
-    by_first : ((x y : Reached) → Alike x y → IsEnough unread (after_files journals x) → IsEnough beyond (after_files others y)
-        → SameEnd (after_files journals x) (after_files others y))
-        → (a b : Result Reached Damage) → SameEnd a b → IsEnough unread (and_then (after_files journals) a) → IsEnough beyond (and_then (after_files others) b)
+    by_first : ((x y : Reached) → Alike x y → SameEnd (after_files journals x) (after_files others y))
+        → (a b : Result Reached Damage) → SameEnd a b
         → SameEnd (and_then (after_files journals) a) (and_then (after_files others) b)
-    by_first rest (Ok x) (Ok y) first enough its_enough = rest x y first enough its_enough
-    by_first rest (Ok x) (Err damage) first enough its_enough = absurd first
-    by_first rest (Err damage) (Ok y) first enough its_enough = absurd first
-    by_first rest (Err damage) (Err same) first enough its_enough = first
+    by_first rest (Ok x) (Ok y) first = rest x y first
+    by_first rest (Ok x) (Err damage) first = absurd first
+    by_first rest (Err damage) (Ok y) first = absurd first
+    by_first rest (Err damage) (Err same) first = first
 
 same_outcome : (one other : Result Reached Damage) → SameEnd one other → SameOutcome one other
 same_outcome (Ok one) (Ok other) same = (same.ids, same.state, same.clock)
@@ -296,17 +259,33 @@ same_outcome (Err damage) (Err other) same = same
 
 -- a directory recovers to one state only
 pub stands_once : (files : Files) (one other : Result Reached Damage) → IsDirectoryState files one → IsDirectoryState files other → SameOutcome one other
-stands_once files one other (journals, unread, reads, enough, is) (others, beyond, its_reads, its_enough, its) =
-    let ends = by_snapshot (last_or None (filter is_snapshot (finite.keys files))) (subst (IsEnough unread) is enough) (subst (IsEnough beyond) its its_enough) in
-    same_outcome one other (subst (λ o. SameEnd o other) (sym is) (subst (SameEnd (directory_state (filter is_snapshot (finite.keys files)) journals)) (sym its) ends))
+stands_once files one other first second =
+    same_outcome one other
+    (subst (λ o. SameEnd o other) (sym first.is)
+    (subst (SameEnd (directory_state snapshots first.journals)) (sym second.is) (by_origin (origin_of snapshots))))
   where
-    by_snapshot : (snapshot : Option (List ℕ)) → IsEnough unread (without_snapshot snapshot journals) → IsEnough beyond (without_snapshot snapshot others)
-        → SameEnd (without_snapshot snapshot journals) (without_snapshot snapshot others)
-    by_snapshot None enough its_enough =
-        journals_alike files journals others unread beyond nothing_yet nothing_yet (reads.names ∙ sym its_reads.names)
-        (subst (AllByRecursion (IsThere files)) (sym reads.names) (all_there files is_journal))
-        reads.each its_reads.each enough its_enough (record { ids = tt; state = refl; clock = refl })
-    by_snapshot (Some name) enough its_enough = refl
+    snapshots : List (List ℕ)
+    snapshots = filter is_snapshot (finite.keys files)
+
+    by_origin : (origin : Result Origin Damage) → SameEnd (after_origin first.journals origin) (after_origin second.journals origin)
+    by_origin (Err damage) = refl
+    by_origin (Ok origin) =
+        journals_alike files first.journals second.journals (reached_at origin) (reached_at origin) (first.names ∙ sym second.names)
+        (subst (AllByRecursion (IsListed files)) (sym first.names) (all_there files is_journal))
+        first.each second.each (record { ids = tt; state = refl; clock = refl })
+
+-- every file that is there reads as something
+pub each_read : (files : Files) (names : List (List ℕ)) → AllByRecursion (IsListed files) names
+    → (journals : List Named) × (names_of journals ≡ names) × ReadAll files journals
+each_read files [] there = ([], refl, tt)
+each_read files (name ∷ names) there =
+    let others = each_read files names there.1 in
+    let first = found_read (finite.get files name) in
+    ((name, first.0) ∷ others.0, ap (λ rest. name ∷ rest) others.1, (first.1, others.2))
+  where
+    found_read : (found : Option File) → (read : Option FileRead) × IfSome found (λ (file : File). ReadsAs file.bytes read)
+    found_read None = (None, tt)
+    found_read (Some file) = some_reading file.bytes
 
 -- where it recovers to a state and a vclock, they are the only ones
 pub one_state : (files : Files) (one other : Reached) → IsDirectoryState files (Ok one) → IsDirectoryState files (Ok other)

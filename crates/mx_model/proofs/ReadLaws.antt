@@ -21,7 +21,7 @@ use Rattle.mx_model.specs.declared.damage.Damage.{Damage}
 use Rattle.mx_model.specs.Directories.{Named, Reached, ReadAll, Origin, IsDirectoryState, directory_state}
 use Rattle.mx_model.specs.Survival.{FollowFrom, NoFewerSurvive, ReadsMost, StandsAfter, Survive}
 use Rattle.mx_model.proofs.CountLaws.{counted_once, front_longer}
-use Rattle.mx_model.proofs.DirectoryLaws.{ReadAll, names_of, names_same}
+use Rattle.mx_model.proofs.DirectoryLaws.{names_of, names_same}
 use Rattle.mx_model.proofs.ImageLaws.{journal_counts, snapshot_counts}
 
 -- ---- files with the same contents recover to the same
@@ -48,26 +48,25 @@ all_of_kind kind (name ∷ names) = by_test (all_of_kind kind names) (kind name)
     by_test others true is = (is, others)
     by_test others false is = others
 
-reads_alike : (older newer : Files) → SameContents older newer → (journals : List Named) (unread : List (List ℕ))
-    → AllByRecursion (λ name. is_journal name ≡ true) (names_of journals ++ unread) → ReadAll older journals → ReadAll newer journals
-reads_alike older newer same [] unread kinds reads = tt
-reads_alike older newer same (file ∷ journals) unread kinds reads = (
+reads_alike : (older newer : Files) → SameContents older newer → (journals : List Named)
+    → AllByRecursion (λ name. is_journal name ≡ true) (names_of journals) → ReadAll older journals → ReadAll newer journals
+reads_alike older newer same [] kinds reads = tt
+reads_alike older newer same (file ∷ journals) kinds reads = (
   bytes_alike (finite.get older file.0) (finite.get newer file.0) (λ bytes. ReadsAs bytes file.1) (same file.0 (journal_counts file.0 kinds.0)) reads.0,
-  reads_alike older newer same journals unread kinds.1 reads.1,
+  reads_alike older newer same journals kinds.1 reads.1,
 )
 
 stands_alike : (older newer : Files) (outcome : Result Reached Damage) → SameContents older newer → IsDirectoryState older outcome → IsDirectoryState newer outcome
-stands_alike older newer outcome same (journals, unread, reads, enough, is) =
+stands_alike older newer outcome same state =
     let names = names_same is_journal newer older (λ q journal. there_alike (finite.get older q) (finite.get newer q) (same q (journal_counts q journal))) in
     let snapshots =
     names_same is_snapshot newer older (λ q snapshot. there_alike (finite.get older q) (finite.get newer q) (same q (snapshot_counts q snapshot))) in
-    let kinds = subst (AllByRecursion (λ name. is_journal name ≡ true)) (sym reads.names) (all_of_kind is_journal (finite.keys older)) in (
-      journals,
-      unread,
-      record { names = reads.names ∙ sym names; each = reads_alike older newer same journals unread kinds reads.each },
-      enough,
-      is ∙ ap (λ found. directory_state found journals) (sym snapshots),
-    )
+    let kinds = subst (AllByRecursion (λ name. is_journal name ≡ true)) (sym state.names) (all_of_kind is_journal (finite.keys older)) in record {
+      journals = state.journals;
+      names = state.names ∙ sym names;
+      each = reads_alike older newer same state.journals kinds state.each;
+      is = state.is ∙ ap (λ found. directory_state found state.journals) (sym snapshots);
+    }
 
 pub after_alike : {origin : Origin} (transactions : List Tx) (older newer : Files) → SameContents older newer → StandsAfter origin transactions older
     → StandsAfter origin transactions newer

@@ -8,7 +8,7 @@ use Rattle.std.proofs.lemmas.Bool.Decides.{nat_tests}
 use Rattle.mx_model.specs.State as state
 use Rattle.mx_model.specs.State.{State, test_space, first_state, primary_key}
 use Rattle.mx_model.specs.Answers.{state_after_row}
-use Rattle.mx_model.specs.statements.Replace.{put_tuple}
+use Rattle.mx_model.specs.statements.Change.{change_in, put_change}
 use Rattle.mx_row.specs.declared.row.Row.TheVariants.{Replaced}
 
 -- two spaces tie where their numbers are the same
@@ -28,8 +28,9 @@ get-first_state space =
 pub get-state_after_row : (before : State) (space : ℕ) (tuple : List ℕ) (tuples : state.Tuples) (q : ℕ)
     → get before space ≡ Some tuples
     → get (state_after_row before (Replaced space tuple)) q ≡ (if q == space then Some (insert tuples (primary_key tuple) tuple) else get before q)
+unfolding state_after_row
 get-state_after_row before space tuple tuples q there =
-    ap (λ found. get (put_tuple before space tuple found) q) there
+    ap (λ found. get (change_in before (put_change space tuple) found) q) there
     ∙ get-insert nat_cmp_total before space (insert tuples (primary_key tuple) tuple) q
     ∙ ap (λ b. cond b (Some (insert tuples (primary_key tuple) tuple)) (get before q)) (spaces_tie q space)
 

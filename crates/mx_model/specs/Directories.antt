@@ -31,9 +31,22 @@ pub record Reached : Type 0 where
   pub state : State
   pub clock : List ℕ
 
+-- where recovery begins: a state and its vclock
+pub record Origin : Type 0 where
+  pub state : State
+  pub clock : List ℕ
+
+-- a new database
+abbrev pub new_database : Origin
+new_database = record { state = first_state; clock = replicate replicas 0 }
+
+-- what an origin without files recovers to
+abbrev pub reached_at : Origin → Reached
+reached_at origin = record { ids = None; state = origin.state; clock = origin.clock }
+
 -- what a directory without files recovers to
 abbrev pub nothing_yet : Reached
-nothing_yet = record { ids = None; state = first_state; clock = replicate replicas 0 }
+nothing_yet = reached_at new_database
 
 abbrev pub ids_in : Head → Ids
 ids_in head = record { me = head.replica; instance = head.instance; set = head.set }
@@ -120,40 +133,45 @@ abbrev pub after_files : List Named → Reached → Result Reached Damage
 after_files [] reached = Ok reached
 after_files (file ∷ files) reached = and_then (after_files files) (after_file file reached)
 
-abbrev pub without_snapshot : Option (List ℕ) → List Named → Result Reached Damage
-without_snapshot None journals = after_files journals nothing_yet
-without_snapshot (Some name) journals = Err (record { file = name; at = 0; kind = HeadDamage })
+-- the origin that a snapshot gives, and a new database where there is none; a snapshot can't be read yet
+abbrev pub origin_by : Option (List ℕ) → Result Origin Damage
+origin_by None = Ok new_database
+origin_by (Some name) = Err (record { file = name; at = 0; kind = HeadDamage })
 
--- what these snapshots' names and these journals recover to; a snapshot, the newest of them, can't be read yet
+-- the origin by the snapshots of these names, the newest of which counts
+abbrev pub origin_of : List (List ℕ) → Result Origin Damage
+origin_of snapshots = origin_by (last_or None snapshots)
+
+abbrev pub after_origin : List Named → Result Origin Damage → Result Reached Damage
+after_origin journals (Err damage) = Err damage
+after_origin journals (Ok origin) = after_files journals (reached_at origin)
+
+-- what the snapshots of these names and these journals recover to
 abbrev pub directory_state : List (List ℕ) → List Named → Result Reached Damage
-directory_state snapshots journals = without_snapshot (last_or None snapshots) journals
+directory_state snapshots journals = after_origin journals (origin_of snapshots)
 
--- the first journals of a directory, in name order, as they read, and the names of those after them, which aren't read
-pub record Reads (files : Files) (journals : List Named) (unread : List (List ℕ)) : Type 0 where
-  pub names : map (λ journal. journal.0) journals ++ unread ≡ filter is_journal (finite.keys files)
-  pub each : AllByRecursion (λ journal. IfSome (finite.get files journal.0) (λ (file : File). ReadsAs file.bytes journal.1)) journals
+-- each of these files as it reads, where it is there
+abbrev pub ReadAll : Files → List Named → Type 0
+ReadAll files journals = AllByRecursion (λ journal. IfSome (finite.get files journal.0) (λ (file : File). ReadsAs file.bytes journal.1)) journals
 
--- what comes after the first damage needn't be read
-abbrev pub IsEnough : List (List ℕ) → Result Reached Damage → Type 0
-IsEnough unread (Ok reached) = unread ≡ []
-IsEnough unread (Err damage) = ⊤
-
--- what the files of a directory recover to, or the first damage in them
-abbrev pub IsDirectoryState : Files → Result Reached Damage → Type 0
-IsDirectoryState files outcome =
-    (journals : List Named) × (unread : List (List ℕ)) × Reads files journals unread × IsEnough unread outcome
-    × (outcome ≡ directory_state (filter is_snapshot (finite.keys files)) journals)
+-- what the files of a directory recover to, or the first damage in them: its journals count in name order, each as it reads
+pub record IsDirectoryState (files : Files) (outcome : Result Reached Damage) : Type 0 where
+  pub journals : List Named
+  pub names : map (λ journal. journal.0) journals ≡ filter is_journal (finite.keys files)
+  pub each : ReadAll files journals
+  pub is : outcome ≡ directory_state (filter is_snapshot (finite.keys files)) journals
 
 -- The journals but the one of this name, which comes after them all, recover to the base; they are its node's, where there
--- are any. There is no snapshot.
+-- are any.
 pub record Continues (base : Base) (name : List ℕ) (files : Files) : Type 0 where
   pub earlier : List Named
+  pub origin : Origin
   pub reached : Reached
-  pub no_snapshot : filter is_snapshot (finite.keys files) ≡ []
+  pub begins : origin_of (filter is_snapshot (finite.keys files)) ≡ Ok origin
   pub names : filter is_journal (finite.keys files) ≡ map (λ file. file.0) earlier ++ name ∷ []
   pub others : AllByRecursion (λ file. same_bytes file.0 name ≡ false) earlier
-  pub reads : AllByRecursion (λ file. IfSome (finite.get files file.0) (λ (f : File). ReadsAs f.bytes file.1)) earlier
-  pub reaches : after_files earlier nothing_yet ≡ Ok reached
+  pub reads : ReadAll files earlier
+  pub reaches : after_files earlier (reached_at origin) ≡ Ok reached
   pub ids : (reached.ids ≡ None) ⊎ (reached.ids ≡ Some base.ids)
   pub state : reached.state ≡ base.state
   pub clock : reached.clock ≡ base.clock

@@ -7,9 +7,11 @@ pub mod Directories
 pub mod DamageText
 pub mod Stored
 pub mod Selecting
+pub mod Scans
 pub mod Histories
 pub mod Order
 pub mod Gate
+pub mod Replies
 pub mod ReplyStream
 pub mod Slow
 pub mod Survival

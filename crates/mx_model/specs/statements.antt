@@ -1,3 +1,5 @@
+pub mod Statement
+pub mod Change
 pub mod Answer
 pub mod Lookup
 pub mod Select

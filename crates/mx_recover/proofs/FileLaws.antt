@@ -1,7 +1,7 @@
 -- What one file more makes of what a directory's journals recover to.
 use Rattle.std.proofs.Common.{◌≡◌, ℕ, Bool, true, false, cond, List, [], ◌∷◌, ◌++◌, Option, Some, None, is_some, IsSome, Result, Ok, Err, refl, sym, ap, ◌∙◌, subst, inl, inr}
 use Rattle.std.specs.Prelude.{IfSome, OnOk}
-use Rattle.std.specs.List.{filter, last_or}
+use Rattle.std.specs.List.{filter, last_or, AllByRecursion}
 use Rattle.std.specs.Ordering.{eq_by_cmp}
 use Rattle.std.specs.Cmp.Lexicographic.{bytes_decides}
 use Rattle.std.specs.FinMap as finite
@@ -13,10 +13,11 @@ use Rattle.std.proofs.lemmas.Result.{on_ok_weaker}
 use Rattle.std.proofs.lemmas.Map.Text.{is_eq-slice_cmp}
 use Rattle.mx_outside.specs.Disks.{Disk, File, Files, IfKnown, IsThere, OfFile}
 use Rattle.mx_model.specs.declared.damage.Damage.{Damage}
-use Rattle.mx_model.specs.Directories.{Named, Reached, IsDirectoryState, nothing_yet, and_then, after_file, after_files, directory_state}
+use Rattle.mx_model.specs.Directories.{Named, Reached, ReadAll, IsDirectoryState, nothing_yet, and_then, after_file, after_files, directory_state}
 use Rattle.mx_xlog.specs.Files.{FileRead, ReadsAs}
 use Rattle.mx_files.specs.Names.{is_journal, is_snapshot}
 use Rattle.mx_model.proofs.DirectoryLaws.{by_name, names_in, names_of, after_files-append, append_all, map-append}
+use Rattle.mx_model.proofs.OnceLaws.{IsListed, all_there, each_read}
 use Rattle.mx_images.proofs.ToldLaws.{where_told, told_weaker, told_both}
 use Rattle.mx_recover.specs.Replay.{Passes, IsUnderway}
 
@@ -106,40 +107,58 @@ no_snapshot snapshots journals outcome none is = sym is ∙ ap (λ names. direct
 
 pub all_passed : (found : Files) (reached : Reached) → filter is_snapshot (finite.keys found) ≡ [] → IsUnderway found [] reached
     → IsDirectoryState found (Ok reached)
-all_passed found reached none way = (
-  way.journals,
-  [],
-  record {
-    names = append-nil (names_of way.journals) ∙ way.names ∙ ap (filter is_journal) (sym (append-nil way.passed) ∙ way.split);
-    each = way.each;
-  },
-  refl,
-  no_snapshot (filter is_snapshot (finite.keys found)) way.journals (Ok reached) none way.after,
-)
+all_passed found reached none way = record {
+  journals = way.journals;
+  names = way.names ∙ ap (filter is_journal) (sym (append-nil way.passed) ∙ way.split);
+  each = way.each;
+  is = no_snapshot (filter is_snapshot (finite.keys found)) way.journals (Ok reached) none way.after;
+}
+
+-- after a damage nothing counts
+damaged_already : (journals more : List Named) (damage : Damage) → after_files journals nothing_yet ≡ Err damage
+    → after_files (journals ++ more) nothing_yet ≡ Err damage
+damaged_already journals more damage is = after_files-append journals more nothing_yet ∙ ap (and_then (after_files more)) is
+
+both_read : (found : Files) (journals more : List Named) → ReadAll found journals → ReadAll found more → ReadAll found (journals ++ more)
+both_read found [] more reads others = others
+both_read found (file ∷ journals) more reads others = (reads.0, both_read found journals more reads.1 others)
+
+-- what holds of each of these names holds of the last ones
+all_last : (P : List ℕ → Type 0) (names more : List (List ℕ)) → AllByRecursion P (names ++ more) → AllByRecursion P more
+all_last P [] more all = all
+all_last P (name ∷ names) more all = all_last P names more all.1
 
 pub one_damaged : (found : Files) (name : List ℕ) (others : List (List ℕ)) (before : Reached) (damage : Damage)
     → filter is_snapshot (finite.keys found) ≡ [] → IsUnderway found (name ∷ others) before
     → Passes found name before (Err damage) → IsDirectoryState found (Err damage)
 one_damaged found name others before damage none way (inl other) = absurd cc
-one_damaged found name others before damage none way (inr (journal, read, reads, is)) = (
-  way.journals ++ (name, read) ∷ [],
-  filter is_journal others,
-  record {
-    names = ap (λ names. names ++ filter is_journal others)
-        (map-append way.journals ((name, read) ∷ []) ∙ ap (λ names. names ++ name ∷ []) way.names ∙ sym (filter-more name way.passed journal))
-        ∙ sym (filter-append is_journal (way.passed ++ name ∷ []) others)
-        ∙ ap (filter is_journal) (moved_on name way.passed others (finite.keys found) way.split);
-    each = append_all (λ (file : Named). IfSome (finite.get found file.0) (λ (f : File). ReadsAs f.bytes file.1)) way.journals (name, read) way.each reads;
-  },
-  tt,
-  no_snapshot (filter is_snapshot (finite.keys found)) (way.journals ++ (name, read) ∷ []) (Err damage) none
-      (one_more way.journals (name, read) before (Err damage) way.after is),
-)
+one_damaged found name others before damage none way (inr (journal, read, reads, is)) =
+    let split : filter is_journal (way.passed ++ name ∷ []) ++ filter is_journal others ≡ filter is_journal (finite.keys found) =
+    sym (filter-append is_journal (way.passed ++ name ∷ []) others)
+    ∙ ap (filter is_journal) (moved_on name way.passed others (finite.keys found) way.split) in
+    let there = all_last (IsListed found) (filter is_journal (way.passed ++ name ∷ [])) (filter is_journal others)
+    (subst (AllByRecursion (IsListed found)) (sym split) (all_there found is_journal)) in
+    let more = each_read found (filter is_journal others) there in
+    let journals = way.journals ++ (name, read) ∷ [] in record {
+      journals = journals ++ more.0;
+      names = map-append journals more.0
+          ∙ ap (λ names. names ++ names_of more.0)
+          (map-append way.journals ((name, read) ∷ []) ∙ ap (λ names. names ++ name ∷ []) way.names ∙ sym (filter-more name way.passed journal))
+          ∙ ap (λ names. filter is_journal (way.passed ++ name ∷ []) ++ names) more.1
+          ∙ split;
+      each = both_read found journals more.0
+          (append_all (λ (file : Named). IfSome (finite.get found file.0) (λ (f : File). ReadsAs f.bytes file.1)) way.journals (name, read) way.each reads)
+          more.2;
+      is = no_snapshot (filter is_snapshot (finite.keys found)) (journals ++ more.0) (Err damage) none
+          (damaged_already journals more.0 damage (one_more way.journals (name, read) before (Err damage) way.after is));
+    }
 
 -- a snapshot is damage enough
-pub snapshot_damaged : (found : Files) (damage : Damage) → directory_state (filter is_snapshot (finite.keys found)) [] ≡ Err damage
-    → IsDirectoryState found (Err damage)
-snapshot_damaged found damage is = ([], filter is_journal (finite.keys found), record { names = refl; each = tt }, tt, sym is)
+pub snapshot_damaged : (found : Files) (damage : Damage)
+    → ((journals : List Named) → directory_state (filter is_snapshot (finite.keys found)) journals ≡ Err damage) → IsDirectoryState found (Err damage)
+snapshot_damaged found damage is =
+    let all = each_read found (filter is_journal (finite.keys found)) (all_there found is_journal) in
+    record { journals = all.0; names = all.1; each = all.2; is = sym (is all.0) }
 
 -- The same where the directory's files are known.
 
@@ -201,9 +220,11 @@ ends states names rest reached all none done way = told_both states
     all way
 
 pub snapshot_breaks : (states : Option (List Disk)) (names : List (List ℕ)) (damage : Damage) → IfKnown states (λ disk past. names ≡ finite.keys disk.now)
-    → directory_state (filter is_snapshot names) [] ≡ Err damage → IfKnown states (λ disk past. IsDirectoryState disk.now (Err damage))
+    → ((journals : List Named) → directory_state (filter is_snapshot names) journals ≡ Err damage)
+    → IfKnown states (λ disk past. IsDirectoryState disk.now (Err damage))
 snapshot_breaks states names damage all damaged = told_weaker states
-    (λ disk past is. snapshot_damaged disk.now damage (ap (λ found. directory_state (filter is_snapshot found) []) (sym is) ∙ damaged)) all
+    (λ disk past is. snapshot_damaged disk.now damage
+    (λ journals. ap (λ found. directory_state (filter is_snapshot found) journals) (sym is) ∙ damaged journals)) all
 
 pub read_given : {given bytes : List ℕ} → given ≡ bytes → (read : Option FileRead) → ReadsAs given read → ReadsAs bytes read
 read_given same read reads = subst (λ b. ReadsAs b read) same reads

@@ -1,4 +1,4 @@
--- What a statement answers: a reply, what it writes to the journal, and what it read.
+-- What a statement answers: a reply, what it writes to the journal and changes, and what it read.
 use Rattle.std.specs.Prelude.{ℕ, List, [], Option, None}
 use Rattle.mx_base.specs.declared.refusal.Refusal.{Refusal}
 use Rattle.mx_base.specs.declared.refusal.Refusal.TheVariants.{UnknownRequestType}
@@ -7,7 +7,8 @@ use Rattle.mx_request.specs.Spelling.{type_number}
 use Rattle.mx_key.specs.Ranges.{Range}
 use Rattle.mx_row.specs.declared.row.Row.{Row}
 use Rattle.mx_model.specs.declared.reply.Reply.{Reply}
-use Rattle.mx_model.specs.declared.reply.Reply.TheVariants.{Refused}
+use Rattle.mx_model.specs.declared.reply.Reply.TheVariants.{Tuples, Refused}
+use Rattle.mx_model.specs.statements.Change.{Change}
 
 -- a range of an index's keys that a statement reads
 pub record Read : Type 0 where
@@ -15,19 +16,24 @@ pub record Read : Type 0 where
   pub index : ℕ
   pub range : Range
 
--- a reply, what the statement writes to the journal, and what it read, in order
+-- a reply, what the statement writes to the journal, what that changes, and what it read, in order
 pub record Answer : Type 0 where
   pub reply : Reply
   pub row : Option Row
+  pub change : Option Change
   pub reads : List Read
 
 -- a reply that writes nothing and read nothing
 abbrev pub reply_alone : Reply → Answer
-reply_alone reply = record { reply = reply; row = None; reads = [] }
+reply_alone reply = record { reply = reply; row = None; change = None; reads = [] }
 
 -- a refusal, after these reads
 abbrev pub refusal_after : List Read → Refusal → Answer
-refusal_after reads refusal = record { reply = Refused refusal; row = None; reads = reads }
+refusal_after reads refusal = record { reply = Refused refusal; row = None; change = None; reads = reads }
+
+-- tuples that were found, after these reads
+abbrev pub tuples_after : List Read → List (List ℕ) → Answer
+tuples_after reads tuples = record { reply = Tuples tuples; row = None; change = None; reads = reads }
 
 abbrev pub refusal_alone : Refusal → Answer
 refusal_alone refusal = refusal_after [] refusal

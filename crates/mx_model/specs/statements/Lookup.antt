@@ -30,7 +30,7 @@ abbrev pub schema_reads : ℕ → List Read
 schema_reads space = space_read space ∷ index_read space ∷ []
 
 -- the answer on the space's tuples, where there is such a space
-abbrev pub in_space : ℕ → Option state.Tuples → (state.Tuples → Answer) → Answer
+unfoldable pub in_space : ℕ → Option state.Tuples → (state.Tuples → Answer) → Answer
 in_space space None answer = refusal_after (space_read space ∷ []) (SpaceMissing (record { 0 = space }))
 in_space space (Some tuples) answer = answer tuples
 

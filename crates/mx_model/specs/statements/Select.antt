@@ -12,8 +12,7 @@ use Rattle.mx_key.specs.Ranges.{Range, range_of}
 use Rattle.mx_model.specs.State as state
 use Rattle.mx_model.specs.State.{test_name, test_parts}
 use Rattle.mx_model.specs.Picks.{Selection, pick, entries_of, total_bytes, max_result_size}
-use Rattle.mx_model.specs.declared.reply.Reply.TheVariants.{Tuples}
-use Rattle.mx_model.specs.statements.Answer.{Read, Answer, refusal_after}
+use Rattle.mx_model.specs.statements.Answer.{Read, Answer, refusal_after, tuples_after}
 use Rattle.mx_model.specs.statements.Lookup.{schema_reads, type_of}
 
 -- the iterator of this number
@@ -37,7 +36,7 @@ abbrev pub select_found : (space index : ℕ) → Range → Selection → Answer
 select_found space index whole found =
     if nat_lt max_result_size (total_bytes found.tuples)
     then refusal_after (schema_reads space ++ range_reads space index (Some whole)) ResultTooLong
-    else record { reply = Tuples found.tuples; row = None; reads = schema_reads space ++ range_reads space index found.read }
+    else tuples_after (schema_reads space ++ range_reads space index found.read) found.tuples
 
 -- why a key doesn't fit the one index
 abbrev pub misfit_refusal : Misfit → Refusal

@@ -2,13 +2,11 @@
 
 ghost use Rattle.std.specs.Prelude.{◌≡◌, IfOk};
 ghost use Rattle.mx_base.specs.declared.refusal.Refusal.TheVariants.{IndexMissing, UnknownRequestType};
-ghost use Rattle.mx_request.specs.Spelling.{type_number};
 ghost use Rattle.mx_model.specs.State.{test_name};
 ghost use Rattle.mx_model.specs.statements.Lookup as lookup;
 
 use mx_base::{IndexId, Name, Refusal, TypeName};
 use mx_key::PartKind;
-use mx_request::Request;
 use std::alloc::{AllocError, Global};
 
 /// The number of the one space there is.
@@ -17,12 +15,12 @@ pub const TEST_SPACE: u32 = 512;
 /// The name of the one space there is.
 const TEST_NAME: &str = "test";
 
-/// The refusal of a request that isn't built yet: as if its type were unknown.
-pub fn not_built(request: &Request) -> Refusal
-    ensures { result ≡ UnknownRequestType (type_number request.now) }
+/// The refusal of a request of this type, which isn't built yet: as if the type were unknown.
+pub fn not_built(kind: u8) -> Refusal
+    ensures { result ≡ UnknownRequestType kind }
 {
     Refusal::UnknownRequestType {
-        kind: u64::from(request.kind()),
+        kind: u64::from(kind),
     }
 }
 

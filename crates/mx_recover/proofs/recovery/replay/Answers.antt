@@ -11,7 +11,7 @@ returns-in_err-refuse_snapshot-clause-damaged g c = λ damage is.
     let from = p.1 in
     let same = p.2 in
     let was = c.in_err-refuse_snapshot.was in
-    snapshot_breaks _ _ damage c.requires (c.refuse_snapshot.ensures.damaged damage [] cc)
+    snapshot_breaks _ _ damage c.requires (λ journals. c.refuse_snapshot.ensures.damaged damage journals cc)
 
 pub loop-name-init : goal.loop-name-init
 loop-name-init g c = record { states = refl; later = omega arith; quiet = refl; way = (nothing_yet, c.in_ok-reached.ensures, begins _ _ c.requires) }
