@@ -1,6 +1,8 @@
 -- What a step makes of an engine, and of its history.
-use Rattle.std.proofs.Common.{◌≡◌, ◌⊎◌, inl, inr, ℕ, suc, ◌+◌, ◌-◌, ◌<◌, ◌≤◌, Bool, true, false, not, List, [], ◌∷◌, ◌++◌, length, refl, true≢false, sym, ap, ◌∙◌, subst, append-nil, arith}
+use Rattle.std.proofs.Common.{◌≡◌, ◌⊎◌, inl, inr, ℕ, suc, ◌+◌, ◌-◌, ◌%◌, ◌^◌, ◌<◌, ◌≤◌, Bool, true, false, not, List, [], ◌∷◌, ◌++◌, length, refl, true≢false, sym, ap, ◌∙◌, subst, append-nil, arith}
 use Rattle.std.specs.FinMap.{get}
+use Rattle.std.specs.List.{filter}
+use Rattle.std.proofs.lemmas.List.Elements.{filter-append}
 use Rattle.std.specs.Prelude.{Ok, Err, ◌==◌, ◌&&◌, ◌||◌, Some, None, nat_lt, slice_index, slice_set, if◌then◌else◌}
 use Rattle.std.proofs.lemmas.Bool.{eqb-true, lt-ltb, le-ltb}
 use Rattle.mx_vclock.specs.Vclocks.{max_lsn, IsNext}
@@ -27,13 +29,17 @@ use Rattle.mx_model.specs.declared.pick.SelectStop.TheVariants.{TooLong, NoMemor
 use Rattle.mx_model.specs.Picks.{pick, entries_of, total_bytes, max_result_size}
 use Rattle.mx_model.specs.State.{State, test_space, test_parts}
 use Rattle.mx_model.specs.Stored.{Holds}
+use Rattle.mx_model.specs.Scans.{SelectsByArray}
+use Rattle.mx_model.specs.declared.pick.Pick.{Pick}
+use Rattle.mx_model.specs.declared.pick.SelectFault.{SelectFault}
+use Rattle.mx_model.specs.declared.pick.SelectFault.TheVariants as faults
 use Rattle.mx_model.specs.Answers.{answer_to, state_after_row}
 use Rattle.mx_model.specs.statements.Replace.{replace_answer_in, replaced}
 use Rattle.mx_model.specs.statements.Select.{select_answer, iterator_of, misfit_refusal}
 use Rattle.mx_model.specs.Selecting.{stop_refusal}
 use Rattle.mx_model.specs.statements.Lookup.{schema_reads, in_space}
 use Rattle.mx_model.specs.statements.Answer.{Answer, Read, refusal_alone, refusal_after, not_built}
-use Rattle.mx_model.specs.Transactions.{state_after}
+use Rattle.mx_model.specs.Transactions.{state_after, is_schema_commit, schema_version}
 use Rattle.mx_row.specs.Clocks.{clock_after}
 use Rattle.mx_model.specs.Histories.{Base, History, Asked, Left, node_answer, answer_in, with_lsn, commit_of, is_write, commits_of, writable_node, is_out_of_memory, ledger_of, state_of, clock_of}
 use Rattle.mx_model.proofs.AnswerLaws.{one_space, key_is_misfit, tuples_are_picked, result_is_too_long}
@@ -91,6 +97,7 @@ answers_no_row old new before request reply told none stores clock =
       told = told;
       stores = subst (Stores old new before) nothing stores;
       clock = clock ∙ ap (clock_after old.clock) nothing;
+      schema = ap (filter is_schema_commit) (sym nothing);
     }
 
 -- as it is
@@ -135,6 +142,7 @@ pub answers_selected : (engine : Engine) (before : State) (asked : Request) (rep
     → asked ≡ request.Select space index limit offset iterator key → sought ≡ key → kind ≡ iterator_of iterator
     → IsReplyOf reply (in_space space.0 (get before space.0) (select_answer space.0 index.0 limit offset kind sought))
     → AnswersRequest engine engine before asked reply
+unfolding answer_to
 answers_selected engine before asked reply space index limit offset iterator key sought kind taken holds is same by told =
     let answer : answer_to before asked ≡ in_space space.0 (get before space.0) (select_answer space.0 index.0 limit offset kind sought) =
     ap (answer_to before) is
@@ -152,11 +160,12 @@ module _ (engine : Engine) (before : State) (space : SpaceId) (tuple : List ℕ)
   -- it is refused, or out of memory
   pub answers_unchecked : (refusal : Refusal) → ((reads : List Read) × (replace_answer_in before space.0 tuple ≡ refusal_after reads refusal)) ⊎ (refusal ≡ OutOfMemory)
       → AnswersRequest engine engine before asked (Refused refusal)
+  unfolding answer_to
   answers_unchecked refusal (inl (reads, is)) =
       answers_refused engine before asked reads refusal (answer_without_row engine before asked (refusal_after reads refusal) taken is refl) holds
   answers_unchecked refusal (inr none) =
       subst (λ r. AnswersRequest engine engine before asked (Refused r)) (sym none)
-      record { told = inr refl; stores = stores_nothing engine before holds; clock = refl }
+      record { told = inr refl; stores = stores_nothing engine before holds; clock = refl; schema = refl }
 
   module _ (put : replace_answer_in before space.0 tuple ≡ replaced space.0 tuple) where
     -- the node is the one that may be written
@@ -167,6 +176,7 @@ module _ (engine : Engine) (before : State) (space : SpaceId) (tuple : List ℕ)
     answer used_up = if used_up then refusal_after (schema_reads space.0) LsnsUsedUp else replaced space.0 tuple
 
     pub replaced_by : (used_up : Bool) → nat_lt max_lsn (lsn_after engine) ≡ used_up → answer_by engine before asked ≡ answer used_up
+    unfolding answer_to
     replaced_by used_up test = answer_taken engine before asked (answer false) taken put ∙ ap answer test
 
     pub answers_used_up : max_lsn < suc (slice_index engine.clock writable_node) → AnswersRequest engine engine before asked (Refused LsnsUsedUp)
@@ -178,7 +188,7 @@ module _ (engine : Engine) (before : State) (space : SpaceId) (tuple : List ℕ)
 -- out of memory
 pub answers_no_memory : (old new : Engine) (before : State) (request : Request) → Stores old new before [] → new.clock ≡ old.clock
     → AnswersRequest old new before request (Refused OutOfMemory)
-answers_no_memory old new before request stores clock = record { told = inr refl; stores = stores; clock = clock }
+answers_no_memory old new before request stores clock = record { told = inr refl; stores = stores; clock = clock; schema = refl }
 
 -- a REPLACE that is taken
 pub answers_replaced : (old put : Engine) (before : State) (clock : List ℕ) (lsn : ℕ) (space : SpaceId) (tuple copy : List ℕ) (tuples : List (List ℕ))
@@ -204,14 +214,21 @@ answers_replaced old put before clock lsn space tuple copy tuples taken holds th
       told = inl (ap (λ t. Tuples t) (shown ∙ ap (λ t. t ∷ []) same) ∙ sym (ap (λ a. a.reply) is));
       stores = subst (Stores old (record put { clock = clock }) before) commits record { holds = stores.holds; pending = stores.pending };
       clock = reached ∙ ap (slice_set old.clock writable_node) last ∙ ap (clock_after old.clock) commits;
+      schema = ap (filter is_schema_commit) (sym commits);
     }
+
+-- commits that change no schema leave its version as it is
+schema_stays : (journal more : List Tx) → filter is_schema_commit more ≡ [] → schema_version (journal ++ more) ≡ schema_version journal
+schema_stays journal more none =
+    ap (λ (l : List Tx). length l % 2 ^ 32)
+    (filter-append is_schema_commit journal more ∙ ap (λ l. filter is_schema_commit journal ++ l) none ∙ append-nil (filter is_schema_commit journal))
 
 -- an engine that answered a request has one step more
 pub stands_answered : (old new : Engine) (base : Base) (history : History) (name : TxnName) (request : Request) (reply : Reply)
     → EngineStandsFor old base history → IsAskable request → AnswersRequest old new (state_of base history) request reply
-    → new.ids ≡ old.ids → new.count ≡ old.count + 1 → new.durable ≡ old.durable
+    → new.ids ≡ old.ids → new.count ≡ old.count + 1 → new.durable ≡ old.durable → new.schema ≡ old.schema
     → EngineStandsFor new base (Asked name (ask.Request request) reply ∷ history)
-stands_answered old new base history name request reply stands can answers ids count durable =
+stands_answered old new base history name request reply stands can answers ids count durable schema =
     let before = state_of base history in
     let memory = is_out_of_memory reply in
     let ledger = ledger_of base history in
@@ -235,6 +252,9 @@ stands_answered old new base history name request reply stands can answers ids c
         durable = durable ∙ was.durable;
         pending = answers.stores.pending ∙ ap (λ front. front ++ commits_by old before request reply) was.pending
             ∙ ap (λ more. untaken ledger ++ more) commits ∙ sym (untaken-asked base name (ask.Request request) reply history);
+        schema = schema ∙ was.schema
+            ∙ sym (schema_stays ledger.journal (commits_of ledger name (ask.Request request) reply)
+            (ap (filter is_schema_commit) (sym commits) ∙ answers.schema));
       };
     }
 
@@ -252,6 +272,7 @@ stands_refused engine base history name refusal stands =
         count = omega (arith, was.count);
         durable = was.durable;
         pending = was.pending ∙ sym (append-nil _) ∙ sym (untaken-asked base name (ask.Refused refusal) (Refused refusal) history);
+        schema = was.schema ∙ sym (schema_stays (ledger_of base history).journal [] refl);
       };
     }
 
@@ -273,6 +294,7 @@ stands_left engine base history connection stands =
         count = omega (arith, was.count);
         durable = was.durable;
         pending = was.pending;
+        schema = was.schema;
       };
     }
 
@@ -282,8 +304,8 @@ pub stands_counted : (engine new : Engine) (base : Base) (history : History) (na
     → SameNode (counted engine) new → EngineStandsFor new base (Asked name (ask.Request asked) reply ∷ history)
 stands_counted engine new base history name asked reply stands can answers keeps =
     stands_answered engine new base history name asked reply stands can
-    record { told = answers.told; stores = record { holds = answers.stores.holds; pending = answers.stores.pending }; clock = answers.clock }
-    keeps.ids keeps.count keeps.durable
+    record { told = answers.told; stores = record { holds = answers.stores.holds; pending = answers.stores.pending }; clock = answers.clock; schema = answers.schema }
+    keeps.ids keeps.count keeps.durable keeps.schema
 
 -- an engine that counted a request that it doesn't take has one step more
 pub stands_read_only : (engine : Engine) (base : Base) (history : History) (name : TxnName) (asked : Request)
@@ -294,7 +316,7 @@ stands_read_only engine base history name asked stands can other =
     stands_counted engine (counted engine) base history name asked (Refused (ReadOnly (record { 0 = writable_node }))) stands can
     (answers_refused (counted engine) before asked [] (ReadOnly (record { 0 = writable_node })) (answer_read_only (counted engine) before asked other)
     stands.matches.holds)
-    record { ids = refl; count = refl; durable = refl }
+    record { schema = refl; ids = refl; count = refl; durable = refl }
 
 -- what an engine counts is how many steps its history has
 pub count_is_length : (engine : Engine) (base : Base) (history : History) → EngineStandsFor engine base history → engine.count ≡ length history
@@ -332,6 +354,33 @@ module _ (memory : coded.State) (before : State) (holds : Holds memory before) (
         inl (ap (λ r. Refused r) (is ∙ ap stop_refusal long)
         ∙ sym (ap (λ a. a.reply) (result_is_too_long before (one_space memory before holds) space.0 index.0 limit offset iterator key same first fitting gives above)))
     tells_stop stop refusal is (inr none) = inr (ap (λ r. Refused r) (is ∙ ap stop_refusal none))
+
+-- why a SELECT by a key that is an array picks no tuples
+module _ (memory : coded.State) (before : State) (holds : Holds memory before) (space : SpaceId) (index : IndexId) (wanted : Pick) (tuples : List (List ℕ))
+    (there : space.0 ≡ test_space) (first : index.0 ≡ 0) (fault : SelectFault) (tells : SelectsByArray before holds wanted tuples (Err fault)) where
+  abbrev by_array : Answer
+  by_array = in_space space.0 (get before space.0) (select_answer space.0 index.0 wanted.limit wanted.offset wanted.iterator wanted.key.now)
+
+  pub tells_array_misfit : (misfit : Misfit) (refusal : Refusal) → fault ≡ faults.Misfit misfit → refusal ≡ misfit_refusal misfit → IsReplyOf (Refused refusal) by_array
+  tells_array_misfit misfit refusal is told = by_fault tells
+    where
+      by_fault : SelectsByArray before holds wanted tuples (Err fault) → IsReplyOf (Refused refusal) by_array
+      by_fault (inl (found, also, gives)) =
+          let same : found ≡ misfit = cc in
+          tells_misfit memory before holds space index wanted.limit wanted.offset wanted.iterator wanted.key.now there first misfit refusal told
+          (gives ∙ ap (λ m. Err m) same)
+      by_fault (inr (inl (long, fitting, gives, fit, above))) = absurd cc
+      by_fault (inr (inr none)) = absurd cc
+
+  pub tells_array_long : fault ≡ faults.TooLong → IsReplyOf (Refused ResultTooLong) by_array
+  tells_array_long is = by_fault tells
+    where
+      by_fault : SelectsByArray before holds wanted tuples (Err fault) → IsReplyOf (Refused ResultTooLong) by_array
+      by_fault (inl (found, also, gives)) = absurd cc
+      by_fault (inr (inl (long, fitting, gives, fit, above))) =
+          tells_stop memory before holds space index wanted.limit wanted.offset wanted.iterator wanted.key.now there first fitting gives TooLong ResultTooLong refl
+          (inl (refl, above))
+      by_fault (inr (inr none)) = absurd cc
 
 -- a REPLACE as it was asked
 pub answers_asked : (old new : Engine) (before : State) (wanted : Request) (reply : Reply) (space : SpaceId) (tuple shown : List ℕ)

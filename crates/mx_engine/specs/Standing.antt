@@ -2,10 +2,11 @@
 use Rattle.std.specs.Prelude.{◌≡◌, drop}
 use Rattle.mx_model.specs.Stored.{Holds}
 use Rattle.mx_model.specs.Histories.{Base, History, Ledger, IsLegal, ledger_of, ledger_state, ledger_clock}
+use Rattle.mx_model.specs.Transactions.{schema_version}
 use Rattle.mx_engine.specs.declared.engine.Engine.{Engine}
 
--- The engine has what a ledger has: the state and the vclock, the number of steps, what is durable, and the transactions that
--- no take has.
+-- The engine has what a ledger has: the state and the vclock, the number of steps, what is durable, the transactions that no
+-- take has, and the schema's version.
 pub record Matches (engine : Engine) (ledger : Ledger) : Type 0 where
   pub holds : Holds engine.state (ledger_state ledger)
   pub clock : engine.clock ≡ ledger_clock ledger
@@ -13,6 +14,7 @@ pub record Matches (engine : Engine) (ledger : Ledger) : Type 0 where
   pub count : engine.count ≡ ledger.steps
   pub durable : engine.durable ≡ ledger.durable
   pub pending : engine.pending ≡ drop ledger.taken ledger.journal
+  pub schema : engine.schema ≡ schema_version ledger.journal
 
 -- the history is legal, and the engine has what it has come to
 pub record EngineStandsFor (engine : Engine) (base : Base) (history : History) : Type 0 where

@@ -1,5 +1,6 @@
 -- Only private functions and proofs need these: an engine after a step.
-use Rattle.std.specs.Prelude.{◌≡◌, ◌⊎◌, ℕ, suc, Bool, not, ◌||◌, ◌==◌, List, [], ◌∷◌, ◌++◌, slice_index}
+use Rattle.std.specs.Prelude.{true, ◌≡◌, ◌⊎◌, ℕ, suc, Bool, not, ◌||◌, ◌==◌, List, [], ◌∷◌, ◌++◌, Ok, slice_index}
+use Rattle.std.specs.List.{filter}
 use Rattle.mx_base.specs.declared.refusal.Refusal.TheVariants.{OutOfMemory}
 use Rattle.mx_request.specs.declared.request.Request.{Request}
 use Rattle.mx_model.specs.declared.ids.Ids.{Ids}
@@ -7,10 +8,16 @@ use Rattle.mx_model.specs.declared.reply.Reply.{Reply}
 use Rattle.mx_model.specs.declared.reply.Reply.TheVariants.{Refused}
 use Rattle.mx_row.specs.declared.row.Row.TheVariants.{Replaced}
 use Rattle.mx_row.specs.declared.tx.Tx.{Tx}
-use Rattle.mx_model.specs.State.{State, test_space}
+use Rattle.mx_base.specs.declared.ids.SpaceId.{SpaceId}
+use Rattle.mx_request.specs.declared.request.Request.TheVariants.{Replace}
+use Rattle.mx_key.specs.Comparable.{comparable_of}
+use Rattle.mx_key.specs.Keys.{Key, AreFit}
+use Rattle.mx_model.specs.declared.keyed.Keyed.{Keyed}
+use Rattle.mx_model.specs.statements.Replace.{replace_answer_in, replaced}
+use Rattle.mx_model.specs.State.{State, test_parts, test_space, key_in}
 use Rattle.mx_model.specs.Stored.{Holds}
 use Rattle.mx_model.specs.statements.Answer.{Answer}
-use Rattle.mx_model.specs.Transactions.{state_after}
+use Rattle.mx_model.specs.Transactions.{state_after, is_schema_commit}
 use Rattle.mx_row.specs.Clocks.{clock_after}
 use Rattle.mx_model.specs.Histories.{node_answer, commit_of, writable_node, is_out_of_memory, is_write}
 use Rattle.mx_engine.specs.declared.engine.Engine.{Engine}
@@ -23,8 +30,9 @@ IsReplyOf reply answer = (reply ≡ answer.reply) ⊎ (reply ≡ Refused OutOfMe
 abbrev pub accepts : Ids → Request → Bool
 accepts ids request = (ids.me == writable_node) || not (is_write request)
 
--- the node's identifiers, the number of steps and which of them are durable are as they were
+-- the node's identifiers, the schema's version, the number of steps and which of them are durable are as they were
 pub record SameNode (old new : Engine) : Type 0 where
+  pub schema : new.schema ≡ old.schema
   pub ids : new.ids ≡ old.ids
   pub count : new.count ≡ old.count
   pub durable : new.durable ≡ old.durable
@@ -51,8 +59,20 @@ abbrev pub commits_by : Engine → State → Request → Reply → List Tx
 commits_by engine state request reply =
     commit_of engine.ids.me (lsn_after engine) (is_out_of_memory reply) (answer_by engine state request).row
 
--- the reply is the request's answer, and what that commits is stored; or it is out of memory, and nothing is
+-- the reply is the request's answer, and what that commits is stored; or it is out of memory, and nothing is; the schema is as it was
 pub record AnswersRequest (old new : Engine) (state : State) (request : Request) (reply : Reply) : Type 0 where
   pub told : IsReplyOf reply (answer_by old state request)
   pub stores : Stores old new state (commits_by old state request reply)
   pub clock : new.clock ≡ clock_after old.clock (commits_by old state request reply)
+  pub schema : filter is_schema_commit (commits_by old state request reply) ≡ []
+
+-- a REPLACE of this tuple is no error on a state that the engine holds, and this is its key
+pub record IsPut (engine : Engine) (state : State) (space : SpaceId) (tuple : List ℕ) (keyed : Keyed) (key : Key) : Type 0 where
+  pub accepted : accepts engine.ids (Replace space tuple) ≡ true
+  pub holds : Holds engine.state state
+  pub there : space.0 ≡ test_space
+  pub put : replace_answer_in state space.0 tuple ≡ replaced space.0 tuple
+  pub key_is : key_in test_parts tuple ≡ Ok key
+  pub fit : AreFit key
+  pub bytes : keyed.key ≡ comparable_of key
+  pub copied : keyed.tuple ≡ tuple

@@ -6,24 +6,25 @@ ghost use Rattle.mx_model.specs.State as plain;
 ghost use Rattle.mx_model.specs.Stored.{Holds};
 ghost use Rattle.mx_base.specs.declared.refusal.Refusal.{Refusal};
 ghost use Rattle.mx_request.specs.declared.request.Ask.TheVariants as ask;
-ghost use Rattle.mx_request.specs.Spelling.{IsAskable};
+ghost use Rattle.mx_request.specs.declared.request.Request.{Request};
+ghost use Rattle.mx_request.specs.InPlace.{request_view};
+ghost use Rattle.mx_request.specs.Spelling.{IsAskable, type_number};
 ghost use Rattle.mx_model.specs.declared.reply.Reply.TheVariants.{Refused};
-ghost use Rattle.mx_model.specs.Histories.{Base, History, Asked, Left, Took, Confirmed, ledger_of, clock_of, is_write};
+ghost use Rattle.mx_model.specs.Histories.{Base, History, Asked, Left, Took, Confirmed, ledger_of, journal_of, clock_of};
+ghost use Rattle.mx_model.specs.Transactions.{schema_version};
 ghost use Rattle.mx_engine.specs.Standing.{EngineStandsFor};
 ghost use Rattle.mx_engine.specs.Steps as steps;
 ghost use Rattle.mx_engine.specs.Steps.{SameNode, AnswersRequest};
-ghost use Rattle.mx_engine.specs.Views.{reply_view};
+ghost use Rattle.mx_engine.specs.Views.{reply_of, reply_view};
 
-use crate::answer::Answer;
+use crate::answer::{Answer, Answered};
 use crate::pending::Pending;
 use mx_base::{ConnId, Refusal, ReplicaId, TxnName};
-use mx_model::{Ids, Pick, State, Txs, iterator_of, not_built};
-use mx_request::Request;
+use mx_model::{Ids, Pick, State, Txs, WRITABLE_NODE, is_write, iterator_of, not_built};
+use mx_msgpack::Tuples;
+use mx_request::{Request, RequestRef};
 use mx_vclock::Vclock;
 use std::alloc::{AllocError, Global};
-
-/// The replica id of the node that may be written.
-pub(crate) const WRITABLE_NODE: u8 = 1;
 
 /// A database in memory. Each call that changes it is one step, which the engine counts.
 ///
@@ -38,6 +39,8 @@ pub struct Engine {
     pub(crate) pending: Txs,
     count: u64,
     durable: u64,
+    /// The schema's version: no request changes the schema yet.
+    schema: u32,
 }
 
 impl Engine {
@@ -59,6 +62,7 @@ impl Engine {
             pending: Txs::new(alloc),
             count: 0,
             durable: 0,
+            schema: 0,
         })
     }
 
@@ -66,17 +70,61 @@ impl Engine {
     ///
     /// # Errors
     /// The request is refused, and the state is as it was.
-    pub fn request(&mut self, _name: TxnName, request: &Request) -> Result<Answer, Refusal>
+    pub fn request(&mut self, name: TxnName, request: &Request) -> Result<Answer, Refusal>
         requires { self.old.count < 2 ^ 63 - 1 }
         ensures { (base : Base) (history : History) → EngineStandsFor self.old base history → IsAskable request.now
-            → EngineStandsFor self.new base (Asked _name (ask.Request request.now) (reply_view result) ∷ history) }
+            → EngineStandsFor self.new base (Asked name (ask.Request request.now) (reply_view result) ∷ history) }
+    {
+        let mut found = Tuples::new(self.alloc);
+        match self.request_into(name, request, &mut found) {
+            Ok(answered) => Ok(answered.with(found)),
+            Err(refusal) => Err(refusal),
+        }
+    }
+
+    /// As `request`, with the answer's tuples in `found`, in place of what it had.
+    ///
+    /// # Errors
+    /// The request is refused, and the state is as it was.
+    pub fn request_into(
+        &mut self,
+        _name: TxnName,
+        request: &Request,
+        found: &mut Tuples,
+    ) -> Result<Answered, Refusal>
+        requires { self.old.count < 2 ^ 63 - 1 }
+        ensures { (base : Base) (history : History) → EngineStandsFor self.old base history → IsAskable request.now
+            → EngineStandsFor self.new base (Asked _name (ask.Request request.now) (reply_of result found.new) ∷ history) }
     {
         self.count += 1;
-        if !self.takes(request) {
+        if !self.takes(request.kind()) {
             let writable = ReplicaId(WRITABLE_NODE);
             return Err(Refusal::ReadOnly { writable });
         }
-        self.answer(request)
+        self.answer(request, found)
+    }
+
+    /// As `request_into`, of a request that stands in its packet.
+    ///
+    /// # Errors
+    /// The request is refused, and the state is as it was.
+    pub fn request_in_place(
+        &mut self,
+        _name: TxnName,
+        request: &RequestRef<'_>,
+        found: &mut Tuples,
+    ) -> Result<Answered, Refusal>
+        requires room { self.old.count < 2 ^ 63 - 1 }
+        requires askable { IsAskable (request_view request.now) }
+        ensures { (base : Base) (history : History) → EngineStandsFor self.old base history
+            → EngineStandsFor self.new base (Asked _name (ask.Request (request_view request.now)) (reply_of result found.new) ∷ history) }
+    {
+        self.count += 1;
+        if !self.takes(request.kind()) {
+            let writable = ReplicaId(WRITABLE_NODE);
+            return Err(Refusal::ReadOnly { writable });
+        }
+        self.answer_in_place(request, found)
     }
 
     /// Counts a step that changes nothing: a request that was refused before it came here.
@@ -139,6 +187,13 @@ impl Engine {
         self.count
     }
 
+    /// The schema's version: how many of these commits changed a space or an index.
+    pub fn schema(&self) -> u32
+        ensures { (base : Base) (history : History) → EngineStandsFor self.now base history → result ≡ schema_version (journal_of base history) }
+    {
+        self.schema
+    }
+
     /// How far the commits have come.
     pub fn clock(&self) -> Vclock
         ensures { (base : Base) (history : History) → EngineStandsFor self.now base history → result ≡ clock_of base history }
@@ -154,15 +209,15 @@ impl Engine {
     }
 
     /// Every node takes reads; only one takes writes.
-    fn takes(&self, request: &Request) -> bool
-        ensures { result ≡ steps.accepts self.now.ids request.now }
+    fn takes(&self, kind: u8) -> bool
+        ensures { (request : Request) → kind ≡ type_number request → result ≡ steps.accepts self.now.ids request }
     {
-        self.ids.me == WRITABLE_NODE || !is_write(request)
+        self.ids.me == WRITABLE_NODE || !is_write(kind)
     }
 
-    fn answer(&mut self, request: &Request) -> Result<Answer, Refusal>
+    fn answer(&mut self, request: &Request, found: &mut Tuples) -> Result<Answered, Refusal>
         requires { steps.accepts self.old.ids request.now ≡ true }
-        ensures answers { (state : plain.State) → Holds self.old.state state → AnswersRequest self.old self.new state request.now (reply_view result) }
+        ensures answers { (state : plain.State) → Holds self.old.state state → AnswersRequest self.old self.new state request.now (reply_of result found.new) }
         ensures keeps { SameNode self.old self.new }
     {
         match request {
@@ -180,11 +235,11 @@ impl Engine {
                     offset: *offset,
                     limit: *limit,
                 };
-                self.select(*space, *index, &pick)
+                self.select(*space, *index, &pick, found)
             }
-            Request::Replace { space, tuple } => self.replace(*space, tuple.as_slice()),
-            Request::Nop | Request::Ping => Ok(Answer::Empty),
-            Request::Id => Ok(Answer::Id),
+            Request::Replace { space, tuple } => self.replace(*space, tuple.as_slice(), found),
+            Request::Nop | Request::Ping => Ok(Answered::Empty),
+            Request::Id => Ok(Answered::Id),
             Request::Insert { .. }
             | Request::Update { .. }
             | Request::Delete { .. }
@@ -194,29 +249,51 @@ impl Engine {
             | Request::Rollback
             | Request::Join { .. }
             | Request::Subscribe { .. }
-            | Request::Ack { .. } => Err(not_built(request)),
+            | Request::Ack { .. } => Err(not_built(request.kind())),
         }
     }
-}
 
-fn is_write(request: &Request) -> bool
-    ensures { result ≡ is_write request.now }
-{
-    match request {
-        Request::Insert { .. }
-        | Request::Replace { .. }
-        | Request::Update { .. }
-        | Request::Delete { .. }
-        | Request::Upsert { .. } => true,
-        Request::Select { .. }
-        | Request::Nop
-        | Request::Ping
-        | Request::Begin
-        | Request::Commit
-        | Request::Rollback
-        | Request::Id
-        | Request::Join { .. }
-        | Request::Subscribe { .. }
-        | Request::Ack { .. } => false,
+    /// As `answer`, of a request that stands in its packet.
+    fn answer_in_place(
+        &mut self,
+        request: &RequestRef<'_>,
+        found: &mut Tuples,
+    ) -> Result<Answered, Refusal>
+        requires accepted { steps.accepts self.old.ids (request_view request.now) ≡ true }
+        requires askable { IsAskable (request_view request.now) }
+        ensures answers { (state : plain.State) → Holds self.old.state state → AnswersRequest self.old self.new state (request_view request.now) (reply_of result found.new) }
+        ensures keeps { SameNode self.old self.new }
+    {
+        match request {
+            RequestRef::Select {
+                space,
+                index,
+                limit,
+                offset,
+                iterator,
+                key,
+            } => {
+                let pick = Pick {
+                    iterator: iterator_of(*iterator),
+                    key,
+                    offset: *offset,
+                    limit: *limit,
+                };
+                self.select_by_array(*space, *index, &pick, found)
+            }
+            RequestRef::Replace { space, tuple } => self.replace_array(*space, tuple, found),
+            RequestRef::Nop | RequestRef::Ping => Ok(Answered::Empty),
+            RequestRef::Id => Ok(Answered::Id),
+            RequestRef::Insert { .. }
+            | RequestRef::Update { .. }
+            | RequestRef::Delete { .. }
+            | RequestRef::Upsert { .. }
+            | RequestRef::Begin
+            | RequestRef::Commit
+            | RequestRef::Rollback
+            | RequestRef::Join { .. }
+            | RequestRef::Subscribe { .. }
+            | RequestRef::Ack { .. } => Err(not_built(request.kind())),
+        }
     }
 }

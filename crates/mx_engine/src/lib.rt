@@ -6,6 +6,6 @@ mod engine;
 mod pending;
 mod statements;
 
-pub use answer::Answer;
+pub use answer::{Answer, Answered};
 pub use engine::Engine;
 pub use pending::Pending;

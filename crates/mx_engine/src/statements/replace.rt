@@ -1,7 +1,8 @@
 //! REPLACE.
 
-ghost use Rattle.std.specs.Prelude.{◌≡◌, true, ◌<◌, ◌∷◌, [], Ok, suc, slice_index, slice_set, IfOk, MatchOption, MatchResult};
-ghost use Rattle.mx_vclock.specs.Vclocks.{max_lsn, IsNext};
+ghost use Rattle.mx_base.specs.declared.ids.SpaceId.{SpaceId};
+ghost use Rattle.mx_msgpack.specs.Items.{IsArray};
+ghost use Rattle.std.specs.Prelude.{◌≡◌, ℕ, List, true, ◌∷◌, [], Ok, IfOk, OnOk, MatchResult};
 ghost use Rattle.mx_key.specs.Comparable.{comparable_of};
 ghost use Rattle.mx_key.specs.Keys.{Key, AreFit};
 ghost use Rattle.mx_request.specs.declared.request.Request.TheVariants.{Replace};
@@ -9,40 +10,70 @@ ghost use Rattle.mx_model.specs.State as plain;
 ghost use Rattle.mx_model.specs.State.{key_in, test_parts};
 ghost use Rattle.mx_model.specs.Stored.{Holds};
 ghost use Rattle.mx_engine.specs.Steps as steps;
-ghost use Rattle.mx_engine.specs.Steps.{SameNode, Stores, AnswersRequest};
-ghost use Rattle.mx_engine.specs.Views.{reply_view};
+ghost use Rattle.mx_engine.specs.Steps.{SameNode, Stores, AnswersRequest, IsPut};
+ghost use Rattle.mx_engine.specs.Views.{reply_of};
 
-use crate::answer::Answer;
-use crate::engine::{Engine, WRITABLE_NODE};
+use crate::answer::Answered;
+use crate::engine::Engine;
 use mx_base::{Refusal, SpaceId};
-use mx_model::{Keyed, TEST_SPACE};
+use mx_model::{Keyed, TEST_SPACE, WRITABLE_NODE, next_lsn};
 use mx_msgpack::{Bytes, Tuples};
 use mx_row::{Row, Rows, Tx};
-use mx_vclock::Vclock;
 use std::alloc::{AllocError, Global};
 
 impl Engine {
-    pub(crate) fn replace(&mut self, space: SpaceId, tuple: &[u8]) -> Result<Answer, Refusal>
+    pub(crate) fn replace(
+        &mut self,
+        space: SpaceId,
+        tuple: &[u8],
+        found: &mut Tuples,
+    ) -> Result<Answered, Refusal>
         requires { steps.accepts self.old.ids (Replace space tuple.now) ≡ true }
-        ensures answers { (state : plain.State) → Holds self.old.state state → AnswersRequest self.old self.new state (Replace space tuple.now) (reply_view result) }
+        ensures answers { (state : plain.State) → Holds self.old.state state → AnswersRequest self.old self.new state (Replace space tuple.now) (reply_of result found.new) }
         ensures keeps { SameNode self.old self.new }
     {
         let keyed = self.state.check_replace(self.alloc, space, tuple)?;
+        self.put(keyed, found)
+    }
+
+    /// As `replace`, of a tuple that is known to be an array.
+    pub(crate) fn replace_array(
+        &mut self,
+        space: SpaceId,
+        tuple: &[u8],
+        found: &mut Tuples,
+    ) -> Result<Answered, Refusal>
+        requires accepted { steps.accepts self.old.ids (Replace space tuple.now) ≡ true }
+        requires array { IsArray tuple.now }
+        ensures answers { (state : plain.State) → Holds self.old.state state → AnswersRequest self.old self.new state (Replace space tuple.now) (reply_of result found.new) }
+        ensures keeps { SameNode self.old self.new }
+    {
+        let keyed = self.state.check_replace_of_array(self.alloc, space, tuple)?;
+        self.put(keyed, found)
+    }
+
+    /// Puts a tuple in the place of the one that has its key, and shows it.
+    fn put(&mut self, keyed: Keyed, found: &mut Tuples) -> Result<Answered, Refusal>
+        ensures answers { (state : plain.State) (space : SpaceId) (tuple : List ℕ) (key : Key) → IsPut self.old state space tuple keyed key
+            → AnswersRequest self.old self.new state (Replace space tuple) (reply_of result found.new) }
+        ensures keeps { SameNode self.old self.new }
+    {
         let mut clock = self.clock;
-        let Some(lsn) = go_on(&mut clock) else {
+        let Some(lsn) = next_lsn(&mut clock) else {
             return Err(Refusal::LsnsUsedUp);
         };
-        match self.commit(lsn, keyed) {
-            Ok(tuples) => {
+        match self.commit(lsn, keyed, found) {
+            Ok(()) => {
                 self.clock = clock;
-                Ok(Answer::Tuples(tuples))
+                Ok(Answered::Tuples)
             }
             Err(_) => Err(Refusal::OutOfMemory),
         }
     }
 
-    fn commit(&mut self, lsn: u64, keyed: Keyed) -> Result<Tuples, AllocError>
-        ensures shown { IfOk result (λ tuples. tuples ≡ keyed.tuple ∷ []) }
+    /// Commits a tuple, and shows it.
+    fn commit(&mut self, lsn: u64, keyed: Keyed, shown: &mut Tuples) -> Result<(), AllocError>
+        ensures shown { OnOk result (shown.new ≡ keyed.tuple ∷ []) }
         ensures stores { (state : plain.State) (key : Key) → Holds self.old.state state → key_in test_parts keyed.tuple ≡ Ok key → AreFit key → keyed.key ≡ comparable_of key
             → MatchResult result
             (λ _. Stores self.old self.new state (steps.transaction_of lsn keyed.tuple ∷ []))
@@ -51,34 +82,15 @@ impl Engine {
         ensures clock { self.new.clock ≡ self.old.clock }
     {
         let transaction = transaction_of(self.alloc, lsn, keyed.tuple.as_slice())?;
-        let tuples = shown(self.alloc, keyed.tuple.as_slice())?;
+        shown.clear();
+        shown.push(keyed.tuple.as_slice())?;
         self.pending.push(transaction)?;
         if let Err(fault) = self.state.replace(keyed) {
             self.pending.pop();
             return Err(fault);
         }
-        Ok(tuples)
+        Ok(())
     }
-}
-
-fn go_on(clock: &mut Vclock) -> Option<u64>
-    ensures { MatchOption result
-        (max_lsn < suc (slice_index clock.old 1))
-        (λ lsn. IsNext clock.old 1 lsn × (clock.new ≡ slice_set clock.old 1 lsn)) }
-{
-    let lsn = clock.get(WRITABLE_NODE).saturating_add(1);
-    match clock.follow(WRITABLE_NODE, lsn) {
-        Ok(()) => Some(lsn),
-        Err(_) => None,
-    }
-}
-
-fn shown(alloc: Global, tuple: &[u8]) -> Result<Tuples, AllocError>
-    ensures { IfOk result (λ tuples. tuples ≡ tuple.now ∷ []) }
-{
-    let mut tuples = Tuples::new(alloc);
-    tuples.push(Bytes::from_slice(alloc, tuple)?)?;
-    Ok(tuples)
 }
 
 fn transaction_of(alloc: Global, lsn: u64, tuple: &[u8]) -> Result<Tx, AllocError>

@@ -1,14 +1,11 @@
-use Rattle.std.proofs.Common.{sym, ◌∙◌}
-use Rattle.mx_model.specs.Histories.{state_of}
-use Rattle.mx_engine.specs.Views.{reply_view}
-use Rattle.mx_engine.proofs.EngineLaws.{stands_counted, stands_read_only}
+use Rattle.std.proofs.Common.{◌∷◌, sym, subst}
+use Rattle.mx_model.specs.declared.reply.Reply.{Reply}
+use Rattle.mx_request.specs.declared.request.Ask.TheVariants as ask
+use Rattle.mx_model.specs.Histories.{Asked}
+use Rattle.mx_engine.specs.Standing.{EngineStandsFor}
 use Rattle.mx_engine.proofs.engine.Engine.request.Goals as goal
 
-pub returns-then-not-takes : goal.returns-then-not-takes
-returns-then-not-takes c = λ base history stands can.
-    stands_read_only c.args.self.now base history c.args._name c.args.request.now stands can (sym c.takes.ensures ∙ c.if-not-takes.true)
-
-pub returns : goal.returns
-returns c = λ base history stands can.
-    stands_counted c.args.self.now c.answer.new.self base history c.args._name c.args.request.now (reply_view c.answer.result)
-    stands can (c.answer.ensures.answers (state_of base history) stands.matches.holds) c.answer.ensures.keeps
+pub returns-in-Ok : goal.returns-in-Ok
+returns-in-Ok c = λ base history stands can.
+    subst (λ (reply : Reply). EngineStandsFor c.request_into.new.self base (Asked c.args.name (ask.Request c.args.request.now) reply ∷ history))
+    (sym c.with.ensures) (c.in-Ok.ensures base history stands can)
