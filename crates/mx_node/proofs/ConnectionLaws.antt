@@ -1,6 +1,6 @@
 -- What one unit more brings to its connection: bytes, jobs, and perhaps the end.
 use Rattle.std.proofs.Common.{◌≡◌, ℕ, Bool, true, false, cond, List, [], ◌∷◌, ◌++◌, length, map, Option, Some, None, Result, Ok, Err, refl, sym, ap, ◌∙◌, subst, inl, inr, ◌⊎◌, arith}
-use Rattle.std.specs.Prelude.{not, ◌&&◌, if◌then◌else◌}
+use Rattle.std.specs.Prelude.{not, ◌&&◌}
 use Rattle.std.proofs.lemmas.List.{append-nil, append_assoc, drop_at, drop_all, map-append}
 use Rattle.mx_base.specs.declared.refusal.Refusal.{Refusal}
 use Rattle.mx_frame.specs.Packets.{First, Packet, NeedMore, Broken, size_at, first_frame, packets_of, rest_of, is_broken, breaks_off}
@@ -8,14 +8,15 @@ use Rattle.mx_frame.proofs.FrameLaws.{packets_of-append, rest_of-append, broken_
 use Rattle.mx_request.specs.declared.request.Head3.{Head3}
 use Rattle.mx_request.specs.declared.request.Request.{Request}
 use Rattle.mx_msgpack.specs.Maps.{pairs_in}
+use Rattle.mx_request.specs.Packets.{maps_in}
 use Rattle.mx_request.specs.Requests.{request_in}
 use Rattle.mx_request.proofs.AskableLaws.{asked_is_askable}
 use Rattle.mx_session.specs.declared.job.Job.{Job}
-use Rattle.mx_session.specs.Jobs.{maps_in, asked_job, job_by, job_in, broken_job, jobs_of, some_ends, ends}
+use Rattle.mx_session.specs.Jobs.{asked_job, job_by, job_in, broken_job, jobs_of, some_ends, ends}
 use Rattle.mx_session.specs.Sessions.{JobSeen, next_by}
 use Rattle.mx_session.proofs.JobLaws.{nothing_after_the_end, in_pieces}
-use Rattle.mx_node.specs.Inputs.{InputUnit, Bytes, Close}
-use Rattle.mx_node.specs.Connections.{came_after, came_from, came_on, is_open, gained, jobs_by, is_ended_by, IsJob, jobs_from}
+use Rattle.mx_node.specs.Inputs.{InputUnit, Bytes}
+use Rattle.mx_node.specs.Connections.{came_after, came_from, came_on, gained, jobs_by, is_ended_by, IsJob, jobs_from}
 
 -- ---- one unit more
 

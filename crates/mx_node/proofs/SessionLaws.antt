@@ -1,18 +1,19 @@
 -- What a session's next job leaves of the jobs of its bytes.
-use Rattle.std.proofs.Common.{◌≡◌, ℕ, ◌<◌, Bool, true, false, cond, List, [], ◌∷◌, ◌++◌, length, map, None, Ok, refl, sym, ap, ◌∙◌, subst, arith}
+use Rattle.std.proofs.Common.{◌≡◌, ℕ, ◌<◌, Bool, true, false, cond, List, [], ◌∷◌, ◌++◌, length, map, None, refl, sym, ap, ◌∙◌, subst, arith}
 use Rattle.std.specs.Prelude.{if◌then◌else◌}
 use Rattle.std.proofs.lemmas.List.{append-nil, append_assoc}
 use Rattle.mx_msgpack.proofs.ReaderLaws.{all_from_none, all_from_some}
 use Rattle.mx_frame.specs.Packets.{First, Packet, NeedMore, Broken, first_frame, packet_found, packet_at, packets_of, rest_of, is_broken}
 use Rattle.mx_frame.proofs.FrameLaws.{packet_advances}
 use Rattle.mx_session.specs.declared.job.Job.{Job}
-use Rattle.mx_session.specs.declared.session.Next.{Next}
-use Rattle.mx_session.specs.declared.session.Next.TheVariants as next
+use Rattle.mx_session.specs.declared.job.JobRef.{JobRef}
+use Rattle.mx_session.specs.declared.session.NextRef.{NextRef}
+use Rattle.mx_session.specs.declared.session.NextRef.TheVariants as next
+use Rattle.mx_session.specs.JobViews.{ShowsNext}
 use Rattle.mx_session.specs.Jobs.{job_in, jobs_of, some_ends, ends}
 use Rattle.mx_session.specs.Sessions.{SessionState, NextSeen, JobSeen, MoreNeeded, AllSeen, next_by, next_of}
-use Rattle.mx_session.specs.Returns.{ReturnsNext}
 use Rattle.mx_session.proofs.JobLaws.{goes_on, ends_there, needs_more}
-use Rattle.mx_node.specs.Ready.{TakenAll}
+use Rattle.mx_node.specs.Ready.{IsNoJob, TakenAll}
 use Rattle.mx_node.specs.Connections.{IsJob}
 use Rattle.mx_node.proofs.ConnectionLaws.{job_is_sound}
 
@@ -245,11 +246,18 @@ told_sound session job rest last seen =
     job_is_sound session.connection session.rest job rest last
     (still_open session.ended (next_by session.connection session.rest (first_frame session.rest)) job rest last seen).1
 
--- no further job was told
-pub all_told : (old now new : SessionState) (jobs : List Job) → Taken old now jobs → (told : Next) → ((job : Job) → told ≡ next.Job job → ⊥)
-    → ReturnsNext (Ok told) now new → TakenAll old new × (jobs_of old.connection old.rest ≡ jobs) × (new ≡ now)
-all_told old now new jobs so_far (next.Job job) none tells = absurd (none job refl)
-all_told old now new jobs so_far next.NeedMore none tells =
-    let all = all_where_more old now jobs so_far tells.0 in (subst (λ (s : SessionState). TakenAll old s) (sym tells.1) all.0, all.1, tells.1)
-all_told old now new jobs so_far next.Ended none tells =
-    let all = all_where_ended old now jobs so_far tells.0 in (subst (λ (s : SessionState). TakenAll old s) (sym tells.1) all.0, all.1, tells.1)
+-- no further job is told
+pub all_told : (old now : SessionState) (jobs : List Job) → Taken old now jobs → IsNoJob (next_of now)
+    → TakenAll old now × (jobs_of old.connection old.rest ≡ jobs)
+all_told old now jobs so_far = by_next (next_of now) refl
+  where
+    by_next : (next : NextSeen) → next_of now ≡ next → IsNoJob next → TakenAll old now × (jobs_of old.connection old.rest ≡ jobs)
+    by_next (JobSeen job rest ends) is none = absurd none
+    by_next MoreNeeded is none = all_where_more old now jobs so_far is
+    by_next AllSeen is none = all_where_ended old now jobs so_far is
+
+-- what is shown isn't a job
+pub shows_no_job : (session : SessionState) (shown : NextRef) → ShowsNext shown session → ((job : JobRef) → shown ≡ next.Job job → ⊥) → IsNoJob (next_of session)
+shows_no_job session (next.Job job) shows none = absurd (none job refl)
+shows_no_job session next.NeedMore shows none = subst IsNoJob (sym shows) tt
+shows_no_job session next.Ended shows none = subst IsNoJob (sym shows) tt

@@ -10,15 +10,16 @@ use Rattle.mx_session.specs.declared.job.Job.{Job}
 use Rattle.mx_session.specs.Sessions.{SessionState, Waiting, released}
 use Rattle.mx_model.specs.declared.reply.Reply.{Reply}
 use Rattle.mx_row.specs.declared.tx.Tx.{Tx}
-use Rattle.mx_model.specs.Histories.{Base, History, Took, Confirmed, IsLegal, replies_in, ledger_of}
+use Rattle.mx_model.specs.Histories.{Base, History, Took, Confirmed, IsLegal, ledger_of}
+use Rattle.mx_model.specs.Replies.{Told, told_in}
 use Rattle.mx_model.specs.Order.{Step, RequestStep, TakeStep, ConfirmStep, order_in}
-use Rattle.mx_model.specs.ReplyStream.{packet_of_reply, packets_of_replies}
+use Rattle.mx_model.specs.ReplyStream.{packet_told, packets_of_replies}
 use Rattle.mx_engine.specs.declared.engine.Engine.{Engine}
 use Rattle.mx_engine.specs.Standing.{EngineStandsFor}
 use Rattle.mx_journal.specs.declared.journal.Journal.{Journal}
 use Rattle.mx_node.specs.Order.{job_steps, written_out}
-use Rattle.mx_node.specs.Outputs.{schema_version, sync_of}
-use Rattle.mx_node.specs.Ready.{Ready, Replied, AnswersJob, AnswersJobs, step_of, steps_of}
+use Rattle.mx_node.specs.Outputs.{sync_of}
+use Rattle.mx_node.specs.Ready.{Ready, Replied, AnswersJob, AnswersJobs, step_of, steps_of, told_after}
 use Rattle.mx_node.specs.Interrupted.{StepsSurvive, IsInterrupted}
 use Rattle.mx_model.specs.Survival.{Lasts}
 use Rattle.mx_model.proofs.HistoryLaws.{steps_of_ledger}
@@ -31,12 +32,12 @@ use Rattle.mx_node.proofs.LastingLaws.{lasts_none, lasts_on, breaks_now, breaks_
 
 -- the engine's answer and its packet are what a job is replied
 pub replied_by : (base : Base) (history : History) (engine : Engine) (job : Job) (packet : List ℕ) (ask : Ask) (reply : Reply) → job.ask ≡ ask
-    → EngineStandsFor engine base (step_of (record job { ask = ask }) reply ∷ history) → packet ≡ packet_of_reply schema_version job.sync.0 reply
+    → EngineStandsFor engine base (step_of (record job { ask = ask }) reply ∷ history) → packet ≡ packet_told job.sync.0 (told_after base history (record job { ask = ask }) reply)
     → Replied base history engine job packet
 replied_by base history engine job packet ask reply asked stands spelled = record {
   reply = reply;
   stands = subst (λ (a : Ask). EngineStandsFor engine base (step_of (record job { ask = a }) reply ∷ history)) (sym asked) stands;
-  spelled = spelled;
+  spelled = subst (λ (a : Ask). packet ≡ packet_told job.sync.0 (told_after base history (record job { ask = a }) reply)) (sym asked) spelled;
 }
 
 -- once a take after a step is confirmed, the step is durable
@@ -62,6 +63,16 @@ session_sent before pushed after front durable reply within idle push release =
     ∙ ap (λ (s : SessionState). record s { waiting = []; out = s.out ++ reply }) push
     ∙ ap (λ (l : List Waiting). record before { waiting = l; out = before.out ++ reply }) (sym idle)
 
+-- the same of a session whose packet was passed before, and of a reply as it is told
+pub reply_sent : (next passed pushed after : SessionState) (front durable : ℕ) (bytes packet reply : List ℕ) → passed ≡ next → bytes ≡ packet → packet ≡ reply
+    → front ≤ durable → next.waiting ≡ []
+    → pushed ≡ record passed { waiting = passed.waiting ++ record { front = front; reply = bytes } ∷ [] }
+    → after ≡ record pushed { waiting = (released durable pushed.waiting).1; out = pushed.out ++ (released durable pushed.waiting).0 }
+    → after ≡ record next { out = next.out ++ reply }
+reply_sent next passed pushed after front durable bytes packet reply same kept spelled within idle push release =
+    session_sent next pushed after front durable reply within idle
+    (push ∙ (λ i. record (same i) { waiting = (same i).waiting ++ record { front = front; reply = (kept ∙ spelled) i } ∷ [] })) release
+
 -- ---- jobs in order
 
 -- no job
@@ -74,7 +85,7 @@ answered_none base earlier engine journal states out ready = record {
   since = ([], refl);
   lasts = lasts_none base earlier states;
   order = sym (append-nil (order_in earlier));
-  told = sym (append-nil (replies_in earlier));
+  told = sym (append-nil (told_in base earlier));
   each = refl;
   output = sym (append-nil out);
 }
@@ -85,34 +96,41 @@ module _ (base : Base) (earlier : History) (old new : Engine) (begun written : J
   -- one job more
   pub answered_more : next.out ≡ middle → AnswersJob base so_far.history new written before_states states job next after
       → AnswersJobs base earlier new written first states (jobs ++ job ∷ []) before after.out
-  answered_more same step = record {
-    history = steps_of job step.reply step.transactions step.upto so_far.history;
-    replies = so_far.replies ++ step.reply ∷ [];
-    ready = step.ready;
-    since = (
-      steps_of job step.reply step.transactions step.upto so_far.since.0,
-      ap (steps_of job step.reply step.transactions step.upto) so_far.since.1,
-    );
-    lasts = lasts_on base (steps_of job step.reply step.transactions step.upto []) so_far.history first before_states states so_far.lasts step.lasts;
-    order = three_more (order_in so_far.history) (RequestStep job.name job.ask) TakeStep ConfirmStep
-        ∙ ap (λ (l : List Step). l ++ job_steps job) so_far.order
-        ∙ append_assoc (order_in earlier) (written_out jobs) (job_steps job)
-        ∙ ap (λ (l : List Step). order_in earlier ++ l) (sym (written_out-push jobs job));
-    told = append-nil _ ∙ append-nil _ ∙ ap (λ (l : List Reply). l ++ step.reply ∷ []) so_far.told
-        ∙ append_assoc (replies_in earlier) so_far.replies (step.reply ∷ []);
-    each = length-append so_far.replies (step.reply ∷ []) ∙ ap (λ (n : ℕ). n + 1) so_far.each ∙ sym (length-append jobs (job ∷ []));
-    output =
-        let packet = packet_of_reply schema_version job.sync.0 step.reply in
-        let packets = packets_of_replies schema_version (map sync_of jobs) so_far.replies in
-        let same_long : length (map sync_of jobs) ≡ length so_far.replies = length-map jobs sync_of ∙ sym so_far.each in
-        ap (λ (s : SessionState). s.out) step.output
-        ∙ ap (λ (l : List ℕ). l ++ packet) (same ∙ so_far.output)
-        ∙ append_assoc before packets packet
-        ∙ ap (λ (l : List ℕ). before ++ l) (
-        ap (λ (l : List ℕ). packets ++ l) (sym (append-nil packet))
-        ∙ sym (reply_packets-append schema_version (map sync_of jobs) (job.sync.0 ∷ []) so_far.replies (step.reply ∷ []) same_long)
-        ∙ ap (λ (l : List ℕ). packets_of_replies schema_version l (so_far.replies ++ step.reply ∷ [])) (sym (map_push sync_of jobs job)));
-  }
+  answered_more same step =
+      let told_step = told_after base so_far.history job step.reply in record {
+        history = steps_of job step.reply step.transactions step.upto so_far.history;
+        replies = so_far.replies ++ told_step ∷ [];
+        ready = step.ready;
+        since = (
+          steps_of job step.reply step.transactions step.upto so_far.since.0,
+          ap (steps_of job step.reply step.transactions step.upto) so_far.since.1,
+        );
+        lasts = lasts_on base (steps_of job step.reply step.transactions step.upto []) so_far.history first before_states states so_far.lasts step.lasts;
+        order = three_more (order_in so_far.history) (RequestStep job.name job.ask) TakeStep ConfirmStep
+            ∙ ap (λ (l : List Step). l ++ job_steps job) so_far.order
+            ∙ append_assoc (order_in earlier) (written_out jobs) (job_steps job)
+            ∙ ap (λ (l : List Step). order_in earlier ++ l) (sym (written_out-push jobs job));
+        told = append-nil _ ∙ append-nil _ ∙ ap (λ (l : List Told). l ++ told_step ∷ []) so_far.told
+            ∙ append_assoc (told_in base earlier) so_far.replies (told_step ∷ []);
+        each = length-append so_far.replies (told_step ∷ []) ∙ ap (λ (n : ℕ). n + 1) so_far.each ∙ sym (length-append jobs (job ∷ []));
+        output =
+            let packet = packet_told job.sync.0 told_step in
+            let packets = packets_of_replies (map sync_of jobs) so_far.replies in
+            let same_long : length (map sync_of jobs) ≡ length so_far.replies = length-map jobs sync_of ∙ sym so_far.each in
+            ap (λ (s : SessionState). s.out) step.output
+            ∙ ap (λ (l : List ℕ). l ++ packet) (same ∙ so_far.output)
+            ∙ append_assoc before packets packet
+            ∙ ap (λ (l : List ℕ). before ++ l) (
+            ap (λ (l : List ℕ). packets ++ l) (sym (append-nil packet))
+            ∙ sym (reply_packets-append (map sync_of jobs) (job.sync.0 ∷ []) so_far.replies (told_step ∷ []) same_long)
+            ∙ ap (λ (l : List ℕ). packets_of_replies l (so_far.replies ++ told_step ∷ [])) (sym (map_push sync_of jobs job)));
+      }
+
+-- the same of an engine, a journal and a directory that are as they were
+pub answered_same : (base : Base) (earlier : History) (engine now : Engine) (journal written : Journal) (first states after : Option (List Disk))
+    (jobs all : List Job) (before out sent : List ℕ) → now ≡ engine → written ≡ journal → after ≡ states → all ≡ jobs → sent ≡ out
+    → AnswersJobs base earlier engine journal first states jobs before out → AnswersJobs base earlier now written first after all before sent
+answered_same base earlier engine now journal written first states after jobs all before out sent e j s l o answers = rw (e, j, s, l, o) answers
 
 -- the steps for the first jobs begin those for all of them
 first_steps : (earlier : List Step) (first rest all : List Job) → all ≡ first ++ rest

@@ -1,39 +1,51 @@
 //! Jobs: what the packets of a connection are answered.
 
-ghost use Rattle.std.specs.Prelude.{◌≡◌, ◌<◌, ◌^◌, ◌-◌, ◌++◌, ◌∷◌, [], ⊤, ℕ, List, false, true, IfOk, OnOk, OnErr, if◌then◌else◌};
+ghost use Rattle.std.specs.Prelude.{◌≡◌, ◌<◌, ◌^◌, ◌-◌, ◌++◌, ◌∷◌, [], ⊤, ℕ, List, false, true, IfOk, OnOk, OnErr, MatchResult, if◌then◌else◌};
 ghost use Rattle.mx_outside.specs.Causes.{HasCauseOf};
 ghost use Rattle.mx_outside.specs.Disks.{IfKnown};
 ghost use Rattle.mx_outside.specs.Moments.{Moments};
 ghost use Rattle.mx_images.specs.Changes.{KeepsOthers};
-ghost use Rattle.mx_journal.specs.declared.fault.JournalFault.TheVariants.{Failed};
+ghost use Rattle.mx_journal.specs.declared.fault.JournalFault.TheVariants.{Failed, NoMemory};
 ghost use Rattle.mx_model.specs.Histories.{Base, History};
 ghost use Rattle.mx_model.specs.Order.{order_in};
 ghost use Rattle.mx_model.specs.ReplyStream.{packet_of_reply};
 ghost use Rattle.mx_engine.specs.Standing.{EngineStandsFor};
-ghost use Rattle.mx_engine.specs.Views.{reply_view};
+ghost use Rattle.mx_engine.specs.Views.{reply_of};
+ghost use Rattle.mx_session.specs.JobViews.{job_view};
 ghost use Rattle.mx_session.specs.Jobs.{ends, jobs_of};
-ghost use Rattle.mx_node.specs.Outputs.{schema_version};
 ghost use Rattle.mx_node.specs.Connections.{IsJob};
-ghost use Rattle.mx_node.specs.Order.{job_steps, written_out};
+ghost use Rattle.mx_node.specs.Order.{written_out};
 ghost use Rattle.mx_node.specs.Interrupted.{IsInterrupted};
-ghost use Rattle.mx_node.specs.Ready.{Ready, IsReady, Replied, AnswersJob, AnswersJobs, TakenAll};
+ghost use Rattle.mx_node.specs.Ready.{Ready, IsReady, Replied, AnswersJobs, AnswersNext, BreaksNext, ComesNext, RepliesNext, TakenAll};
 
 use crate::commits::{has_room, write_out};
 use mx_base::{Refusal, SyncId};
-use mx_engine::{Answer, Engine};
+use mx_engine::{Answered, Engine};
 use mx_journal::{Journal, JournalFault};
-use mx_msgpack::Bytes;
+use mx_msgpack::{Bytes, Tuples};
 use mx_outside::Dir;
-use mx_reply::{ReplyBody, write_error, write_id, write_ok};
-use mx_request::Ask;
-use mx_session::{Job, Next, Session};
+use mx_reply::{ReplyBody, write_error, write_id, write_ok, write_tuples};
+use mx_session::{AskRef, JobRef, NextRef, Session};
 use std::alloc::{AllocError, Global};
 
 /// The steps of a job: it is answered, and what is committed is taken and confirmed.
 const JOB_STEPS: u64 = 3;
 
-/// The schema's version: no request changes the schema yet.
-const SCHEMA: u32 = 0;
+/// Memory that is kept from request to request: the tuples of an answer, and the packet of a reply.
+#[derive(Drop)]
+pub(crate) struct Buffers {
+    found: Tuples,
+    packet: Bytes,
+}
+
+impl Buffers {
+    pub(crate) fn new(alloc: Global) -> Buffers {
+        Buffers {
+            found: Tuples::new(alloc),
+            packet: Bytes::new(alloc),
+        }
+    }
+}
 
 /// Answers what bytes that came on a connection ask, together with those before them. Says whether
 /// they end the connection. Bytes after that end are dropped.
@@ -43,6 +55,7 @@ pub(crate) fn answer_bytes<D: Dir>(
     journal: &mut Journal,
     dir: &mut D,
     session: &mut Session,
+    buffers: &mut Buffers,
     bytes: &[u8],
 ) -> Result<bool, JournalFault>
     requires ready { IsReady engine.old journal.old (D.states dir.old) }
@@ -63,7 +76,7 @@ pub(crate) fn answer_bytes<D: Dir>(
         return Ok(false);
     }
     session.feed(bytes)?;
-    answer_packets(alloc, engine, journal, dir, session)?;
+    answer_packets(alloc, engine, journal, dir, session, buffers)?;
     Ok(session.has_ended())
 }
 
@@ -75,6 +88,7 @@ fn answer_packets<D: Dir>(
     journal: &mut Journal,
     dir: &mut D,
     session: &mut Session,
+    buffers: &mut Buffers,
 ) -> Result<(), JournalFault>
     requires ready { IsReady engine.old journal.old (D.states dir.old) }
     requires idle { session.old.waiting ≡ [] }
@@ -89,83 +103,107 @@ fn answer_packets<D: Dir>(
     ensures others { IfKnown (D.states dir.old) (λ disk past. Moments (λ _. ⊤) KeepsOthers (D.states dir.new) disk past) }
     ensures cause { HasCauseOf Failed (D.faults dir.old) (D.faults dir.new) result }
 {
-    while let Next::Job(job) = session.next_job()? {
-        answer(alloc, engine, journal, dir, job, session)?;
+    'packets: loop {
+        if !answer_next(alloc, engine, journal, dir, session, buffers)? {
+            return Ok(());
+        }
     }
-    Ok(())
 }
 
-/// Answers a job, and lets its reply leave. What it commits is durable then.
-fn answer<D: Dir>(
+/// Answers the next job, where there is one, and lets its reply leave. What it commits is durable then.
+/// Says whether there was a job.
+fn answer_next<D: Dir>(
     alloc: Global,
     engine: &mut Engine,
     journal: &mut Journal,
     dir: &mut D,
-    job: Job,
     session: &mut Session,
-) -> Result<(), JournalFault>
+    buffers: &mut Buffers,
+) -> Result<bool, JournalFault>
     requires ready { IsReady engine.old journal.old (D.states dir.old) }
-    requires sound { IsJob job }
     requires idle { session.old.waiting ≡ [] }
-    ensures answers { (base : Base) (history : History) → Ready base history engine.old journal.old (D.states dir.old)
-        → OnOk result (AnswersJob base history engine.new journal.new (D.states dir.old) (D.states dir.new) job session.old session.new) }
-    ensures breaks { (base : Base) (history : History) → Ready base history engine.old journal.old (D.states dir.old)
-        → OnErr result (IsInterrupted base history (order_in history ++ job_steps job) (D.states dir.old) (D.states dir.new)) }
+    ensures answers { IfOk result (λ more. AnswersNext engine.old engine.new journal.old journal.new (D.states dir.old) (D.states dir.new) session.old session.new more) }
+    ensures breaks { OnErr result (BreaksNext engine.old journal.old (D.states dir.old) (D.states dir.new) session.old) }
     ensures others { IfKnown (D.states dir.old) (λ disk past. Moments (λ _. ⊤) KeepsOthers (D.states dir.new) disk past) }
     ensures cause { HasCauseOf Failed (D.faults dir.old) (D.faults dir.new) result }
 {
-    if !has_room(engine, JOB_STEPS) {
-        return Err(JournalFault::NoMemory);
-    }
-    let reply = reply(alloc, engine, &job)?;
-    session.push_reply(engine.count(), reply)?;
+    let Some(ends) = reply_next(alloc, engine, session, buffers)? else {
+        return Ok(false);
+    };
+    session.pass(ends);
+    session.push_reply_bytes(engine.count(), buffers.packet.as_slice())?;
     write_out(alloc, engine, journal, dir)?;
     session.release(engine.durable());
+    Ok(true)
+}
+
+/// Lets the engine answer the next job, where there is one, and writes the packet of its reply in place
+/// of the one before. Says whether the connection ends with the job, which is still the next one.
+fn reply_next(
+    alloc: Global,
+    engine: &mut Engine,
+    session: &Session,
+    buffers: &mut Buffers,
+) -> Result<Option<bool>, JournalFault>
+    ensures { MatchResult result
+        (λ shown. RepliesNext engine.old engine.new session.now shown buffers.new.packet)
+        (λ fault. (fault ≡ NoMemory) × ComesNext session.now) }
+{
+    match session.peek() {
+        NextRef::Job(job) => {
+            if !has_room(engine, JOB_STEPS) {
+                return Err(JournalFault::NoMemory);
+            }
+            reply(alloc, engine, &job, buffers)?;
+            Ok(Some(job.ends))
+        }
+        NextRef::NeedMore | NextRef::Ended => Ok(None),
+    }
+}
+
+/// Lets the engine answer a job, and writes the packet of its reply in place of the one before.
+fn reply(
+    alloc: Global,
+    engine: &mut Engine,
+    job: &JobRef<'_>,
+    buffers: &mut Buffers,
+) -> Result<(), AllocError>
+    requires room { engine.old.count < 2 ^ 63 - 1 }
+    requires sound { IsJob (job_view job.now) }
+    ensures { (base : Base) (history : History) → EngineStandsFor engine.old base history
+        → OnOk result (Replied base history engine.new (job_view job.now) buffers.new.packet) }
+{
+    buffers.packet.truncate(0);
+    match &job.ask {
+        AskRef::Refused(refusal) => {
+            engine.look();
+            let schema = engine.schema();
+            write_error(alloc, job.sync, schema, refusal, &mut buffers.packet)?;
+        }
+        AskRef::Request(request) => {
+            let answered = engine.request_in_place(job.name, request, &mut buffers.found);
+            let schema = engine.schema();
+            write_answer(alloc, job.sync, schema, answered, buffers)?;
+        }
+    }
     Ok(())
 }
 
-/// Lets the engine answer a job, and gives the packet of its reply.
-fn reply(alloc: Global, engine: &mut Engine, job: &Job) -> Result<Bytes, AllocError>
-    requires room { engine.old.count < 2 ^ 63 - 1 }
-    requires sound { IsJob job.now }
-    ensures { (base : Base) (history : History) → EngineStandsFor engine.old base history
-        → IfOk result (λ packet. Replied base history engine.new job.now packet) }
-{
-    let mut packet = Bytes::new(alloc);
-    match &job.ask {
-        Ask::Refused(refusal) => {
-            engine.look();
-            write_error(alloc, job.sync, SCHEMA, refusal, &mut packet)?;
-        }
-        Ask::Request(request) => {
-            let answer = engine.request(job.name, request);
-            write_answer(alloc, job.sync, answer, &mut packet)?;
-        }
-        // No packet comes to this.
-        Ask::Leave => engine.look(),
-    }
-    Ok(packet)
-}
-
-/// Writes the packet of an answer, or of why the request is refused.
+/// Adds the packet of an answer, or of why the request is refused.
 fn write_answer(
     alloc: Global,
     sync: SyncId,
-    answer: Result<Answer, Refusal>,
-    packet: &mut Bytes,
+    schema: u32,
+    answered: Result<Answered, Refusal>,
+    buffers: &mut Buffers,
 ) -> Result<(), AllocError>
-    ensures { OnOk result (packet.new ≡ packet.old ++ packet_of_reply schema_version sync.0 (reply_view answer)) }
+    ensures { OnOk result (buffers.new.packet ≡ buffers.old.packet ++ packet_of_reply schema sync.0 (reply_of answered buffers.old.found)) }
 {
-    match answer {
-        Ok(Answer::Empty) => write_ok(alloc, sync, SCHEMA, &ReplyBody::Empty, packet),
-        Ok(Answer::Tuples(tuples)) => write_ok(
-            alloc,
-            sync,
-            SCHEMA,
-            &ReplyBody::Tuples(tuples),
-            packet,
-        ),
-        Ok(Answer::Id) => write_id(alloc, sync, SCHEMA, packet),
-        Err(refusal) => write_error(alloc, sync, SCHEMA, &refusal, packet),
+    let Buffers { found, packet } = buffers;
+    match answered {
+        Ok(Answered::Empty) => write_ok(alloc, sync, schema, &ReplyBody::Empty, packet),
+        Ok(Answered::Tuples) => write_tuples(sync, schema, found, packet),
+        Ok(Answered::Id) => write_id(alloc, sync, schema, packet),
+        Err(refusal) => write_error(alloc, sync, schema, &refusal, packet),
     }
 }

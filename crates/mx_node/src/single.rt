@@ -3,7 +3,7 @@
 ghost use Rattle.std.specs.Prelude.{◌≡◌, ◌<◌, ◌≤◌, ◌++◌, [], Err, IfOk, OnOk, OnErr};
 
 use crate::commits::leave;
-use crate::jobs::answer_bytes;
+use crate::jobs::{Buffers, answer_bytes};
 use crate::sessions::{
     drop_session, keep_session, leave_all, no_sessions, send_and_end, take_session,
 };
@@ -28,6 +28,7 @@ pub struct Single {
     journal: Journal,
     /// The sessions by the numbers of their connections.
     sessions: Vec<Option<Session>>,
+    buffers: Buffers,
 }
 
 impl Single {
@@ -92,6 +93,7 @@ impl Single {
             engine,
             journal,
             sessions: no_sessions(alloc)?,
+            buffers: Buffers::new(alloc),
         })
     }
 
@@ -150,6 +152,7 @@ impl Single {
             &mut self.journal,
             dir,
             &mut session,
+            &mut self.buffers,
             bytes,
         )?;
         send_and_end(

@@ -8,8 +8,8 @@ use Rattle.mx_node.proofs.SessionLaws.{Taken, jobs_left}
 use Rattle.mx_node.proofs.jobs.answer_packets.Given as goal
 
 -- the jobs so far were taken and answered
-abbrev pub invariant-loop-job : goal.invariant-loop-job
-invariant-loop-job g l = record {
+abbrev pub invariant-packets : goal.invariant-packets
+invariant-packets g l = record {
   taken : (jobs : List Job) × Taken l.fn.session l.session jobs
       × ((base : Base) (history : History) → Ready base history l.fn.engine l.fn.journal (g.D.Dir.states l.fn.dir)
       → AnswersJobs base history l.engine l.journal (g.D.Dir.states l.fn.dir) (g.D.Dir.states l.dir) jobs l.fn.session.out l.session.out);
@@ -17,5 +17,5 @@ invariant-loop-job g l = record {
   done : g.D.Dir.faults l.dir ≡ g.D.Dir.faults l.fn.dir;
 }
 
-abbrev pub decreases-loop-job : goal.decreases-loop-job
-decreases-loop-job g l = length (jobs_left l.session)
+abbrev pub decreases-packets : goal.decreases-packets
+decreases-packets g l = length (jobs_left l.session)
