@@ -13,7 +13,7 @@ use Rattle.mx_node.specs.Starts.{Start}
 use Rattle.mx_model.specs.Survival.{Lasts}
 use Rattle.mx_node.specs.Serving.{DirectoryHolds, EndedNode, HasSession, Serves, left_from, session_at}
 use Rattle.mx_node.proofs.LastingLaws.{lasts_longer}
-use Rattle.mx_node.proofs.TableLaws.{left_from-order, left_from-state, left_from-clock, left_from-replies, left_from-since}
+use Rattle.mx_node.proofs.TableLaws.{left_from-order, left_from-state, left_from-clock, left_from-told, left_from-since}
 
 -- a directory keeps what a history has come to
 keeps_same : (base : Base) (history other : History) (disk : Disk) → state_of base history ≡ state_of base other → clock_of base history ≡ clock_of base other
@@ -52,7 +52,7 @@ module _ (start : Start) (server : Single) (units : List InputUnit) (history : H
         since = since;
         legal = legal;
         order = order_at_the_end ∙ ap (λ (n : ℕ). order_of units ++ departures_from 0 n units) serves.table;
-        told = left_from-replies 0 sessions history;
+        told = left_from-told start.base 0 sessions history;
         lasts = subst (λ (h : History). Lasts start.base h old new) (sym since.1) (lasts_longer start.base since.0 history old new lasts);
         keeps = told_weaker new
             (λ disk past kept. keeps_same start.base history all disk (sym (left_from-state start.base 0 sessions history))

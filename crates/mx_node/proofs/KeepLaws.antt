@@ -3,7 +3,8 @@ use Rattle.std.proofs.Common.{◌≡◌, ◌≤◌, List, [], ◌∷◌, ◌++�
 use Rattle.std.specs.Prelude.{Option}
 use Rattle.std.proofs.lemmas.List.{take_all}
 use Rattle.mx_outside.specs.Disks.{Disk, IfKnown}
-use Rattle.mx_model.specs.Histories.{Base, History, Asked, Left, Took, Confirmed, Looked, entry_replies, replies_in, journal_of}
+use Rattle.mx_model.specs.Histories.{Base, History, Asked, Left, Took, Confirmed, Looked, journal_of}
+use Rattle.mx_model.specs.Replies.{told_by, told_in}
 use Rattle.mx_engine.specs.declared.engine.Engine.{Engine}
 use Rattle.mx_journal.specs.declared.journal.Journal.{Journal}
 use Rattle.mx_node.specs.Interrupted.{StepsSurvive}
@@ -23,36 +24,36 @@ ready_keeps base history engine journal states ready = λ origin transactions al
 -- ---- steps without a reply
 
 -- a longer history has no fewer replies
-replies_grow : (more history : History) → length (replies_in history) ≤ length (replies_in (more ++ history))
-replies_grow [] history = omega arith
-replies_grow (entry ∷ more) history =
-    let fewer = replies_grow more history in
-    let parts = length-append (replies_in (more ++ history)) (entry_replies entry) in
+replies_grow : (base : Base) (more history : History) → length (told_in base history) ≤ length (told_in base (more ++ history))
+replies_grow base [] history = omega arith
+replies_grow base (entry ∷ more) history =
+    let fewer = replies_grow base more history in
+    let parts = length-append (told_in base (more ++ history)) (told_by base entry (more ++ history)) in
     omega arith
 
 -- steps without a reply commit nothing
-no_reply_no_commit : (base : Base) (more history : History) → length (replies_in (more ++ history)) ≤ length (replies_in history)
+no_reply_no_commit : (base : Base) (more history : History) → length (told_in base (more ++ history)) ≤ length (told_in base history)
     → journal_of base (more ++ history) ≡ journal_of base history
 no_reply_no_commit base [] history few = refl
 no_reply_no_commit base (Asked name ask reply ∷ more) history few =
-    let grow = replies_grow more history in
-    let parts = length-append (replies_in (more ++ history)) (reply ∷ []) in
+    let grow = replies_grow base more history in
+    let parts = length-append (told_in base (more ++ history)) (told_by base (Asked name ask reply) (more ++ history)) in
     absurd (omega arith)
 no_reply_no_commit base (Left connection ∷ more) history few =
-    let parts = length-append (replies_in (more ++ history)) [] in
+    let parts = length-append (told_in base (more ++ history)) [] in
     no_reply_no_commit base more history (omega arith)
 no_reply_no_commit base (Took transactions upto ∷ more) history few =
-    let parts = length-append (replies_in (more ++ history)) [] in
+    let parts = length-append (told_in base (more ++ history)) [] in
     no_reply_no_commit base more history (omega arith)
 no_reply_no_commit base (Confirmed upto ∷ more) history few =
-    let parts = length-append (replies_in (more ++ history)) [] in
+    let parts = length-append (told_in base (more ++ history)) [] in
     no_reply_no_commit base more history (omega arith)
 no_reply_no_commit base (Looked ∷ more) history few =
-    let parts = length-append (replies_in (more ++ history)) [] in
+    let parts = length-append (told_in base (more ++ history)) [] in
     no_reply_no_commit base more history (omega arith)
 
 -- so all that was committed still is durable after them
-pub keep_unreplied : (base : Base) (more history : History) (old new : Option (List Disk)) → replies_in (more ++ history) ≡ replies_in history
+pub keep_unreplied : (base : Base) (more history : History) (old new : Option (List Disk)) → told_in base (more ++ history) ≡ told_in base history
     → StepsSurvive base history history old → Lasts base (more ++ history) old new → StepsSurvive base (more ++ history) (more ++ history) new
 keep_unreplied base more history old new told keep lasts = λ origin transactions all.
     let few = ap length told in

@@ -1,13 +1,12 @@
 -- In which order the steps for one unit more come.
-use Rattle.std.proofs.Common.{◌≡◌, ℕ, Bool, true, false, cond, List, [], ◌∷◌, ◌++◌, length, refl, sym, ap, ◌∙◌, subst}
+use Rattle.std.proofs.Common.{◌≡◌, ℕ, Bool, true, false, List, [], ◌∷◌, ◌++◌, refl, sym, ap, ◌∙◌}
 use Rattle.std.proofs.lemmas.List.{append-nil, append_assoc}
-use mathlib.Core.List.{IsPrefix}
 use Rattle.mx_frame.specs.Packets.{rest_of}
 use Rattle.mx_session.specs.declared.job.Job.{Job}
 use Rattle.mx_session.specs.Jobs.{jobs_of, ends}
 use Rattle.mx_model.specs.Order.{Step}
 use Rattle.mx_node.specs.Inputs.{InputUnit, Bytes}
-use Rattle.mx_node.specs.Connections.{came_on, jobs_by, is_ended_by}
+use Rattle.mx_node.specs.Connections.{came_on, is_ended_by}
 use Rattle.mx_node.specs.Order.{job_steps, written_out, departure_where, order_by, order_from, order_of}
 use Rattle.mx_node.proofs.ConnectionLaws.{jobs_by-open, jobs_by-ended, jobs_by-nothing, is_ended_by-open, is_ended_by-ended, is_ended_by-nothing}
 

@@ -9,8 +9,8 @@ use Rattle.mx_frame.proofs.FrameLaws.{rest_of-append}
 use Rattle.mx_session.specs.declared.job.Job.{Job}
 use Rattle.mx_session.specs.Jobs.{ends, jobs_of}
 use Rattle.mx_session.specs.Sessions.{SessionState}
-use Rattle.mx_model.specs.declared.reply.Reply.{Reply}
-use Rattle.mx_model.specs.Histories.{Base, History, Left, replies_in}
+use Rattle.mx_model.specs.Histories.{Base, History, Left}
+use Rattle.mx_model.specs.Replies.{Told, told_in}
 use Rattle.mx_model.specs.Order.{Step, order_in}
 use Rattle.mx_model.specs.ReplyStream.{packets_of_replies}
 use Rattle.mx_engine.specs.declared.engine.Engine.{Engine}
@@ -21,7 +21,7 @@ use Rattle.mx_node.specs.Inputs.{InputUnit, Bytes, Close, connection_of, max_con
 use Rattle.mx_node.specs.Connections.{came_after, came_on, is_open, jobs_by, jobs_from}
 use Rattle.mx_node.specs.Order.{departure_where, order_by, written_out}
 use Rattle.mx_node.specs.Starts.{Start, start_greeting}
-use Rattle.mx_node.specs.Outputs.{schema_version, sync_of, opening, sent_on, closed_on, output_for, output_of}
+use Rattle.mx_node.specs.Outputs.{sync_of, opening, sent_on, closed_on, output_for, output_of}
 use Rattle.mx_model.specs.declared.out_units.OutUnit.{OutUnit}
 use Rattle.mx_node.specs.Ready.{Ready, IsReady, AnswersJobs, TakenAll}
 use Rattle.mx_model.specs.Survival.{Lasts}
@@ -30,7 +30,7 @@ use Rattle.mx_node.proofs.ConnectionLaws.{came_on-push, ends-nothing, ends-piece
 use Rattle.mx_node.proofs.LastingLaws.{lasts_longer, lasts_none}
 use Rattle.mx_node.proofs.OrderLaws.{order_by-ended, order_by-nothing, order_by-open, order_of-push}
 use Rattle.mx_node.proofs.OutputLaws.{opening-ended, output_for-ended, output_for-nothing, output_for-open, output_of-push}
-use Rattle.mx_node.proofs.TableLaws.{left_by, left_by-order, left_by-replies, left_by-since, there_where}
+use Rattle.mx_node.proofs.TableLaws.{left_by, left_by-order, left_by-told, left_by-since, there_where}
 
 -- ---- a table in which one place changed
 
@@ -139,12 +139,12 @@ is_ready_left old new journal states on (base, history, ready) left =
 -- What the answering of a unit gave, and what is in its connection's place now.
 pub record Gave (start : Start) (old new : Single) (units : List InputUnit) (earlier : History) (unit : InputUnit) (output : List OutUnit) (before after : Option (List Disk)) : Type 0 where
   pub history : History
-  pub replies : List Reply
+  pub replies : List Told
   pub since : (more : History) × (history ≡ more ++ earlier)
   pub lasts : Lasts start.base history before after
   pub ready : Ready start.base history new.engine new.journal after
   pub order : order_in history ≡ order_in earlier ++ order_by units unit
-  pub told : replies_in history ≡ replies_in earlier ++ replies
+  pub told : told_in start.base history ≡ told_in start.base earlier ++ replies
   pub each : length replies ≡ length (jobs_by units unit)
   pub writes : output ≡ output_for start units unit replies
   pub greeting : new.greeting ≡ old.greeting
@@ -182,7 +182,7 @@ module _ (start : Start) (old new : Single) (units : List InputUnit) (earlier : 
     greeting = gave.greeting ∙ serves.greeting;
     ready = gave.ready;
     order = gave.order ∙ ap (λ (l : List Step). l ++ order_by units unit) serves.order ∙ sym (order_of-push units unit);
-    told = ap length gave.told ∙ length-append (replies_in earlier) gave.replies
+    told = ap length gave.told ∙ length-append (told_in start.base earlier) gave.replies
         ∙ ap (λ (n : ℕ). n + length gave.replies) serves.told ∙ ap (λ (n : ℕ). length (jobs_from [] units) + n) gave.each
         ∙ sym (length-append (jobs_from [] units) (jobs_by units unit)) ∙ ap length (sym (jobs_from-push units unit));
     table = ap length gave.table ∙ table_same old.sessions.items (connection_of unit) gave.slot serves.table;
@@ -213,7 +213,7 @@ gave_nothing start server units history on states serves known =
       lasts = lasts_none start.base history states;
       ready = serves.ready;
       order = sym (append-nil (order_in history)) ∙ ap (λ (l : List Step). order_in history ++ l) (sym (order_by-nothing units on));
-      told = sym (append-nil (replies_in history));
+      told = sym (append-nil (told_in start.base history));
       each = ap length (sym (jobs_by-nothing units on));
       writes = sym (output_for-nothing start units on []);
       greeting = refl;
@@ -255,7 +255,7 @@ module _ (start : Start) (old new : Single) (units : List InputUnit) (earlier : 
     lasts = lasts_none start.base (left_by on stays earlier) states;
     ready = ready;
     order = left_by-order on stays (is_open on (came_on on units)) earlier there;
-    told = left_by-replies on stays earlier ∙ sym (append-nil (replies_in earlier));
+    told = left_by-told start.base on stays earlier ∙ sym (append-nil (told_in start.base earlier));
     each = refl;
     writes = refl;
     greeting = greeting;
@@ -327,12 +327,12 @@ closing_for on ended = if ended then closed_on on ∷ [] else []
 pub record Did (start : Start) (units : List InputUnit) (earlier : History) (on : ℕ) (bytes : List ℕ) (engine : Engine) (journal : Journal)
     (before after : Option (List Disk)) (later : SessionState) (ended : Bool) : Type 0 where
   pub history : History
-  pub replies : List Reply
+  pub replies : List Told
   pub since : (more : History) × (history ≡ more ++ earlier)
   pub lasts : Lasts start.base history before after
   pub ready : Ready start.base history engine journal after
   pub order : order_in history ++ departure_where on ended ≡ order_in earlier ++ order_by units (Bytes on bytes)
-  pub told : replies_in history ≡ replies_in earlier ++ replies
+  pub told : told_in start.base history ≡ told_in start.base earlier ++ replies
   pub each : length replies ≡ length (jobs_by units (Bytes on bytes))
   pub writes : sent_on on later.out ++ closing_for on ended ≡ output_for start units (Bytes on bytes) replies
   pub attends : Attends on (came_on on units ++ bytes) (record later { out = [] })
@@ -356,7 +356,7 @@ module _ (start : Start) (units : List InputUnit) (earlier : History) (on : ℕ)
             (subst (λ (j : Journal). Ready start.base earlier was j after) (sym same_journal) (subst (Ready start.base earlier was old) (sym same_states) ready));
         order = ap (λ (b : Bool). order_in earlier ++ departure_where on b) goes_on
             ∙ ap (λ (l : List Step). order_in earlier ++ l) (sym (order_by-ended units on (came_on on units) bytes refl is_over));
-        told = sym (append-nil (replies_in earlier));
+        told = sym (append-nil (told_in start.base earlier));
         each = ap length (sym (jobs_by-ended units on (came_on on units) bytes refl is_over));
         writes = ap (λ (l : List ℕ). sent_on on l ++ closing_for on ended) nothing ∙ ap (closing_for on) goes_on
             ∙ sym (output_for-ended start units on (came_on on units) bytes [] refl is_over);
@@ -399,9 +399,9 @@ module _ (start : Start) (units : List InputUnit) (earlier : History) (on : ℕ)
       let same_jobs = all_jobs goes_on in
       let same_end : ended ≡ ends on (rest_of (came_on on units) ++ bytes) =
       answered.says ∙ ap (λ (b : Bool). if b then false else ends session.connection (session.rest ++ bytes)) goes_on ∙ all_ends goes_on in
-      let output : later.out ≡ opening start (came_on on units) bytes ++ packets_of_replies schema_version (map sync_of jobs) answers.replies =
-      answers.output ∙ ap (λ (l : List ℕ). l ++ packets_of_replies schema_version (map sync_of (jobs_of session.connection (session.rest ++ bytes))) answers.replies) met.sends
-      ∙ ap (λ (l : List Job). opening start (came_on on units) bytes ++ packets_of_replies schema_version (map sync_of l) answers.replies) same_jobs in
+      let output : later.out ≡ opening start (came_on on units) bytes ++ packets_of_replies (map sync_of jobs) answers.replies =
+      answers.output ∙ ap (λ (l : List ℕ). l ++ packets_of_replies (map sync_of (jobs_of session.connection (session.rest ++ bytes))) answers.replies) met.sends
+      ∙ ap (λ (l : List Job). opening start (came_on on units) bytes ++ packets_of_replies (map sync_of l) answers.replies) same_jobs in
       record {
         history = answers.history;
         replies = answers.replies;
@@ -416,7 +416,7 @@ module _ (start : Start) (units : List InputUnit) (earlier : History) (on : ℕ)
         told = answers.told;
         each = answers.each ∙ ap length (same_jobs ∙ sym (jobs_by-open units on (came_on on units) bytes refl open_before));
         writes = ap (λ (l : List ℕ). sent_on on l ++ closing_for on ended) output
-            ∙ ap (λ (b : Bool). sent_on on (opening start (came_on on units) bytes ++ packets_of_replies schema_version (map sync_of jobs) answers.replies)
+            ∙ ap (λ (b : Bool). sent_on on (opening start (came_on on units) bytes ++ packets_of_replies (map sync_of jobs) answers.replies)
             ++ closing_for on b) same_end
             ∙ sym (output_for-open start units on (came_on on units) bytes answers.replies refl open_before);
         attends = attends_on goes_on;
@@ -467,7 +467,7 @@ module _ (start : Start) (old new : Single) (units : List InputUnit) (earlier : 
         lasts = lasts_since start.base done.history all before after last done.lasts;
         ready = ready;
         order = left_by-order on (not ended) ended done.history (same_twice ended) ∙ done.order;
-        told = left_by-replies on (not ended) done.history ∙ done.told;
+        told = left_by-told start.base on (not ended) done.history ∙ done.told;
         each = done.each;
         writes = writes ∙ done.writes;
         greeting = greeting;

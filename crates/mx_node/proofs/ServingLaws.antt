@@ -20,7 +20,7 @@ use Rattle.mx_model.specs.Answers.{state_after_rows}
 use Rattle.mx_model.specs.Transactions.{state_after}
 use Rattle.mx_row.specs.Clocks.{clock_after, clock_after_one}
 use Rattle.mx_row.specs.Rows.{transactions_text}
-use Rattle.mx_model.specs.Directories.{Named, Reached, AllFollow, Continues, ids_in, nothing_yet}
+use Rattle.mx_model.specs.Directories.{Named, Reached, ReadAll, Origin, AllFollow, Continues, ids_in, origin_of, reached_at}
 use Rattle.mx_xlog.specs.Files.{ReadsAs}
 use Rattle.mx_files.specs.Names.{is_journal, is_snapshot, same_bytes, counts}
 use Rattle.mx_model.specs.Histories.{Base, History, Took, IsLegal, ledger_of, journal_of}
@@ -208,7 +208,7 @@ module _ {origin : Origin} (base : Base) (head : Head) (txs earlier transactions
 
   -- files that go on from the base, where the journal's has the first ones of its transactions
   pub image_stands : (image : Files) (count : ℕ) → Continues base (name_of head) image → count ≤ length txs → HasFile head (take count txs) image
-      → StandsAfter (take (length earlier + count) transactions) image
+      → StandsAfter origin (take (length earlier + count) transactions) image
   image_stands image count continues few (groups, are, file, there, reads) =
       let some = take count txs in
       let name = name_of head in
@@ -221,10 +221,10 @@ module _ {origin : Origin} (base : Base) (head : Head) (txs earlier transactions
         stands = stands_after base name image file (read_of head groups) (Ok reached) continues there reads served.kind (same_itself name) served.begins
             served.whose (after_blocks_again name (length (header_of head)) groups begun follow
             ∙ ap (λ txs. Ok (record { ids = Some base.ids; state = state_after base.state txs; clock = clock_after base.clock txs })) are.together);
-        state = ap (λ state. state_after state some) (sym served.comes.state) ∙ sym (state_after-append first_state earlier some)
-            ∙ ap (state_after first_state) all;
-        clock = ap (λ clock. clock_after clock some) (sym served.comes.clock) ∙ sym (clock_after-append nothing_yet.clock earlier some)
-            ∙ ap (clock_after nothing_yet.clock) all;
+        state = ap (λ state. state_after state some) (sym served.comes.state) ∙ sym (state_after-append origin.state earlier some)
+            ∙ ap (state_after origin.state) all;
+        clock = ap (λ clock. clock_after clock some) (sym served.comes.clock) ∙ sym (clock_after-append origin.clock earlier some)
+            ∙ ap (clock_after origin.clock) all;
       }
 
   moment_stands : (now : Disk) (image : Files) (count : ℕ) → SameOthers (name_of head) disk now → IsFair now image → count ≤ length txs

@@ -4,7 +4,8 @@ use Rattle.std.specs.Prelude.{Option, replicate, if◌then◌else◌}
 use Rattle.std.specs.Vec.{with_items}
 use Rattle.std.proofs.lemmas.List.{append-nil, append_assoc, take_at, take_more, length-set, length-take-le, set-set}
 use Rattle.mx_session.specs.Sessions.{SessionState}
-use Rattle.mx_model.specs.Histories.{Base, History, Left, clock_of, replies_in, state_of}
+use Rattle.mx_model.specs.Histories.{Base, History, Left, clock_of, state_of}
+use Rattle.mx_model.specs.Replies.{told_in}
 use Rattle.mx_model.specs.Order.{Step, order_in}
 use Rattle.mx_node.specs.Inputs.{InputUnit}
 use Rattle.mx_node.specs.Connections.{came_on, is_open}
@@ -90,17 +91,17 @@ left_from-clock base connection (None ∷ sessions) history = left_from-clock ba
 left_from-clock base connection (Some session ∷ sessions) history =
     left_from-clock base (suc connection) sessions (left_by connection session.ended history) ∙ left_by-clock base connection session.ended history
 
-pub left_by-replies : (connection : ℕ) (stays : Bool) (history : History) → replies_in (left_by connection stays history) ≡ replies_in history
-left_by-replies connection true history = refl
-left_by-replies connection false history = append-nil (replies_in history)
+pub left_by-told : (base : Base) (connection : ℕ) (stays : Bool) (history : History) → told_in base (left_by connection stays history) ≡ told_in base history
+left_by-told base connection true history = refl
+left_by-told base connection false history = append-nil (told_in base history)
 
 -- nothing is replied to
-pub left_from-replies : (connection : ℕ) (sessions : List (Option SessionState)) (history : History)
-    → replies_in (left_from connection sessions history) ≡ replies_in history
-left_from-replies connection [] history = refl
-left_from-replies connection (None ∷ sessions) history = left_from-replies (suc connection) sessions history
-left_from-replies connection (Some session ∷ sessions) history =
-    left_from-replies (suc connection) sessions (left_by connection session.ended history) ∙ left_by-replies connection session.ended history
+pub left_from-told : (base : Base) (connection : ℕ) (sessions : List (Option SessionState)) (history : History)
+    → told_in base (left_from connection sessions history) ≡ told_in base history
+left_from-told base connection [] history = refl
+left_from-told base connection (None ∷ sessions) history = left_from-told base (suc connection) sessions history
+left_from-told base connection (Some session ∷ sessions) history =
+    left_from-told base (suc connection) sessions (left_by connection session.ended history) ∙ left_by-told base connection session.ended history
 
 -- what came later is kept, put after a connection that perhaps left
 pub left_by-since : (connection : ℕ) (stays : Bool) (history all : History) → (more : History) × (all ≡ more ++ left_by connection stays history)

@@ -7,7 +7,8 @@ use Rattle.mx_files.specs.Names.{journal_name}
 use Rattle.mx_frame.specs.Packets.{rest_of}
 use Rattle.mx_session.specs.Jobs.{ends}
 use Rattle.mx_session.specs.Sessions.{SessionState}
-use Rattle.mx_model.specs.Histories.{History, Left, IsLegal, replies_in, Base, state_of, clock_of}
+use Rattle.mx_model.specs.Histories.{History, Left, IsLegal, Base, state_of, clock_of}
+use Rattle.mx_model.specs.Replies.{told_in}
 use Rattle.mx_model.specs.Order.{order_in}
 use Rattle.mx_node.specs.declared.single.Single.{Single}
 use Rattle.mx_node.specs.Inputs.{InputUnit, max_connection}
@@ -92,7 +93,7 @@ pub record Serves (start : Start) (server : Single) (units : List InputUnit) (hi
   pub greeting : server.greeting ≡ start_greeting start
   pub ready : Ready start.base history server.engine server.journal states
   pub order : order_in history ≡ order_of units
-  pub told : length (replies_in history) ≡ length (jobs_from [] units)
+  pub told : length (told_in start.base history) ≡ length (jobs_from [] units)
   pub table : IsTable server.sessions.items
   pub sessions : (connection : ℕ) → connection ≤ max_connection → HasSession connection (came_on connection units) (session_at server.sessions.items connection)
 
@@ -110,6 +111,6 @@ pub record EndedNode (start : Start) (units : List InputUnit) (earlier : History
   pub since : (more : History) × (history ≡ more ++ earlier)
   pub legal : IsLegal start.base history
   pub order : order_in history ≡ whole_order_of units
-  pub told : replies_in history ≡ replies_in earlier
+  pub told : told_in start.base history ≡ told_in start.base earlier
   pub lasts : Lasts start.base history old states
   pub keeps : IfKnown states (λ disk past. DirectoryHolds start.base history disk)

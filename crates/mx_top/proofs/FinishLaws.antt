@@ -1,9 +1,10 @@
 -- How a run ends whose units were all answered: the connections depart, and the journal is ended.
-use Rattle.std.proofs.Common.{◌≡◌, ℕ, List, [], ◌++◌, Option, Some, refl, sym, ap, ◌∙◌, subst}
+use Rattle.std.proofs.Common.{◌≡◌, ℕ, List, [], ◌++◌, Option, refl, sym, ap, ◌∙◌, subst}
 use Rattle.std.specs.Prelude.{Result, Ok, Err, OnOk, OnErr, IfErr, IsSomeAnd}
 use Rattle.std.proofs.lemmas.List.{append-nil}
 use Rattle.mx_outside.specs.Disks.{Disk, IfKnown}
-use Rattle.mx_model.specs.Histories.{History, HasMemory, IsLegal, asks_in, history_from, replies_in}
+use Rattle.mx_model.specs.Histories.{History, HasMemory, IsLegal, history_from}
+use Rattle.mx_model.specs.Replies.{told_in}
 use Rattle.mx_model.specs.Order.{asks_among, order_in}
 use Rattle.mx_model.proofs.HistoryLaws.{history_of_asks}
 use Rattle.mx_model.proofs.OrderLaws.{asks_of_order}
@@ -74,7 +75,7 @@ completed status is start input server output contents first states now wrote cl
     let legal = subst (λ (h : History). IsLegal base h) whole closed.legal in
     let order : order_in (more ++ answered) ≡ whole_order_of units = ap order_in (sym whole) ∙ closed.order in
     let lasts : Lasts base (more ++ answered) states now = subst (λ (h : History). Lasts base h states now) whole closed.lasts in
-    let told : replies_in (more ++ answered) ≡ replies_in answered = ap replies_in (sym whole) ∙ closed.told in
+    let told : told_in start.base (more ++ answered) ≡ told_in start.base answered = ap (told_in start.base) (sym whole) ∙ closed.told in
     let same : trace_output start units answered ≡ trace_output start units (more ++ answered) =
     ap (λ replies. units_text (output_from start [] units replies)) (sym told) in
     let (stopped, same_steps) = breaks_after base more answered (whole_order_of units) first now legal

@@ -18,7 +18,7 @@ use Rattle.mx_node.specs.Serving.{AnswersUnit}
 use Rattle.mx_node.proofs.OrderLaws.{order_of-push}
 use Rattle.mx_node.proofs.KeepLaws.{ready_keeps}
 use Rattle.mx_node.proofs.LastingLaws.{breaks_now}
-use Rattle.mx_node.proofs.OutputLaws.{replies_in-asking}
+use Rattle.mx_node.proofs.OutputLaws.{told_in-asking}
 use Rattle.mx_top.specs.TraceOutput.{unit_text, units_text, trace_output}
 use Rattle.mx_top.specs.Units.{UnitHead, unit_by}
 use Rattle.mx_top.specs.Progress.{WritesUnit}
@@ -37,7 +37,7 @@ units_text-more units index unit within is =
 
 -- takes and confirmations aren't seen in the output
 pub trace_output-asking : (start : Start) (units : List InputUnit) (history : History) → trace_output start units (asking history) ≡ trace_output start units history
-trace_output-asking start units history = ap (λ replies. units_text (output_from start [] units replies)) (replies_in-asking history)
+trace_output-asking start units history = ap (λ replies. units_text (output_from start [] units replies)) (told_in-asking start.base history)
 
 -- the head of a unit tells its connection
 pub connection_by : (head : UnitHead) (content : List ℕ) → connection_of (unit_by head content) ≡ head.connection

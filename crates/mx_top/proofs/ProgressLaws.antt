@@ -1,7 +1,7 @@
 -- How one unit more, or a cause that ends the run, changes how far the run has come.
 use Rattle.std.proofs.Common.{◌≡◌, ℕ, ◌+◌, ◌-◌, ◌<◌, ◌≤◌, List, [], ◌∷◌, ◌++◌, length, drop, Option, Some, None, refl, sym, ap, ◌∙◌, subst, arith, length-append}
 use Rattle.std.specs.Prelude.{⊤, Ok, Err, IsSomeAnd}
-use Rattle.std.proofs.lemmas.List.{append-nil, append_assoc, length-drop, nil_from_length}
+use Rattle.std.proofs.lemmas.List.{append_assoc, length-drop, nil_from_length}
 use mathlib.Core.List.{IsPrefix}
 use Rattle.mx_outside.specs.Disks.{Disk}
 use Rattle.mx_model.specs.Histories.{History}

@@ -2,7 +2,7 @@
 use Rattle.std.specs.Prelude.{◌≡◌, ℕ, ◌+◌, ◌<◌, List, [], ◌∷◌, ◌++◌, length, Option, Some, None, Result, Ok, Err, IsSomeAnd}
 use Rattle.mx_msgpack.specs.Readers.{all_from}
 use Rattle.mx_outside.specs.Disks.{Disk, IfKnown}
-use Rattle.mx_model.specs.Histories.{History, HasMemory}
+use Rattle.mx_model.specs.Histories.{History}
 use Rattle.mx_model.specs.Order.{order_in}
 use Rattle.mx_model.specs.Gate.{RepliesMayLeave}
 use Rattle.mx_node.specs.declared.single.Single.{Single}

@@ -1,4 +1,4 @@
-use Rattle.std.proofs.Common.{◌≡◌, ◌++◌, ℕ, List, Some, ◌≤◌, length}
+use Rattle.std.proofs.Common.{◌≡◌, ◌++◌, ℕ, List, Some, length}
 use Rattle.mx_top.proofs.delivery.write_all.Given as goal
 
 -- what the output held is followed by a prefix of the bytes, and the rest of them is still to be written

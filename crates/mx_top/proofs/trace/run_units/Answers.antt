@@ -1,4 +1,4 @@
-use Rattle.std.proofs.Common.{Ok, Err}
+use Rattle.std.proofs.Common.{Err}
 use Rattle.std.proofs.lemmas.Result.{err_from_is_err_and}
 use Rattle.mx_images.specs.Changes.{KeepsOthers}
 use Rattle.mx_images.proofs.MomentLaws.{steps_then}
