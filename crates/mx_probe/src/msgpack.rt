@@ -261,17 +261,18 @@ fn bytes(arguments: &mut Arguments<'_>) -> Result<String, AllocError> {
     format!(in alloc; "{count} {is_empty} {same}")
 }
 
-/// Tuples of these bytes, taken apart and put together again.
+/// Tuples of these bytes, put into a list that had another one.
 fn tuples(arguments: &mut Arguments<'_>) -> Result<String, AllocError> {
     let mut tuples = Tuples::new(arguments.alloc());
+    tuples.push(b"\x90")?;
+    tuples.clear();
     for text in arguments.others() {
-        tuples.push(arguments.bytes_in(text))?;
+        tuples.push(arguments.bytes_in(text).as_slice())?;
     }
-    let tuples = Tuples::from_vec(tuples.into_vec());
     format!(in arguments.alloc(); "{}", All(&tuples))
 }
 
-/// How many tuples there are, and their bytes, or `empty`.
+/// How many tuples there are, and their bytes, one after the other; or `empty`.
 #[derive(Clone, Copy)]
 struct All<'a>(&'a Tuples);
 
@@ -281,11 +282,7 @@ impl fmt::Display for All<'_> {
             return f.write_str("empty");
         }
         let count = self.0.len();
-        write!(f, "{count}")?;
-        for tuple in self.0.as_slice() {
-            write!(f, " {}", Hex(tuple.as_slice()))?;
-        }
-        Ok(())
+        write!(f, "{count} {}", Hex(self.0.bytes()))
     }
 }
 

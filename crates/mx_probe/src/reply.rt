@@ -65,7 +65,7 @@ fn body_of(arguments: &mut Arguments<'_>) -> Result<ReplyBody, AllocError> {
 fn tuples_of(arguments: &mut Arguments<'_>) -> Result<Tuples, AllocError> {
     let mut tuples = Tuples::new(arguments.alloc());
     for text in arguments.others() {
-        tuples.push(arguments.bytes_in(text))?;
+        tuples.push(arguments.bytes_in(text).as_slice())?;
     }
     Ok(tuples)
 }

@@ -169,11 +169,7 @@ pub(crate) enum Told<'a> {
 
 /// The tuples' bytes, one after the other.
 pub(crate) fn bytes_of(alloc: Global, tuples: &Tuples) -> Result<Bytes, AllocError> {
-    let mut bytes = Bytes::new(alloc);
-    for tuple in tuples.as_slice() {
-        bytes.extend_from_slice(tuple.as_slice())?;
-    }
-    Ok(bytes)
+    Bytes::from_slice(alloc, tuples.bytes())
 }
 
 /// The bytes in what a reply tells.
@@ -215,14 +211,25 @@ pub(crate) enum Database {
 }
 
 impl Database {
-    /// A new database of the slow program.
-    pub(crate) fn slow(alloc: Global) -> Result<Database, AllocError> {
-        Ok(Database::Slow(Slow::new(alloc)?))
+    /// A new database of the slow program, on the node that takes writes.
+    pub(crate) fn slow(rt: &impl Abort, alloc: Global) -> Result<Database, AllocError> {
+        Database::slow_at(rt, alloc, "{}", 1)
     }
 
     /// A new database of the engine, on the node that takes writes.
     pub(crate) fn engine(rt: &impl Abort, alloc: Global) -> Result<Database, AllocError> {
         Ok(Database::Engine(engine_at(rt, alloc, "{}", 1)?))
+    }
+
+    /// A new database of the slow program that has come to a vclock, on the node of a replica id.
+    pub(crate) fn slow_at(
+        rt: &impl Abort,
+        alloc: Global,
+        clock: &str,
+        me: u8,
+    ) -> Result<Database, AllocError> {
+        let slow = Slow::new(alloc, clock_of(rt, clock), ids_of(me))?;
+        Ok(Database::Slow(slow))
     }
 
     /// The reply to a request.
@@ -269,13 +276,21 @@ pub(crate) fn engine_at(
     clock: &str,
     me: u8,
 ) -> Result<Engine, AllocError> {
-    let ids = Ids {
+    Engine::from_state(alloc, bootstrap(alloc)?, clock_of(rt, clock), ids_of(me))
+}
+
+/// The vclock of a text.
+fn clock_of(rt: &impl Abort, text: &str) -> Vclock {
+    Vclock::read_text(text.as_bytes()).expect(rt, "no vclock")
+}
+
+/// The identifiers of the node of a replica id.
+fn ids_of(me: u8) -> Ids {
+    Ids {
         me,
         instance: Default::default(),
         set: Default::default(),
-    };
-    let clock = Vclock::read_text(clock.as_bytes()).expect(rt, "no vclock");
-    Engine::from_state(alloc, bootstrap(alloc)?, clock, ids)
+    }
 }
 
 /// Compares a reply with what is expected.
@@ -320,14 +335,8 @@ pub(crate) fn play(
     Ok(())
 }
 
-/// Asks the slow program in order, from a new database on, and compares.
-fn play_slow(rt: &impl Abort, alloc: Global, steps: &[Step<'_>]) -> Result<(), AllocError> {
-    let mut database = Database::slow(alloc)?;
-    play(rt, alloc, &mut database, steps)
-}
-
-/// Asks the engine in order, from a new database on that has come to a vclock, on the node of a
-/// replica id, and compares.
+/// Asks the slow program and the engine in order, each from a new database on that has come to a
+/// vclock, on the node of a replica id, and compares.
 pub(crate) fn play_at(
     rt: &impl Abort,
     alloc: Global,
@@ -335,8 +344,10 @@ pub(crate) fn play_at(
     me: u8,
     steps: &[Step<'_>],
 ) -> Result<(), AllocError> {
-    let mut database = Database::Engine(engine_at(rt, alloc, clock, me)?);
-    play(rt, alloc, &mut database, steps)
+    let mut slow = Database::slow_at(rt, alloc, clock, me)?;
+    play(rt, alloc, &mut slow, steps)?;
+    let mut engine = Database::Engine(engine_at(rt, alloc, clock, me)?);
+    play(rt, alloc, &mut engine, steps)
 }
 
 /// Asks the slow program and the engine in order, each from a new database on, and compares.
@@ -345,6 +356,5 @@ pub(crate) fn play_both(
     alloc: Global,
     steps: &[Step<'_>],
 ) -> Result<(), AllocError> {
-    play_slow(rt, alloc, steps)?;
     play_at(rt, alloc, "{}", 1, steps)
 }

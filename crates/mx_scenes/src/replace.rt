@@ -1,8 +1,7 @@
 //! What a REPLACE puts: into a state, into the slow program and the engine, and over runs.
 
 use crate::database::{
-    Asked, Database, EQ, NO_KEY, Step, Told, check_refusal, engine_at, expect, play, play_at,
-    play_both,
+    Asked, Database, EQ, NO_KEY, Step, Told, check_refusal, play, play_at, play_both,
 };
 use crate::harness::{
     BLOCK, EXAMPLE_INPUT, EXAMPLE_OUTPUT, Exchange, FIRST, FOUND, NONE, PUT, TRACE,
@@ -195,12 +194,13 @@ fn put_long(rt: &impl Abort, alloc: Global, database: &mut Database) -> Result<(
 fn slow_program_and_engine_bound_tuples(rt: HostRuntime) -> Result<(), Fail> {
     let alloc = rt.alloc();
     assert_eq!(rt; MAX_TUPLE_SIZE, 1_048_576);
-    put_long(&rt, alloc, &mut Database::slow(alloc)?)?;
+    put_long(&rt, alloc, &mut Database::slow(&rt, alloc)?)?;
     put_long(&rt, alloc, &mut Database::engine(&rt, alloc)?)?;
     Ok(())
 }
 
-/// Asks the engine, of a new database that has come to the vclock, to put a tuple that is too long.
+/// Asks the slow program and the engine, of a new database that has come to the vclock, to put a tuple
+/// that is too long.
 fn put_too_long(
     rt: &impl Abort,
     alloc: Global,
@@ -210,9 +210,13 @@ fn put_too_long(
     told: Told<'_>,
 ) -> Result<(), AllocError> {
     let tuple = too_long(alloc)?;
-    let mut database = Database::Engine(engine_at(rt, alloc, clock, me)?);
-    let asked = Asked::Replace(space, tuple.as_slice());
-    expect(rt, alloc, &mut database, asked, told)
+    play_at(
+        rt,
+        alloc,
+        clock,
+        me,
+        &[(Asked::Replace(space, tuple.as_slice()), told)],
+    )
 }
 
 #[test]

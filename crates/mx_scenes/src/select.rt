@@ -247,9 +247,12 @@ fn check_pick(
         limit,
     };
     assert!(rt; state.misfit(key).is_none(), "at {pick:?}");
-    let selected = state.select(alloc, &pick).expect(rt, "no tuples");
-    check_tuples(rt, alloc, &pick, &selected.tuples, names)?;
-    check_read(rt, alloc, &pick, &selected.read, read)
+    let mut tuples = Tuples::new(alloc);
+    let keys = state
+        .select(alloc, &pick, &mut tuples)
+        .expect(rt, "no tuples");
+    check_tuples(rt, alloc, &pick, &tuples, names)?;
+    check_read(rt, alloc, &pick, &keys, read)
 }
 
 fn check_tuples(
@@ -338,7 +341,7 @@ fn ask_all(rt: &impl Abort, alloc: Global, database: &mut Database) -> Result<()
 
 #[test]
 fn slow_program_selects(rt: HostRuntime) -> Result<(), Fail> {
-    let mut database = Database::slow(rt.alloc())?;
+    let mut database = Database::slow(&rt, rt.alloc())?;
     Ok(ask_all(&rt, rt.alloc(), &mut database)?)
 }
 
@@ -571,7 +574,7 @@ fn ask_long(rt: &impl Abort, alloc: Global, database: &mut Database) -> Result<(
 
 #[test]
 fn slow_program_bounds_results(rt: HostRuntime) -> Result<(), Fail> {
-    let mut database = Database::slow(rt.alloc())?;
+    let mut database = Database::slow(&rt, rt.alloc())?;
     Ok(ask_long(&rt, rt.alloc(), &mut database)?)
 }
 
@@ -587,8 +590,9 @@ fn count_picked(
     state: &State,
     pick: &Pick<'_>,
 ) -> Result<Option<usize>, AllocError> {
-    match state.select(alloc, pick) {
-        Ok(selected) => Ok(Some(selected.tuples.len())),
+    let mut tuples = Tuples::new(alloc);
+    match state.select(alloc, pick, &mut tuples) {
+        Ok(_) => Ok(Some(tuples.len())),
         Err(SelectStop::TooLong) => Ok(None),
         Err(SelectStop::NoMemory) => Err(AllocError),
     }
