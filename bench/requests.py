@@ -1,12 +1,13 @@
 #!/usr/bin/env python3
 """Counts the instructions that the built program spends on a request, by valgrind's callgrind.
 
-Each input sets 1,000 keys, and then has pairs of a REPLACE and a SELECT of one key. What the
-setting alone costs is taken off, and the rest is divided by the number of the pairs' requests. A
+Each input sets 1,000 keys, and then has pairs of a REPLACE and a SELECT of one key, or of one of
+these alone. What the setting alone costs is taken off, and the rest is divided by the number of the
+pairs' requests. A
 server whose work on a request doesn't grow with the number of requests has a ratio near 1.
 
 Then the cut is measured: what a byte costs more that comes in a unit of its own, beside what a unit
-costs that brings an empty-bodied PING.
+costs that brings an empty-bodied PING. At last allocations are counted, by valgrind's memcheck.
 """
 
 import argparse
@@ -41,7 +42,11 @@ STEP = 389
 SIZES = (1_000, 10_000, 100_000)
 # As many connections as take turns.
 CONNECTIONS = 1000
+# As many requests have a unit where they are of one type alone.
+BATCH = 2_000
 SHAPES = {
+    "replaces": "REPLACE alone, 1,000 keys, units of 2,000 requests",
+    "selects": "SELECT of one key alone, 1,000 keys, units of 2,000 requests",
     "keys": "units of 16 MiB, 1,000 keys",
     "key": "units of 16 MiB, one key",
     "units": "a unit per pair",
@@ -75,6 +80,12 @@ def units(pieces):
     return b"".join(made)
 
 
+def batches(pieces, count):
+    """So many pieces joined, again and again."""
+    pieces = list(pieces)
+    return [b"".join(pieces[at : at + count]) for at in range(0, len(pieces), count)]
+
+
 def setting(keys=KEYS):
     """The input that sets so many keys."""
     return units(replace(key, key, 0) for key in range(keys))
@@ -85,7 +96,9 @@ def pairs(shape, count):
     for at in range(count):
         key = 0 if shape == "key" else at * STEP % KEYS
         sync = KEYS + 2 * at
-        yield replace(sync, key, at) + select(sync + 1, key)
+        first = select(sync, key) if shape == "selects" else replace(sync, key, at)
+        second = replace(sync + 1, key, at) if shape == "replaces" else select(sync + 1, key)
+        yield first + second
 
 
 def requests(shape, count):
@@ -97,6 +110,8 @@ def requests(shape, count):
         made = b"".join(map(input_unit, asked))
     elif shape == "bytes":
         made = b"".join(input_unit(bytes([byte])) for pair in asked for byte in pair)
+    elif shape in ("replaces", "selects"):
+        made = b"".join(map(input_unit, batches(asked, BATCH // 2)))
     else:
         made = units(asked)
     return setting() + made
@@ -147,6 +162,25 @@ def instructions(given):
         return instructions_in(given, folder)
 
 
+def allocations_in(given):
+    """How many allocations a run on this input makes."""
+    with new_folder() as folder:
+        report = traced(["valgrind", "--tool=memcheck"], given, folder).stderr.decode(errors="replace")
+    total = re.search(r"total heap usage: ([\d,]+) allocs", report)
+    if total is None:
+        sys.exit(f"valgrind tells no allocations:\n{report}")
+    return int(total.group(1).replace(",", ""))
+
+
+def measure_allocations(count):
+    """Prints how many allocations a REPLACE and a SELECT make, of requests of one type alone."""
+    base = allocations_in(setting())
+    print(f"allocations, at {2 * count:,} requests:")
+    for shape in ("replaces", "selects"):
+        made = allocations_in(requests(shape, count)) - base
+        print(f"  {SHAPES[shape]}: {made / (2 * count):,.2f} a request", flush=True)
+
+
 def measure(shape, sizes, base):
     """Prints a line for each size, and the ratio of the largest to the smallest."""
     print(f"{SHAPES[shape]}:")
@@ -187,6 +221,7 @@ def main():
         measure(shape, options.sizes, base)
     if not options.shape:
         measure_cut(min(options.sizes), base)
+        measure_allocations(min(options.sizes))
 
 
 if __name__ == "__main__":

@@ -1,7 +1,7 @@
 #!/usr/bin/env python3
 """Counts the instructions that the built program spends on a SELECT, by valgrind's callgrind.
 
-Each input sets keys, and then has SELECTs. What the setting alone costs is taken off, and the rest is
+Each input sets keys, and then has SELECTs, once and twice as many. What the latter costs more is
 divided by the number of SELECTs. First they begin at a key in the middle of 1,000 and go up, by
 limits of 1, 10 and 100. Then single keys are looked up, the same ones among 1,000 keys and among
 16,000: where a look-up goes down a tree it costs little more among 16 times as many.
@@ -17,31 +17,34 @@ LIMITS = (1, 10, 100)
 MORE_KEYS = 16 * KEYS
 
 
-def cost(keys, base, selects):
-    """What one of these SELECTs costs after so many keys were set, at the cost of `base`."""
-    total, answered = instructions(setting(keys) + units(selects))
-    if answered != keys + len(selects):
-        print(f"    only {answered:,} of {keys + len(selects):,} requests have a reply of tuples")
-    return (total - base) / len(selects)
+def cost(keys, selects):
+    """What one of these SELECTs costs after so many keys were set."""
+    totals = []
+    for asked in (selects, selects + selects):
+        total, answered = instructions(setting(keys) + units(asked))
+        if answered != keys + len(asked):
+            print(f"    only {answered:,} of {keys + len(asked):,} requests have a reply of tuples")
+        totals.append(total)
+    once, twice = totals
+    return (twice - once) / len(selects)
 
 
-def measure_limits(count, base):
+def measure_limits(count):
     """Prints what a SELECT costs by each limit, and what a tuple adds."""
     print(f"GE of key {KEYS // 2:,} among {KEYS:,} keys:")
     costs = {}
     for limit in LIMITS:
-        costs[limit] = cost(KEYS, base, [select(sync, KEYS // 2, "GE", limit) for sync in range(count)])
+        costs[limit] = cost(KEYS, [select(sync, KEYS // 2, "GE", limit) for sync in range(count)])
         print(f"  limit {limit:>3}: {costs[limit]:>10,.1f} instructions a SELECT", flush=True)
     few, many = min(LIMITS), max(LIMITS)
     print(f"  a tuple more: {(costs[many] - costs[few]) / (many - few):,.1f} instructions")
 
 
-def measure_look_ups(count, base):
+def measure_look_ups(count):
     """Prints what a look-up costs among few keys and among many, and how it grows."""
     print("EQ of one key, by a limit of 1:")
     look_ups = [select(at, at * STEP % KEYS, limit=1) for at in range(count)]
-    more_base, _ = instructions(setting(MORE_KEYS))
-    few, many = cost(KEYS, base, look_ups), cost(MORE_KEYS, more_base, look_ups)
+    few, many = cost(KEYS, look_ups), cost(MORE_KEYS, look_ups)
     for keys, one in ((KEYS, few), (MORE_KEYS, many)):
         print(f"  {keys:>6,} keys: {one:>10,.1f} instructions a SELECT")
     doublings = math.log2(MORE_KEYS / KEYS)
@@ -57,10 +60,8 @@ def main():
         parser.error("a run has 1 SELECT at least")
     if not is_built():
         sys.exit("the program is not built")
-    base, _ = instructions(setting())
-    print(f"setting {KEYS:,} keys: {base:,} instructions")
-    measure_limits(count, base)
-    measure_look_ups(count, base)
+    measure_limits(count)
+    measure_look_ups(count)
 
 
 if __name__ == "__main__":
