@@ -3,13 +3,16 @@
 
 The program reads units of 2,000 requests from a pipe, and its replies are read from another one; each
 REPLACE is durable before it is answered, and the directory stands in a file system in memory where
-there is one. Beside it the same is asked of `redis-server`, where that is on the path, over a socket
-in pipelines of 2,000, with a SET and a GET in the place of a REPLACE and a SELECT, and its log synced
-once for each turn of its loop. Each line is the fastest of three runs, less the fastest that only sets
-the keys; what else the machine does shows all the same, so the figures tell only orders of magnitude.
+there is one. A line is the fastest of three runs, less the fastest that only sets the keys.
+
+Beside it the same is asked of `tarantool` and of `redis-server`, where these are on the path, over a
+socket in pipelines of 2,000: of the one with the same packets, of the other with a SET and a GET in the
+place of a REPLACE and a SELECT. Their logs are synced once for many commits, and their seconds have the
+client's in them, which is this script: so it is their processor time that tells something.
 """
 
 import argparse
+import contextlib
 import os
 import shutil
 import socket
@@ -24,11 +27,19 @@ from requests import BATCH, KEYS, PROGRAM, STEP, answers, batches, is_built, new
 
 sys.path.append(str(Path(__file__).resolve().parent.parent / "tests"))
 
-from iproto import SEED, input_unit  # noqa: E402
+from iproto import GREETING_BYTES, SEED, input_unit, read_reply  # noqa: E402
 from program import environment  # noqa: E402
 
 COUNT = 1_000_000
 ROUNDS = 3
+# Where a peer listens, in its folder.
+SOCKET = "socket"
+TARANTOOL = """
+box.cfg{wal_mode = 'fsync', log_level = 1}
+box.schema.space.create('test', {id = 512}):create_index('primary', {parts = {1, 'unsigned'}})
+box.schema.user.grant('guest', 'read,write', 'universe')
+box.cfg{listen = 'unix/:socket'}
+"""
 
 
 def processor_time(process):
@@ -95,35 +106,70 @@ def ask(client, asked, lines):
                 sys.exit(f"redis-server answers {line!r}")
 
 
+@contextlib.contextmanager
+def peer(folder, *words):
+    """A server that listens on a socket in this folder, and a connection to it."""
+    process = subprocess.Popen(words, cwd=folder, stdout=subprocess.DEVNULL, stderr=subprocess.DEVNULL)
+    try:
+        client = socket.socket(socket.AF_UNIX)
+        for _ in range(100):
+            if not client.connect_ex(str(Path(folder) / SOCKET)):
+                break
+            time.sleep(0.05)
+        else:
+            sys.exit(f"{words[0]} doesn't listen")
+        yield process, client
+    finally:
+        process.terminate()
+        process.wait()
+
+
+def time_peer(name, process, count, kinds):
+    """Times what each kind's function asks."""
+    for kind, ask in kinds:
+        clock, used = time.monotonic(), processor_time(process.pid)
+        ask()
+        show(f"{name} {kind}", count, time.monotonic() - clock, processor_time(process.pid) - used, "the log synced for many")
+
+
 def time_redis(server, count):
-    """Starts a redis-server on a socket of its own, and asks it the same."""
+    """Asks a redis-server."""
+    keys = [b"%d" % (at * STEP % KEYS) for at in range(count)]
+    sets = batches((command(b"SET", key, b"%d" % at) for at, key in enumerate(keys)), BATCH)
+    gets = batches((command(b"GET", key) for key in keys), BATCH)
+    options = ("--port", "0", "--unixsocket", SOCKET, "--appendonly", "yes", "--appendfsync", "always", "--save", "")
+    with new_folder() as folder, peer(folder, server, *options) as (process, client):
+        # A GET is answered a line with the value's length, and the value.
+        time_peer("redis", process, count, (("SET", lambda: ask(client, sets, 1)), ("GET", lambda: ask(client, gets, 2))))
+
+
+def ask_packets(reader, client, asked):
+    """Sends packets in pipelines, and reads a reply for each."""
+    for batch in asked:
+        client.sendall(batch)
+        for _ in range(BATCH):
+            # A reply's size is spelled in four bytes behind its leading one.
+            size = reader.read(5)
+            answered = read_reply(size + reader.read(int.from_bytes(size[1:], "big")))
+            if answered.error is not None:
+                sys.exit(f"tarantool answers {answered}")
+
+
+def time_tarantool(server, count):
+    """Asks a tarantool, of a space like the program's."""
+    replaces = batches((replace(at, at * STEP % KEYS, at) for at in range(count)), BATCH)
+    selects = batches((select(at, at * STEP % KEYS) for at in range(count)), BATCH)
     with new_folder() as folder:
-        place = str(Path(folder) / "socket")
-        process = subprocess.Popen(
-            [server, "--port", "0", "--unixsocket", place, "--appendonly", "yes", "--appendfsync", "always", "--save", ""],
-            cwd=folder,
-            stdout=subprocess.DEVNULL,
-        )
-        try:
-            client = socket.socket(socket.AF_UNIX)
-            for _ in range(100):
-                if not client.connect_ex(place):
-                    break
-                time.sleep(0.05)
-            else:
-                sys.exit("redis-server doesn't listen")
-            keys = [b"%d" % (at * STEP % KEYS) for at in range(count)]
-            # A GET is answered a line with the value's length, and the value.
-            for kind, lines, asked in (
-                ("SET", 1, [command(b"SET", key, b"%d" % at) for at, key in enumerate(keys)]),
-                ("GET", 2, [command(b"GET", key) for key in keys]),
-            ):
-                clock, used = time.monotonic(), processor_time(process.pid)
-                ask(client, batches(asked, BATCH), lines)
-                show(f"redis {kind}", count, time.monotonic() - clock, processor_time(process.pid) - used, "the log synced for each turn")
-        finally:
-            process.terminate()
-            process.wait()
+        (Path(folder) / "init.lua").write_text(TARANTOOL)
+        with peer(folder, server, "init.lua") as (process, client):
+            reader = client.makefile("rb")
+            reader.read(GREETING_BYTES)
+            time_peer(
+                "tarantool",
+                process,
+                count,
+                (("REPLACE", lambda: ask_packets(reader, client, replaces)), ("SELECT", lambda: ask_packets(reader, client, selects))),
+            )
 
 
 def main():
@@ -137,11 +183,12 @@ def main():
     print(f"{count:,} requests over {KEYS:,} keys, {BATCH:,} at once:")
     time_program("REPLACE", [replace(at, at * STEP % KEYS, at) for at in range(count)], count)
     time_program("SELECT", [select(at, at * STEP % KEYS) for at in range(count)], count)
-    server = shutil.which("redis-server")
-    if server:
-        time_redis(server, count)
-    else:
-        print("  no redis-server is on the path")
+    for name, time_it in (("tarantool", time_tarantool), ("redis-server", time_redis)):
+        server = shutil.which(name)
+        if server:
+            time_it(server, count)
+        else:
+            print(f"  no {name} is on the path")
 
 
 if __name__ == "__main__":
