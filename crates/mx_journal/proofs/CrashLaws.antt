@@ -406,14 +406,14 @@ module _ (head : Head) (more : List ℕ) (txs all : List Tx) (disk : Disk) (puts
       )
 
   -- and it has at least what a crash leaves of it
-  most_some : (count : ℕ) → HasMost head all (appended (name_of head) (take count more) disk)
-  most_some count =
+  part_reads : (count : ℕ) → HasMost head all (appended (name_of head) (take count more) disk)
+  part_reads count =
       let (n, front) = front_put body more count texts puts.after in
       has_most head body (take count more) all_groups all n (appended (name_of head) (take count more) disk) puts.fits puts.all_grouped front
       (keeps_appended (take count more))
 
-  most_all : HasMost head all (with_appended (name_of head) more disk)
-  most_all =
+  whole_reads : HasMost head all (with_appended (name_of head) more disk)
+  whole_reads =
       has_most head (body ++ more) [] all_groups all (length texts) (with_appended (name_of head) more disk) puts.fits puts.all_grouped all_front keeps_all
 
   module _ {T E : Type 0} (wanted bytes : List ℕ) (after : Option (List Disk)) (past : List Disk) (result : Result T E) (named : wanted ≡ name_of head)
@@ -433,7 +433,7 @@ module _ (head : Head) (more : List ℕ) (txs all : List Tx) (disk : Disk) (puts
 
     pub grew_most : Moments (HasMost head all) (λ older newer. ⊤) after disk past
     grew_most =
-        while_appended (HasMost head all) (λ older newer. ⊤) (name_of head) more disk (λ count. (most_some count, tt)) (most_all, tt) after past result appends_more
+        while_appended (HasMost head all) (λ older newer. ⊤) (name_of head) more disk (λ count. (part_reads count, tt)) (whole_reads, tt) after past result appends_more
 
 -- ---- what a journal's calls put
 

@@ -13,7 +13,7 @@ use Rattle.mx_key.specs.Keys.{Key, KeyPart, IsFit, AreFit}
 use Rattle.mx_key.specs.Parts.{◌>>=◌, part_of, part_in, parts_of_items, key_of}
 use Rattle.mx_key.specs.Comparable.{part_bytes, comparable_of, part_of_value, AreParts}
 
-comparable_of-append : (parts others : Key) → comparable_of (parts ++ others) ≡ comparable_of parts ++ comparable_of others
+pub comparable_of-append : (parts others : Key) → comparable_of (parts ++ others) ≡ comparable_of parts ++ comparable_of others
 comparable_of-append [] others = refl
 comparable_of-append (part ∷ parts) others =
     ap (λ (l : List ℕ). part_bytes part ++ l) (comparable_of-append parts others) ∙ sym (append_assoc (part_bytes part) (comparable_of parts) (comparable_of others))

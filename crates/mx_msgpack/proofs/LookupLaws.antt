@@ -2,7 +2,7 @@
 use Rattle.std.proofs.Common.{◌≡◌, ℕ, zero, suc, ◌+◌, ◌-◌, ◌<◌, ◌≤◌, Bool, true, false, cond, List, [], ◌∷◌, length, map, take, set, get_or, Option, Some, None, refl, sym, ap, ◌∙◌, arith, eqb, eq-eqb, add-one}
 use Rattle.std.proofs.lemmas.Bool.{ne_eqb}
 use Rattle.std.specs.Option.{option_or}
-use Rattle.mx_msgpack.specs.Maps.{Pair, is_key, pairs_from, value_under}
+use Rattle.mx_msgpack.specs.Maps.{Pair, pairs_from, value_under}
 use Rattle.mx_msgpack.specs.Lookups.{noted}
 
 -- the later one of two, where there is one
@@ -121,31 +121,6 @@ pub pairs_over : (keys : List ℕ) (found whole : List (Option (List ℕ))) (lef
 pairs_over keys found whole left bytes none long all =
     let over : left ≡ 0 = omega arith in
     sym (followed_all keys found long) ∙ ap (λ (n : ℕ). followed keys found (pairs_from n bytes)) (sym over) ∙ all
-
--- ---- one key
-
--- what was found so far, and a pair
-abbrev with_pair : (key : ℕ) → Option (List ℕ) → Pair → Option (List ℕ)
-with_pair key found pair = cond (is_key key pair.key) (Some pair.value) found
-
--- a turn of the loop over the pairs
-pub one_pair : (key : ℕ) (before after whole : Option (List ℕ)) (left : ℕ) (bytes rest : List ℕ) (pair : Pair) → 0 < left
-    → ((others : ℕ) → pairs_from (suc others) bytes ≡ pair ∷ pairs_from others rest)
-    → after ≡ with_pair key before pair → later before (value_under key (pairs_from left bytes)) ≡ whole
-    → later after (value_under key (pairs_from (left - 1) rest)) ≡ whole
-one_pair key before after whole left bytes rest pair some first is all =
-    let more : left ≡ suc (left - 1) = omega arith in
-    let pairs : pairs_from left bytes ≡ pair ∷ pairs_from (left - 1) rest = ap (λ (n : ℕ). pairs_from n bytes) more ∙ first (left - 1) in
-    rw is
-    (sym (taken (is_key key pair.key) pair.value before (value_under key (pairs_from (left - 1) rest)))
-    ∙ ap (λ (ps : List Pair). later before (value_under key ps)) (sym pairs) ∙ all)
-
--- no pair remains
-pub key_over : (key : ℕ) (found whole : Option (List ℕ)) (left : ℕ) (bytes : List ℕ) → left ≤ 0
-    → later found (value_under key (pairs_from left bytes)) ≡ whole → found ≡ whole
-key_over key found whole left bytes none all =
-    let over : left ≡ 0 = omega arith in
-    ap (λ (n : ℕ). later found (value_under key (pairs_from n bytes))) (sym over) ∙ all
 
 -- ---- no values
 

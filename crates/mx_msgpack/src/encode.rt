@@ -12,7 +12,7 @@ use crate::value::Value;
 use byteorder::{BigEndian, ByteOrder};
 use std::alloc::{AllocError, Global};
 
-/// Adds an Int in the fewest bytes that spell it, which are 1 to 9.
+/// As `write_int`, of an Int of 0 or more.
 ///
 /// # Errors
 /// Out of memory; nothing is added.
@@ -112,7 +112,11 @@ fn write_pairs(pairs: &[(Value, Value)], out: &mut Bytes) -> Result<(), AllocErr
     Ok(())
 }
 
-fn write_int(number: i128, out: &mut Bytes) -> Result<(), AllocError>
+/// Adds an Int in the fewest bytes that spell it, which are 1 to 9.
+///
+/// # Errors
+/// Out of memory; nothing is added.
+pub fn write_int(number: i128, out: &mut Bytes) -> Result<(), AllocError>
     requires { Fits64 number }
     ensures { MatchResult result (λ _. out.new ≡ out.old ++ shortest_int number) (λ _. out.new ≡ out.old) }
 {
@@ -170,8 +174,13 @@ fn write_bin_head(size: usize, out: &mut Bytes) -> Result<(), AllocError>
     Ok(())
 }
 
+/// Adds the shortest head of an Array of `count` values. The head has 1, 3 or 5 bytes, and the values
+/// are to follow.
+///
+/// # Errors
+/// Out of memory; nothing is added.
 #[tactic(auto, unfolding(crate::specs::Spelling::array_head))]
-fn write_array_head(count: usize, out: &mut Bytes) -> Result<(), AllocError>
+pub fn write_array_head(count: usize, out: &mut Bytes) -> Result<(), AllocError>
     requires { count ≤ max_length }
     ensures { MatchResult result (λ _. out.new ≡ out.old ++ array_head count) (λ _. out.new ≡ out.old) }
 {

@@ -20,15 +20,17 @@ mod value_type;
 pub use bad::Bad;
 pub use bytes::Bytes;
 pub use decode::{ReadBad, read_value};
-pub use encode::{write_map_head, write_str_head, write_unsigned, write_value};
+pub use encode::{
+    write_array_head, write_int, write_map_head, write_str_head, write_unsigned, write_value,
+};
 pub use items::{Items, array_of, is_array, known_array, parted};
 pub use laws::{
     a_value_or_its_fault_stands_first, array_items_are_spelled, no_spelling_begins_another,
     what_is_written_is_read_again, what_is_written_is_shortest,
 };
 pub use lookup::values_at;
-pub use maps::{PairRef, PairsRef, first_pair, map_at, pairs_at, pairs_in, value_under};
-pub use readers::{after_byte, bytes_at, number_at, unsigned_32_at, unsigned_at, unsigned_in};
+pub use maps::{PairRef, PairsRef, first_pair};
+pub use readers::{number_at, unsigned_32_at, unsigned_at, unsigned_in};
 pub use size::{MAX_LENGTH, skip};
 pub use tuples::Tuples;
 pub use value::{Pairs, Value, Values};

@@ -1,22 +1,12 @@
 //! Small pieces that stand first in some bytes, each with the bytes after it.
 
 ghost use Rattle.std.specs.Prelude.{◌≡◌, ◌⊎◌, IfSome, Some};
-ghost use Rattle.std.specs.Option.{option_map, option_copied};
-ghost use Rattle.mx_msgpack.specs.Readers.{after_byte, number_at, bytes_at, unsigned_at, unsigned_in, unsigned_32_at};
+ghost use Rattle.std.specs.Option.{option_map};
+ghost use Rattle.mx_msgpack.specs.Readers.{number_at, unsigned_at, unsigned_in, unsigned_32_at};
 
 use crate::head::number_of;
 use crate::value_ref::{ValueRef, read_ref};
 use byteorder::{BigEndian, ByteOrder};
-
-/// The bytes after this byte, where it stands first; `None` where another byte does, or none.
-pub fn after_byte(wanted: u8, bytes: &[u8]) -> Option<&[u8]>
-    ensures { option_copied result ≡ after_byte wanted bytes.now }
-{
-    match bytes {
-        [first, rest @ ..] if *first == wanted => Some(rest),
-        _ => None,
-    }
-}
 
 /// A number of 4 bytes, the highest first, and the bytes after it; `None` where there are fewer than 4.
 pub fn number_at(bytes: &[u8]) -> Option<(u32, &[u8])>
@@ -27,16 +17,6 @@ pub fn number_at(bytes: &[u8]) -> Option<(u32, &[u8])>
     }
     let (digits, rest) = bytes.split_at(4);
     Some((BigEndian::read_u32(digits), rest))
-}
-
-/// The first `count` bytes, and the bytes after them; `None` where there are fewer.
-pub fn bytes_at(count: usize, bytes: &[u8]) -> Option<(&[u8], &[u8])>
-    ensures { option_map (λ x. (x.0.now, x.1.now)) result ≡ bytes_at count bytes.now }
-{
-    if bytes.len() < count {
-        return None;
-    }
-    Some(bytes.split_at(count))
 }
 
 /// An Int of MessagePack from 0 to `u64::MAX` in any of its spellings, and the bytes after it; `None` where

@@ -1,12 +1,8 @@
 -- A job in place, as the job that it is, and what comes next on a session.
-use Rattle.std.specs.Prelude.{◌≡◌, ℕ, Bool, true, false, List, Option, Some, None, Result, Ok, Err}
-use Rattle.mx_base.specs.declared.refusal.Refusal.{Refusal}
-use Rattle.mx_base.specs.declared.refusal.Refusal.TheVariants.{NotMessagePack}
-use Rattle.mx_request.specs.declared.request.Request.{Request}
+use Rattle.std.specs.Prelude.{◌≡◌, ℕ, Bool, List}
 use Rattle.mx_request.specs.declared.request.Ask.{Ask}
 use Rattle.mx_request.specs.declared.request.Ask.TheVariants as ask
 use Rattle.mx_request.specs.InPlace.{request_view}
-use Rattle.mx_request.specs.Packets.{PacketAsks}
 use Rattle.mx_session.specs.declared.job.AskRef.{AskRef}
 use Rattle.mx_session.specs.declared.job.AskRef.TheVariants as in_place
 use Rattle.mx_session.specs.declared.job.Job.{Job}
@@ -32,23 +28,3 @@ ShowsNext next.Ended session = next_of session ≡ AllSeen
 -- a job comes next, with which the connection ends or not
 abbrev pub IsJobNext : SessionState → (ends : Bool) → Type 0
 IsJobNext session ends = (job : Job) × (rest : List ℕ) × (next_of session ≡ JobSeen job rest ends)
-
--- what a packet asks as a job, and whether the connection ends with it
-abbrev pub ask_of : Option (Result Request Refusal) → Ask
-ask_of None = ask.Refused NotMessagePack
-ask_of (Some (Ok request)) = ask.Request request
-ask_of (Some (Err refusal)) = ask.Refused refusal
-
-abbrev pub ends_with : Option (Result Request Refusal) → Bool
-ends_with None = true
-ends_with (Some asked) = false
-
-abbrev pub job_of : (connection : ℕ) → PacketAsks → Job × Bool
-job_of connection packet = (
-  record {
-    name = record { conn = record { 0 = connection }; stream = record { 0 = packet.stream } };
-    sync = record { 0 = packet.sync };
-    ask = ask_of packet.asked;
-  },
-  ends_with packet.asked,
-)

@@ -3,42 +3,41 @@ use Rattle.std.specs.Prelude.{ℕ, Bool, true, false, List, [], ◌∷◌, map, 
 use Rattle.mx_base.specs.declared.refusal.Refusal.{Refusal}
 use Rattle.mx_base.specs.declared.refusal.Refusal.TheVariants.{NotMessagePack}
 use Rattle.mx_frame.specs.Packets.{packets_of, breaks_off}
-use Rattle.mx_request.specs.declared.request.Ask.TheVariants.{Request, Refused}
-use Rattle.mx_request.specs.declared.request.Head3.{Head3}
+use Rattle.mx_request.specs.declared.request.Ask.{Ask}
+use Rattle.mx_request.specs.declared.request.Ask.TheVariants as ask
 use Rattle.mx_request.specs.declared.request.Request as request
-use Rattle.mx_msgpack.specs.Maps.{Pair, pairs_in}
-use Rattle.mx_request.specs.Packets.{maps_in}
-use Rattle.mx_request.specs.Requests.{request_in, sync_in, stream_in}
+use Rattle.mx_request.specs.Packets.{PacketAsks, packet_in}
 use Rattle.mx_session.specs.declared.job.Job.{Job}
 
--- a refusal with the stream and the sync of a header
-abbrev pub refused_job : (connection : ℕ) → List Pair → Refusal → Job
-refused_job connection header refusal = record {
-  name = record { conn = record { 0 = connection }; stream = record { 0 = stream_in header } };
-  sync = record { 0 = sync_in header };
-  ask = Refused refusal;
+-- what a packet asks of the database: a request, or nothing, as it is refused before
+abbrev pub ask_of : Option (Result request.Request Refusal) → Ask
+ask_of None = ask.Refused NotMessagePack
+ask_of (Some (Ok request)) = ask.Request request
+ask_of (Some (Err refusal)) = ask.Refused refusal
+
+-- a packet that isn't one or two maps ends its connection
+abbrev pub ends_with : Option (Result request.Request Refusal) → Bool
+ends_with None = true
+ends_with (Some asked) = false
+
+abbrev pub job_with : (connection stream sync : ℕ) → Ask → Job
+job_with connection stream sync ask = record {
+  name = record { conn = record { 0 = connection }; stream = record { 0 = stream } };
+  sync = record { 0 = sync };
+  ask = ask;
 }
 
-abbrev pub asked_job : (connection : ℕ) → List Pair → Result (Head3 × request.Request) Refusal → Job
-asked_job connection header (Ok asked) = record {
-  name = record { conn = record { 0 = connection }; stream = asked.0.stream };
-  sync = asked.0.sync;
-  ask = Request asked.1;
-}
-asked_job connection header (Err refusal) = refused_job connection header refusal
+-- the job of what a packet asks, and whether the connection ends with it
+abbrev pub job_of : (connection : ℕ) → PacketAsks → Job × Bool
+job_of connection packet = (job_with connection packet.stream packet.sync (ask_of packet.asked), ends_with packet.asked)
 
--- a job, and whether the connection ends with it
-abbrev pub job_by : (connection : ℕ) → (packet : List ℕ) → Option (List ℕ × List ℕ) → Job × Bool
-job_by connection packet None = (refused_job connection (pairs_in packet) NotMessagePack, true)
-job_by connection packet (Some maps) = (asked_job connection (pairs_in maps.0) (request_in (pairs_in maps.0) (pairs_in maps.1)), false)
-
--- what a packet comes to, and whether the connection ends with it
+-- the job of a packet, and whether the connection ends with it
 abbrev pub job_in : (connection : ℕ) → (packet : List ℕ) → Job × Bool
-job_in connection packet = job_by connection packet (maps_in packet)
+job_in connection packet = job_of connection (packet_in packet)
 
--- what a size that no packet may have comes to
+-- the job of a size that no packet may have
 abbrev pub broken_job : (connection : ℕ) → Job
-broken_job connection = refused_job connection [] NotMessagePack
+broken_job connection = job_with connection 0 0 (ask.Refused NotMessagePack)
 
 -- the jobs up to and with the first that ends the connection, or these at the end
 abbrev pub up_to_end : List (Job × Bool) → List Job → List Job

@@ -2,8 +2,8 @@
 
 ghost use Rattle.std.specs.Prelude.{◌≡◌, true, IfOk};
 ghost use Rattle.mx_request.specs.InPlace.{packet_view};
-ghost use Rattle.mx_session.specs.JobViews.{ask_view, job_of, job_view};
-ghost use Rattle.mx_session.specs.Jobs.{broken_job, job_in};
+ghost use Rattle.mx_session.specs.JobViews.{ask_view, job_view};
+ghost use Rattle.mx_session.specs.Jobs.{broken_job, job_in, job_of};
 
 use mx_base::{ConnId, Refusal, StreamId, SyncId, TxnName};
 use mx_request::{Ask, AskedRef, PacketRef, RequestRef, read_packet, to_owned};

@@ -9,6 +9,10 @@ pub record TupleValue : Type 0 where
   pub bytes : List ℕ
   pub fields : List (List ℕ)
 
+-- the maximum size of a tuple, in bytes
+abbrev pub max_tuple_size : ℕ
+max_tuple_size = 1048576
+
 -- the maximum number of a tuple's fields, and so of a format's entries
 abbrev pub max_fields : ℕ
 max_fields = 2 ^ 32 - 1

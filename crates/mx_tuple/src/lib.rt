@@ -9,4 +9,4 @@ mod tuple;
 pub use checking::{FieldFault, check};
 pub use formats::{FieldKind, Format, FormatEntries, FormatEntry};
 pub use laws::a_field_is_a_value;
-pub use tuple::{Tuple, TupleBad, from_bytes};
+pub use tuple::{MAX_TUPLE_SIZE, Tuple, TupleBad, from_bytes};

@@ -11,6 +11,9 @@ use mx_msgpack::{Bytes, array_of, parted};
 use std::alloc::{AllocError, Global};
 use std::marker::Model;
 
+/// The maximum size of a tuple, in bytes.
+pub const MAX_TUPLE_SIZE: usize = 1_048_576;
+
 /// A tuple: its bytes, and the places in them where its fields begin, with the place where the last
 /// one ends.
 #[derive(Debug, Drop)]
