@@ -10,7 +10,6 @@ A line is printed for each round that fails, and the status is 0 only where none
 """
 
 import random
-import shutil
 import signal
 import subprocess
 import sys
@@ -20,20 +19,11 @@ import time
 from pathlib import Path
 
 from iproto import GREETING_BYTES, SEED, contents, input_unit, output_unit, request, tuples_reply
-from program import GREETING, PROGRAM, TRACE, environment, is_built
+from program import GREETING, PROGRAM, TRACE, all_pass, environment, expect, is_built
 
 SECONDS = 60
 SCRATCH = Path(tempfile.mkdtemp(prefix="vurandy-"))
 DELAYS = random.Random(20261127)
-
-
-class OutOfTime(Exception):
-    """The rounds took more than their seconds."""
-
-
-def expect(what, expected, seen):
-    """Checks that this is what was seen."""
-    assert seen == expected, f"{what}: expected {expected}, saw {seen}"
 
 
 def tuple_of(key):
@@ -271,39 +261,13 @@ def name_of(kills):
     return ", ".join(f"{kill.__name__.replace('_', ' ')} {point}" for kill, point in kills)
 
 
-def passes(kills):
-    """Makes one round, and prints how it failed if it did."""
-    try:
-        check_round(kills)
-    except (AssertionError, OSError) as error:
-        print(f"FAILED  {name_of(kills)}: {error}", flush=True)
-        return False
-    return True
-
-
-def out_of_time(*_):
-    raise OutOfTime
-
-
 def main():
     # The build is proved first, and may take far longer than the rounds.
     if not is_built():
         print("FAILED  the program is not built")
         return 1
-    signal.signal(signal.SIGALRM, out_of_time)
-    signal.alarm(SECONDS)
-    try:
-        results = [passes(kills) for kills in ROUNDS]
-    except OutOfTime:
-        print(f"FAILED  all rounds: expected to end within {SECONDS} seconds, saw that they didn't")
-        return 1
-    finally:
-        shutil.rmtree(SCRATCH)
-    if not all(results):
-        print(f"kill_program: {results.count(True)} passed, {results.count(False)} failed")
-        return 1
-    print(f"kill_program: {len(results)} passed")
-    return 0
+    rounds = [(name_of(kills), check_round, kills) for kills in ROUNDS]
+    return 0 if all_pass("kill_program", rounds, SECONDS, SCRATCH) else 1
 
 
 if __name__ == "__main__":

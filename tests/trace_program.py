@@ -14,7 +14,6 @@ import os
 import random
 import re
 import shutil
-import signal
 import subprocess
 import sys
 import tempfile
@@ -23,7 +22,7 @@ from dataclasses import dataclass
 from pathlib import Path
 
 from iproto import GREETING_BYTES, SEED, contents, input_unit, output_unit, request, tuples_reply
-from program import EXAMPLE, GREETING, ROOT, TRACE, environment, is_built
+from program import EXAMPLE, GREETING, ROOT, TRACE, all_pass, environment, expect, is_built
 
 # strace is given the program itself, and not the script that builds it.
 BUILT = ROOT / "crates" / "mx_program" / "out" / "mx_program"
@@ -34,15 +33,6 @@ SHUFFLES = random.Random(20261128)
 INPUT, OUTPUT = (EXAMPLE / "input.bin").read_bytes(), (EXAMPLE / "output.bin").read_bytes()
 STDIN, STDOUT = 0, 1
 STATUSES = {0: None, 2: "BadWords", 3: "ReadFault", 4: "WriteFault", 5: "DiskFault"}
-
-
-class OutOfTime(Exception):
-    """The checks took more than their seconds."""
-
-
-def expect(what, expected, seen):
-    """Checks that this is what was seen."""
-    assert seen == expected, f"{what}: expected {expected}, saw {seen}"
 
 
 def new_folder():
@@ -433,43 +423,16 @@ def can_trace():
     return subprocess.run(["strace", "-o", os.devnull, "true"], capture_output=True).returncode == 0
 
 
-def passes(check):
-    """Makes one check, and prints how it failed if it did."""
-    try:
-        check()
-    except (AssertionError, OSError) as error:
-        print(f"FAILED  {check.__name__.replace('_', ' ')}: {error}", flush=True)
-        return False
-    return True
-
-
-def out_of_time(*_):
-    raise OutOfTime
-
-
 def main():
     # The build is proved first, and may take far longer than the checks.
     if not is_built():
         print("FAILED  the program is not built")
         return 1
     is_traced = can_trace()
-    checks = PLAIN + TRACED if is_traced else PLAIN
-    signal.signal(signal.SIGALRM, out_of_time)
-    signal.alarm(SECONDS)
-    try:
-        results = [passes(check) for check in checks]
-    except OutOfTime:
-        print(f"FAILED  all checks: expected to end within {SECONDS} seconds, saw that they didn't")
-        return 1
-    finally:
-        shutil.rmtree(SCRATCH)
-    if not all(results):
-        print(f"trace_program: {results.count(True)} passed, {results.count(False)} failed")
-        return 1
     if not is_traced:
         print(f"trace_program: strace isn't installed or may not trace, so {len(TRACED)} checks aren't made")
-    print(f"trace_program: {len(results)} passed")
-    return 0
+    checks = [(check.__name__.replace("_", " "), check) for check in (PLAIN + TRACED if is_traced else PLAIN)]
+    return 0 if all_pass("trace_program", checks, SECONDS, SCRATCH) else 1
 
 
 if __name__ == "__main__":
