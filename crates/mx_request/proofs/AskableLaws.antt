@@ -23,7 +23,7 @@ use Rattle.mx_msgpack.specs.Maps.{Pair, pairs_from, pairs_in, value_under}
 use Rattle.mx_request.specs.Values.{number_to, number_32, array_in, uuid_in, vclock_from, vclock_in}
 use Rattle.mx_msgpack.specs.Readers.{unsigned_in}
 use Rattle.mx_request.specs.Operators.{shape_fault}
-use Rattle.mx_request.specs.Requests.{legal_value, required_value, optional_value, required, optional, shaped, operations_in, select_in, insert_in, replace_in, update_in, delete_in, upsert_in, begin_in, join_in, subscribe_in, ack_in, zero_type, request_type_of, body_request, request_in}
+use Rattle.mx_request.specs.Requests.{legal_value, required_value, optional_value, required, optional, shaped, shaped_operations, select_in, insert_in, replace_in, update_in, delete_in, upsert_in, begin_in, join_in, subscribe_in, ack_in, zero_type, request_type_of, body_request, request_in}
 use Rattle.mx_request.specs.declared.request_type.RequestType.{RequestType}
 use Rattle.mx_request.specs.declared.request_type.RequestType.TheVariants as type
 use Rattle.mx_request.specs.Spelling.{IsInnerArray, IsUuid, AreOperations, IsAskable, type_number}
@@ -82,14 +82,14 @@ required_array key pairs x inner e =
     required_is IsInnerArray key array_in (value_under key pairs) x
     (λ value u k. array_inside value x (under_inner key pairs value inner u) k) e
 
-shaped_is : (operations x : List ℕ) → operations_in operations ≡ Ok x → (shape_fault operations ≡ None) × (operations ≡ x)
+shaped_is : (operations x : List ℕ) → shaped_operations operations ≡ Ok x → (shape_fault operations ≡ None) × (operations ≡ x)
 shaped_is operations x e = by_fault (shape_fault operations) refl e
   where
     by_fault : (fault : Option Refusal) → shape_fault operations ≡ fault → shaped operations fault ≡ Ok x → (shape_fault operations ≡ None) × (operations ≡ x)
     by_fault None f e = (f, ok_is operations x e)
     by_fault (Some refusal) f e = absurd cc
 
-operations_are : (operations x : List ℕ) → IsInnerArray operations → operations_in operations ≡ Ok x → AreOperations x
+operations_are : (operations x : List ℕ) → IsInnerArray operations → shaped_operations operations ≡ Ok x → AreOperations x
 operations_are operations x inner e = let s = shaped_is operations x e in subst AreOperations s.1 (inner, s.0)
 
 -- a digit of sixteen
@@ -209,7 +209,7 @@ module _ (body : List Pair) (request : Request) (inner : AreInner body) where
       let base = bind_ok (optional 0x15 0 (number_to 1) body) _ request index.2 in
       let key = bind_ok (required 0x20 array_in body) _ request base.2 in
       let array = bind_ok (required 0x21 array_in body) _ request key.2 in
-      let operations = bind_ok (operations_in array.0) _ request array.2 in
+      let operations = bind_ok (shaped_operations array.0) _ request array.2 in
       asks 4 _ request operations.2 (
         (
           omega (arith, required_number (2 ^ 32 - 1) 0x10 body space.0 space.1),
@@ -243,7 +243,7 @@ module _ (body : List Pair) (request : Request) (inner : AreInner body) where
       let base = bind_ok (optional 0x15 0 (number_to 1) body) _ request space.2 in
       let tuple = bind_ok (required 0x21 array_in body) _ request base.2 in
       let array = bind_ok (required 0x28 array_in body) _ request tuple.2 in
-      let operations = bind_ok (operations_in array.0) _ request array.2 in
+      let operations = bind_ok (shaped_operations array.0) _ request array.2 in
       asks 9 _ request operations.2 (
         (
           omega (arith, required_number (2 ^ 32 - 1) 0x10 body space.0 space.1),

@@ -1,5 +1,4 @@
 mod ValueLaws
-mod OperatorLaws
 pub mod AskableLaws
 pub mod InnerLaws
 pub mod WriterLaws

@@ -12,7 +12,6 @@ use Rattle.mx_msgpack.specs.Readers.{unsigned_in}
 use Rattle.mx_msgpack.specs.Maps.{Pair, map_at, pairs_in, value_under}
 use Rattle.mx_msgpack.proofs.MapLaws.{map_alone, map_whole}
 use Rattle.mx_msgpack.proofs.Options.{same_some}
-use Rattle.mx_msgpack.proofs.Results.{bind_ok}
 use Rattle.mx_request.specs.declared.request.Head3.{Head3}
 use Rattle.mx_request.specs.declared.request.Request.{Request}
 use Rattle.mx_request.specs.declared.request_type.RequestType.{RequestType}
@@ -169,24 +168,3 @@ pub packet_seen : (packet : List ℕ) (rest : Option (List ℕ)) (number sync st
 packet_seen packet rest number sync stream asked s m r n sy st a s_is m_is =
     (λ i. packet_asks (number_found sync_key sync (pairs_in packet) s sy s_is i) (number_found stream_key stream (pairs_in packet) m st m_is i) asked)
     ∙ packet_shown packet rest number sync stream asked r n sy st a
-
--- ---- the head of a request that is read
-
-abbrev done : Head3 × Request → Result (Head3 × Request) Refusal
-done x = Ok x
-
-asked_same : (x y : Head3 × Request) → done x ≡ done y → x ≡ y
-asked_same x y e = cc
-
--- its sync and stream are those of the header
-pub request_numbers : (header body : List Pair) (head : Head3) (request : Request) → request_in header body ≡ Ok (head, request)
-    → (head.sync.0 ≡ sync_in header) × (head.stream.0 ≡ stream_in header)
-unfolding request_in
-request_numbers header body head request e =
-    let number = bind_ok (optional type_key 0 unsigned_in header) _ (head, request) e in
-    let kind = bind_ok (request_type_of number.0 body) _ (head, request) number.2 in
-    let sync = bind_ok (optional sync_key 0 unsigned_in header) _ (head, request) kind.2 in
-    let stream = bind_ok (optional stream_key 0 unsigned_in header) _ (head, request) sync.2 in
-    let asked = bind_ok (body_request kind.0 body) _ (head, request) stream.2 in
-    let same = asked_same _ (head, request) asked.2 in
-    (sym (ap (λ (x : Head3 × Request). x.0.sync.0) same) ∙ sym (ap or_zero sync.1), sym (ap (λ (x : Head3 × Request). x.0.stream.0) same) ∙ sym (ap or_zero stream.1))

@@ -10,7 +10,7 @@ use Rattle.mx_request.specs.declared.request.Request.TheVariants.{Select, Insert
 use Rattle.mx_msgpack.specs.Maps.{Pair, pairs_in}
 use Rattle.mx_request.specs.Values.{number_to, number_32, array_in}
 use Rattle.mx_msgpack.specs.Readers.{unsigned_in}
-use Rattle.mx_request.specs.Requests.{required, optional, operations_in, shaped, select_in, insert_in, replace_in, update_in, delete_in, upsert_in, begin_in, join_in, subscribe_in, ack_in, request_type_of, body_request, request_in}
+use Rattle.mx_request.specs.Requests.{required, optional, shaped_operations, shaped, select_in, insert_in, replace_in, update_in, delete_in, upsert_in, begin_in, join_in, subscribe_in, ack_in, request_type_of, body_request, request_in}
 use Rattle.mx_request.specs.declared.request_type.RequestType.{RequestType}
 use Rattle.mx_request.specs.declared.request_type.RequestType.TheVariants as type
 use Rattle.mx_request.specs.Spelling.{Written, unless_default, body_pairs, header_pairs, map_text, request_body_text, type_number, IsInnerArray, AreOperations, IsRequestHead, IsAskable, IsShared}
@@ -40,7 +40,7 @@ optional_to most key default number pairs e fits within =
 required_array : (key : ℕ) (array : List ℕ) (pairs : List Written) → found key pairs ≡ Some array → IsInnerArray array → required key array_in (map as_read pairs) ≡ Ok array
 required_array key array pairs e inner = required_again key array_in pairs array array e (array_read_again array inner)
 
-operations_again : (operations : List ℕ) → AreOperations operations → operations_in operations ≡ Ok operations
+operations_again : (operations : List ℕ) → AreOperations operations → shaped_operations operations ≡ Ok operations
 operations_again operations (inner, shape) = ap (shaped operations) shape
 
 -- ---- a body with these values under its keys
@@ -64,7 +64,7 @@ replace_from body space tuple s t = rw (s, t) refl
 
 update_from : (body : List Pair) (space index base : ℕ) (key operations : List ℕ) → required 0x10 number_32 body ≡ Ok space
     → optional 0x11 0 number_32 body ≡ Ok index → optional 0x15 0 (number_to 1) body ≡ Ok base → required 0x20 array_in body ≡ Ok key
-    → required 0x21 array_in body ≡ Ok operations → operations_in operations ≡ Ok operations
+    → required 0x21 array_in body ≡ Ok operations → shaped_operations operations ≡ Ok operations
     → update_in body ≡ Ok (Update (record { 0 = space }) (record { 0 = index }) base key operations)
 unfolding update_in
 update_from body space index base key operations s i b k o shape = rw (s, i, b, k, o, shape) refl
@@ -77,7 +77,7 @@ delete_from body space index key s i k = rw (s, i, k) refl
 
 upsert_from : (body : List Pair) (space base : ℕ) (tuple operations : List ℕ) → required 0x10 number_32 body ≡ Ok space
     → optional 0x15 0 (number_to 1) body ≡ Ok base → required 0x21 array_in body ≡ Ok tuple → required 0x28 array_in body ≡ Ok operations
-    → operations_in operations ≡ Ok operations → upsert_in body ≡ Ok (Upsert (record { 0 = space }) base tuple operations)
+    → shaped_operations operations ≡ Ok operations → upsert_in body ≡ Ok (Upsert (record { 0 = space }) base tuple operations)
 unfolding upsert_in
 upsert_from body space base tuple operations s b t o shape = rw (s, b, t, o, shape) refl
 

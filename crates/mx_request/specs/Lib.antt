@@ -7,4 +7,3 @@ pub mod InPlace
 pub mod Packets
 pub mod PacketParts
 pub mod ValueFaults
-pub mod Views

@@ -41,8 +41,8 @@ shaped operations None = Ok operations
 shaped operations (Some refusal) = Err refusal
 
 -- the operations, where each has the shape of one
-abbrev pub operations_in : List ℕ → Result (List ℕ) Refusal
-operations_in operations = shaped operations (shape_fault operations)
+abbrev pub shaped_operations : List ℕ → Result (List ℕ) Refusal
+shaped_operations operations = shaped operations (shape_fault operations)
 
 unfoldable pub select_in : List Pair → Result Request Refusal
 select_in body = do
@@ -73,7 +73,7 @@ update_in body = do
   base ← optional base_key 0 (number_to 1) body
   key ← required parts_key array_in body
   operations ← required tuple_key array_in body
-  operations ← operations_in operations
+  operations ← shaped_operations operations
   Ok (Update (record { 0 = space }) (record { 0 = index }) base key operations)
 
 unfoldable pub delete_in : List Pair → Result Request Refusal
@@ -89,7 +89,7 @@ upsert_in body = do
   base ← optional base_key 0 (number_to 1) body
   tuple ← required tuple_key array_in body
   operations ← required operations_key array_in body
-  operations ← operations_in operations
+  operations ← shaped_operations operations
   Ok (Upsert (record { 0 = space }) base tuple operations)
 
 -- the isolation level isn't kept, since there is one

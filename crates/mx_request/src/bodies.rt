@@ -3,7 +3,7 @@
 ghost use Rattle.std.specs.Prelude.{◌≡◌, Ok, None, map};
 ghost use Rattle.std.specs.Option.{option_copied};
 ghost use Rattle.mx_msgpack.specs.Maps.{AreValues, pairs_in, value_under};
-ghost use Rattle.mx_request.specs.Requests.{ack_in, begin_in, body_request, delete_in, insert_in, join_in, operations_in, replace_in, select_in, subscribe_in, update_in, upsert_in};
+ghost use Rattle.mx_request.specs.Requests.{ack_in, begin_in, body_request, delete_in, insert_in, join_in, shaped_operations, replace_in, select_in, subscribe_in, update_in, upsert_in};
 ghost use Rattle.mx_request.specs.InPlace.{request_view};
 ghost use Rattle.mx_request.specs.PacketParts.{is_body};
 ghost use Rattle.mx_msgpack.specs.Reading.{Gives};
@@ -279,7 +279,7 @@ fn body_values<'a>(keys: &[u8], body: &'a [u8], values: &mut [Option<&'a [u8]>])
 }
 
 fn shaped(operations: &[u8]) -> Result<&[u8], Refusal>
-    ensures { Gives (λ shaped. shaped.now) result (operations_in operations.now) }
+    ensures { Gives (λ shaped. shaped.now) result (shaped_operations operations.now) }
 {
     match shape_fault(operations) {
         None => Ok(operations),

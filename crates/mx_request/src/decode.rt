@@ -5,7 +5,6 @@ ghost use Rattle.mx_msgpack.specs.Maps.{pairs_in};
 ghost use Rattle.mx_msgpack.specs.Reading.{Gives};
 ghost use Rattle.mx_request.specs.InPlace.{request_view};
 ghost use Rattle.mx_request.specs.PacketParts.{request_by};
-ghost use Rattle.mx_request.specs.Requests.{stream_in, sync_in};
 ghost use Rattle.mx_request.specs.Returns.{ReturnsRequest};
 
 use crate::bodies::body_request;
@@ -13,7 +12,7 @@ use crate::fault::RequestFault;
 use crate::header::{Header, head_of, header_at, numbers_of};
 use crate::request::{Head3, Request};
 use crate::request_ref::{RequestRef, to_owned};
-use mx_base::{Refusal, StreamId, SyncId};
+use mx_base::Refusal;
 use std::alloc::Global;
 
 /// Reads what a packet's header and body ask. Each is one map; no bytes count as an empty one. Keys
@@ -51,14 +50,4 @@ fn request_in<'a>(header: Header, body: &'a [u8]) -> Result<(Head3, RequestRef<'
     let (request_type, head) = head_of(header, body)?;
     let request = body_request(request_type, body, &mut false)?;
     Ok((head, request))
-}
-
-/// The sync and the stream of the header that stands first in the bytes, each 0 where it isn't there
-/// or no number of 0 or more.
-pub fn header_numbers(header: &[u8]) -> (SyncId, StreamId)
-    ensures sync { result.0.0 ≡ sync_in (pairs_in header.now) }
-    ensures stream { result.1.0 ≡ stream_in (pairs_in header.now) }
-{
-    let (header, _) = header_at(header);
-    numbers_of(header)
 }

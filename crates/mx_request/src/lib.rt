@@ -17,7 +17,7 @@ mod type_number;
 mod value_fault;
 mod values;
 
-pub use decode::{header_numbers, read_request};
+pub use decode::read_request;
 pub use encode::write_request;
 pub use fault::RequestFault;
 pub use laws::{what_is_asked_is_read_again, what_is_read_can_be_asked};

@@ -1,0 +1,2 @@
+mod OperandLaws
+pub mod RowLaws
