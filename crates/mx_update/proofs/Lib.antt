@@ -1,0 +1,5 @@
+mod NumberLaws
+mod FieldsLaws
+mod SpellingLaws
+mod CountLaws
+mod OperationLaws
