@@ -1,0 +1,249 @@
+-- What stands where in a state after a tuple is put, and what memory has of it.
+use Rattle.std.proofs.Common.{◌≡◌, ℕ, Bool, true, false, List, [], cond, Option, length, refl, sym, ap, ◌∙◌, subst, arith, nat_cmp}
+use Rattle.mx_msgpack.specs.Readers.{◌>>=◌}
+use Rattle.std.specs.List.{filter}
+use Rattle.mx_key.specs.Keys.{Integer, is_key_prefix}
+use Rattle.std.specs.Prelude.{pos, ◌∷◌, ◌==◌, Some, None, Result, Ok, Err, IfSome, OnErr, if◌then◌else◌}
+use Rattle.std.specs.BTreeMap.{get_by, is_at}
+use Rattle.std.specs.List.{AllByRecursion}
+use Rattle.std.specs.Option.{unwrap_or}
+use Rattle.std.specs.Ordering.{eq_by_cmp}
+use Rattle.std.specs.FinMap.{empty, entries, get, insert, get-empty, get-insert}
+use Rattle.std.proofs.lemmas.Cmp.{nat_cmp_total}
+use Rattle.std.proofs.lemmas.Bool.{eqb-true}
+use Rattle.std.proofs.lemmas.Bool.Decides.{nat_tests}
+use Rattle.mx_msgpack.proofs.Options.{same_some}
+use Rattle.mx_key.specs.Keys.{Key}
+use Rattle.mx_schema.specs.declared.index_def.IndexDef.{IndexDef}
+use Rattle.mx_schema.specs.declared.schema.Schema.{Schema}
+use Rattle.mx_schema.specs.declared.state.State as coded
+use Rattle.mx_schema.specs.declared.state.Table.{Table}
+use Rattle.mx_schema.specs.declared.space_def.SpaceDef.{SpaceDef}
+use Rattle.mx_schema.specs.Catalogues.{index_defs, index_with, schema_of}
+use Rattle.mx_schema.specs.SpaceRows.{space_in}
+use Rattle.mx_schema.specs.Picks.{Indexed}
+use Rattle.mx_schema.specs.State as state
+use Rattle.mx_schema.specs.State.{State, key_in, tuples_in, with_tuple, space_rows, index_rows}
+use Rattle.mx_schema.specs.Stored.{AreWhole, IsKeyedBy, HoldsBy, HoldsSpace, StoresTuples}
+use Rattle.mx_key.specs.declared.part.Part.{Part}
+use Rattle.mx_tuple.specs.Fields.{tuple_of}
+use Rattle.mx_schema.proofs.WholeKeyLaws.{key_length}
+use Rattle.mx_schema.proofs.StoredLaws.{keys_put, no_keys, stores_none}
+
+-- two spaces tie where their numbers are the same
+pub spaces_tie : (a b : ℕ) → eq_by_cmp nat_cmp a b ≡ (a == b)
+spaces_tie a b = grind (arith, nat_tests)
+
+at_same : (a b : ℕ) → is_at (nat_cmp a) b ≡ (b == a)
+at_same a b = grind (arith, nat_tests)
+
+-- after a tuple is put into a space, that space has it, and the others are as before
+pub tuples_after : (before : State) (space : ℕ) (key : Key) (tuple : List ℕ) (q : ℕ)
+    → tuples_in (with_tuple before space key tuple) q ≡ (if q == space then insert (tuples_in before space) key tuple else tuples_in before q)
+tuples_after before space key tuple q =
+    let all = insert (tuples_in before space) key tuple in
+    ap (λ o. unwrap_or o empty) (get-insert nat_cmp_total before space all q ∙ ap (λ b. cond b (Some all) (get before q)) (spaces_tie q space))
+    ∙ by_test (q == space)
+  where
+    by_test : (b : Bool) → unwrap_or (cond b (Some (insert (tuples_in before space) key tuple)) (get before q)) empty
+        ≡ (if b then insert (tuples_in before space) key tuple else tuples_in before q)
+    by_test true = refl
+    by_test false = refl
+
+pub no_tuples : (q : ℕ) → tuples_in empty q ≡ empty
+no_tuples q = ap (λ o. unwrap_or o empty) (get-empty nat_cmp q)
+
+-- ---- what memory has
+
+whole_after : (schema : Schema) (tuples : state.Tuples) (key : Key) (tuple : List ℕ) → IfSome (index_with 0 schema.indexes) (λ def. length key ≡ length def.key)
+    → AreWhole schema tuples → AreWhole schema (insert tuples key tuple)
+whole_after schema tuples key tuple long whole = by_index (index_with 0 schema.indexes) long whole
+  where
+    by_index : (def : Option IndexDef) → IfSome def (λ def. length key ≡ length def.key)
+        → IfSome def (λ def. AllByRecursion (λ (entry : Indexed). length entry.0 ≡ length def.key) (entries tuples))
+        → IfSome def (λ def. AllByRecursion (λ (entry : Indexed). length entry.0 ≡ length def.key) (entries (insert tuples key tuple)))
+    by_index None long whole = tt
+    by_index (Some def) long whole = keys_put (λ k. length k ≡ length def.key) tuples key tuple long whole
+
+-- a space with a tuple more, where this is what is kept then
+space_put : (schema : Option Schema) (described : Schema) (table after : Table) (tuples : state.Tuples) (key : Key) (tuple : List ℕ)
+    → schema ≡ Some described → IfSome (index_with 0 described.indexes) (λ def. length key ≡ length def.key) → after.schema ≡ table.schema
+    → ((keeps : StoresTuples table.tuples.entries tuples) → StoresTuples after.tuples.entries (insert tuples key tuple))
+    → HoldsSpace schema (Some table) tuples → HoldsSpace schema (Some after) (insert tuples key tuple)
+space_put schema described table after tuples key tuple is long same keeps holds =
+    let one : described ≡ table.schema = same_some described table.schema (sym is ∙ holds.is) in
+    let long_of : IfSome (index_with 0 table.schema.indexes) (λ def. length key ≡ length def.key) =
+    subst (λ (s : Schema). IfSome (index_with 0 s.indexes) (λ def. length key ≡ length def.key)) one long in
+    record {
+      is = holds.is ∙ ap (λ s. Some s) (sym same);
+      keeps = keeps holds.keeps;
+      whole = subst (λ (s : Schema). AreWhole s (insert tuples key tuple)) (sym same) (whole_after table.schema tuples key tuple long_of holds.whole);
+    }
+
+module _ (schemas : ℕ → Option Schema) (before : State) (space : ℕ) (schema : Schema) (key : Key) (tuple : List ℕ) (is : schemas space ≡ Some schema)
+    (long : IfSome (index_with 0 schema.indexes) (λ def. length key ≡ length def.key)) where
+  -- one table has a tuple more
+  pub holds_put : (old new : coded.State) (table after : Table) → get_by (nat_cmp space) old.tables ≡ Some table → after.schema ≡ table.schema
+      → ((tuples : state.Tuples) → StoresTuples table.tuples.entries tuples → StoresTuples after.tuples.entries (insert tuples key tuple))
+      → ((q : ℕ) → get_by (nat_cmp q) new.tables ≡ cond (is_at (nat_cmp space) q) (Some after) (get_by (nat_cmp q) old.tables))
+      → HoldsBy schemas old before → HoldsBy schemas new (with_tuple before space key tuple)
+  holds_put old new table after there same keeps updates holds q = by_test (q == space) refl
+    where
+      by_test : (b : Bool) → (q == space) ≡ b → HoldsSpace (schemas q) (get_by (nat_cmp q) new.tables) (tuples_in (with_tuple before space key tuple) q)
+      by_test true e =
+          let one : q ≡ space = eqb-true q space e in
+          let found : get_by (nat_cmp q) new.tables ≡ Some after = updates q ∙ ap (λ b. cond b (Some after) (get_by (nat_cmp q) old.tables)) (at_same space q ∙ e) in
+          let tuples : tuples_in (with_tuple before space key tuple) q ≡ insert (tuples_in before space) key tuple =
+          tuples_after before space key tuple q ∙ ap (λ b. if b then insert (tuples_in before space) key tuple else tuples_in before q) e in
+          let was : HoldsSpace (schemas space) (Some table) (tuples_in before space) = subst (λ o. HoldsSpace (schemas space) o (tuples_in before space)) there (holds space) in
+          let now : HoldsSpace (schemas space) (Some after) (insert (tuples_in before space) key tuple) =
+          space_put (schemas space) schema table after (tuples_in before space) key tuple is long same (keeps (tuples_in before space)) was in
+          subst (λ o. HoldsSpace (schemas q) o (tuples_in (with_tuple before space key tuple) q)) (sym found)
+          (subst (λ t. HoldsSpace (schemas q) (Some after) t) (sym tuples)
+          (subst (λ s. HoldsSpace (schemas s) (Some after) (insert (tuples_in before space) key tuple)) (sym one) now))
+      by_test false e =
+          let found : get_by (nat_cmp q) new.tables ≡ get_by (nat_cmp q) old.tables = updates q ∙ ap (λ b. cond b (Some after) (get_by (nat_cmp q) old.tables)) (at_same space q ∙ e) in
+          let tuples : tuples_in (with_tuple before space key tuple) q ≡ tuples_in before q =
+          tuples_after before space key tuple q ∙ ap (λ b. if b then insert (tuples_in before space) key tuple else tuples_in before q) e in
+          subst (λ o. HoldsSpace (schemas q) o (tuples_in (with_tuple before space key tuple) q)) (sym found)
+          (subst (λ t. HoldsSpace (schemas q) (get_by (nat_cmp q) old.tables) t) (sym tuples) (holds q))
+
+  -- there is no such space in memory, which can't be
+  pub none_there : (old : coded.State) → get_by (nat_cmp space) old.tables ≡ None → HoldsBy schemas old before → ⊥
+  none_there old none holds =
+      let was : HoldsSpace (schemas space) None (tuples_in before space) = subst (λ o. HoldsSpace (schemas space) o (tuples_in before space)) none (holds space) in
+      let no : schemas space ≡ None = was.none in
+      let both : Some schema ≡ None = sym is ∙ no in
+      absurd cc
+
+-- what memory has of each space stays where the tables are the same but for records of one
+pub holds_same : (schemas : ℕ → Option Schema) (before : State) (old new : coded.State) (space : ℕ) (table after : Table) → get_by (nat_cmp space) old.tables ≡ Some table
+    → after.schema ≡ table.schema → after.tuples.entries ≡ table.tuples.entries
+    → ((q : ℕ) → get_by (nat_cmp q) new.tables ≡ cond (is_at (nat_cmp space) q) (Some after) (get_by (nat_cmp q) old.tables))
+    → HoldsBy schemas old before → HoldsBy schemas new before
+holds_same schemas before old new space table after there same kept updates holds q = by_test (q == space) refl
+  where
+    by_test : (b : Bool) → (q == space) ≡ b → HoldsSpace (schemas q) (get_by (nat_cmp q) new.tables) (tuples_in before q)
+    by_test true e =
+        let one : q ≡ space = eqb-true q space e in
+        let found : get_by (nat_cmp q) new.tables ≡ Some after = updates q ∙ ap (λ b. cond b (Some after) (get_by (nat_cmp q) old.tables)) (at_same space q ∙ e) in
+        let was : HoldsSpace (schemas q) (Some table) (tuples_in before q) =
+        subst (λ o. HoldsSpace (schemas q) o (tuples_in before q)) (ap (λ s. get_by (nat_cmp s) old.tables) one ∙ there) (holds q) in
+        subst (λ o. HoldsSpace (schemas q) o (tuples_in before q)) (sym found)
+        (record {
+          is = was.is ∙ ap (λ s. Some s) (sym same);
+          keeps = subst (λ kept. StoresTuples kept (tuples_in before q)) (sym kept) was.keeps;
+          whole = subst (λ (s : Schema). AreWhole s (tuples_in before q)) (sym same) was.whole;
+        })
+    by_test false e =
+        let found : get_by (nat_cmp q) new.tables ≡ get_by (nat_cmp q) old.tables = updates q ∙ ap (λ b. cond b (Some after) (get_by (nat_cmp q) old.tables)) (at_same space q ∙ e) in
+        subst (λ o. HoldsSpace (schemas q) o (tuples_in before q)) (sym found) (holds q)
+
+-- what holds anyway holds where an error is returned
+pub where_err : {X E : Type 0} {P : Type 0} (result : Result X E) → P → OnErr result P
+where_err (Ok x) p = tt
+where_err (Err e) p = p
+
+-- ---- the tables of a catalogue
+
+-- a space has its table, without tuples, or is still to come
+abbrev pub PartMade : (whole : Option Schema) → Option Table → (left : Option Schema) → Type 0
+PartMade whole None left = left ≡ whole
+PartMade whole (Some table) left = (whole ≡ Some table.schema) × (table.tuples.entries ≡ []) × (left ≡ None)
+
+-- a table more
+pub part_more : (whole : Option Schema) (space q : ℕ) (table : Table) (was now : Option Table) (left rest : Option Schema) (schema : Schema) → table.schema ≡ schema → table.tuples.entries ≡ []
+    → now ≡ cond (is_at (nat_cmp space) q) (Some table) was → rest ≡ cond (is_at (nat_cmp space) q) None left
+    → (is_at (nat_cmp space) q ≡ true → left ≡ Some schema) → PartMade whole was left → PartMade whole now rest
+part_more whole space q table was now left rest schema same none tables others first made = by_test (is_at (nat_cmp space) q) tables others first
+  where
+    by_was : (was : Option Table) → left ≡ Some schema → PartMade whole was left → whole ≡ Some schema
+    by_was None there made = sym made ∙ there
+    by_was (Some other) there (is, empty, gone) = absurd cc
+
+    by_test : (b : Bool) → now ≡ cond b (Some table) was → rest ≡ cond b None left → (b ≡ true → left ≡ Some schema) → PartMade whole now rest
+    by_test true tables others first =
+        subst (λ o. PartMade whole o rest) (sym tables) (by_was was (first refl) made ∙ ap (λ s. Some s) (sym same), none, others)
+    by_test false tables others first = subst (λ o. PartMade whole o rest) (sym tables) (subst (PartMade whole was) (sym others) made)
+
+no_whole : (schema : Schema) → AreWhole schema empty
+no_whole schema = by_index (index_with 0 schema.indexes)
+  where
+    none : state.Tuples
+    none = empty
+
+    by_index : (def : Option IndexDef) → IfSome def (λ def. AllByRecursion (λ (entry : Indexed). length entry.0 ≡ length def.key) (entries none))
+    by_index None = tt
+    by_index (Some def) = no_keys (λ k. length k ≡ length def.key)
+
+-- all have theirs
+pub all_made : (whole : Option Schema) (table : Option Table) (left : Option Schema) → left ≡ None → PartMade whole table left → HoldsSpace whole table empty
+all_made whole None left over made = record { none = sym made ∙ over; no_tuples = refl }
+all_made whole (Some table) left over (is, none, gone) = record {
+  is = is;
+  keeps = stores_none table.tuples.entries none;
+  whole = no_whole table.schema;
+}
+
+-- ---- the tuples that a space shows
+
+-- those of a table of memory
+pub shown_there : (schemas : ℕ → Option Schema) (memory : coded.State) (before : State) (space : ℕ) (table : Table) → HoldsBy schemas memory before
+    → Some table ≡ get_by (nat_cmp space) memory.tables → StoresTuples table.tuples.entries (tuples_in before space)
+shown_there schemas memory before space table holds there =
+    let was : HoldsSpace (schemas space) (Some table) (tuples_in before space) = subst (λ o. HoldsSpace (schemas space) o (tuples_in before space)) (sym there) (holds space) in
+    was.keeps
+
+-- none where there is no table
+pub shown_none : (schemas : ℕ → Option Schema) (memory : coded.State) (before : State) (space : ℕ) → HoldsBy schemas memory before
+    → None ≡ get_by (nat_cmp space) memory.tables → tuples_in before space ≡ empty
+shown_none schemas memory before space holds there =
+    let was : HoldsSpace (schemas space) None (tuples_in before space) = subst (λ o. HoldsSpace (schemas space) o (tuples_in before space)) (sym there) (holds space) in
+    was.no_tuples
+
+-- the keys of a space's own tuples have all parts of the index of the number 0
+pub own_whole : (schema : Schema) (tuples : state.Tuples) (def : IndexDef) → AreWhole schema tuples → index_with def.id.0 schema.indexes ≡ Some def → def.id.0 ≡ 0
+    → AllByRecursion (λ (entry : Indexed). length entry.0 ≡ length def.key) (entries tuples)
+own_whole schema tuples def whole is first =
+    subst (λ o. IfSome o (λ def. AllByRecursion (λ (entry : Indexed). length entry.0 ≡ length def.key) (entries tuples)))
+    (sym (ap (λ id. index_with id schema.indexes) first) ∙ is) whole
+
+-- ---- what describes spaces
+
+-- what describes spaces stays where a tuple is put into a space of others
+pub schema_after : (before : State) (space : ℕ) (key : Key) (tuple : List ℕ) → (space == space_rows) ≡ false → (space == index_rows) ≡ false
+    → (q : ℕ) → schema_of (with_tuple before space key tuple) q ≡ schema_of before q
+unfolding schema_of
+schema_after before space key tuple no_space no_index q =
+    let spaces : tuples_in (with_tuple before space key tuple) space_rows ≡ tuples_in before space_rows =
+    tuples_after before space key tuple space_rows ∙ ap (λ b. if b then insert (tuples_in before space) key tuple else tuples_in before space_rows) (other_way space_rows space no_space) in
+    let indexes : tuples_in (with_tuple before space key tuple) index_rows ≡ tuples_in before index_rows =
+    tuples_after before space key tuple index_rows ∙ ap (λ b. if b then insert (tuples_in before space) key tuple else tuples_in before index_rows) (other_way index_rows space no_index) in
+    λ i. described (spaces i) (indexes i) q
+  where
+    described : state.Tuples → state.Tuples → ℕ → Option Schema
+    described spaces indexes q = by_def (get spaces (Integer (pos q) ∷ []) >>= space_in)
+      where
+        by_def : Option SpaceDef → Option Schema
+        by_def None = None
+        by_def (Some def) = Some (record { def = def; indexes = index_defs (filter (λ entry. is_key_prefix (Integer (pos q) ∷ []) entry.0) (entries indexes)) })
+
+    other_way : (a b : ℕ) → (b == a) ≡ false → (a == b) ≡ false
+    other_way a b e = grind (arith, nat_tests)
+
+-- what memory has stays where each space is described as before
+pub holds_described : (one other : ℕ → Option Schema) (memory : coded.State) (before : State) → ((space : ℕ) → one space ≡ other space) → HoldsBy one memory before → HoldsBy other memory before
+holds_described one other memory before same holds space =
+    subst (λ s. HoldsSpace s (get_by (nat_cmp space) memory.tables) (tuples_in before space)) (same space) (holds space)
+
+-- ---- rows that are put one after the other
+
+-- so the key of a row has as many
+pub row_is_whole : (parts : List Part) (schema : Option Schema) (row : List ℕ) (key : Key) → IsKeyedBy parts schema → key_in parts row ≡ Ok key
+    → (described : Schema) × (schema ≡ Some described) × IfSome (index_with 0 described.indexes) (λ def. length key ≡ length def.key)
+row_is_whole parts None row key keyed has = absurd keyed
+row_is_whole parts (Some schema) row key keyed has = (schema, refl, by_index (index_with 0 schema.indexes) keyed)
+  where
+    by_index : (def : Option IndexDef) → IfSome def (λ def. def.key ≡ parts) → IfSome def (λ def. length key ≡ length def.key)
+    by_index None keyed = tt
+    by_index (Some def) keyed = key_length parts (tuple_of row).fields key has ∙ ap length (sym keyed)

@@ -1,0 +1,161 @@
+-- What is kept in memory and the tuples that it stands for.
+use Rattle.std.proofs.Common.{◌≡◌, ℕ, Bool, true, false, append-nil, List, [], ◌∷◌, ◌++◌, map, length, refl, sym, ap, ◌∙◌, subst, eq-eqb, ne_eqb, true≢false}
+use Rattle.std.specs.Prelude.{◌≢◌, Option, Some, None, IsTrue, MatchOption, is_some, not, if◌then◌else◌}
+use Rattle.std.specs.List.{AllByRecursion}
+use Rattle.std.specs.BTreeMap.{insert_entry}
+use Rattle.std.specs.Ordering.{nat_cmp}
+use Rattle.std.specs.Cmp.Lexicographic.{slice_cmp}
+use Rattle.std.specs.FinMap as finite
+use Rattle.std.proofs.lemmas.List.{nil_from_length}
+use Rattle.std.specs.FinMap.Entries.{put}
+use Rattle.mx_key.specs.Keys.{Key, AreFit, key_cmp}
+use Rattle.mx_key.specs.Comparable.{comparable_of}
+use Rattle.mx_key.proofs.KeyLaws.{key_cmp_total}
+use Rattle.mx_key.proofs.EncodingLaws.{bytes_order}
+use Rattle.mx_key.proofs.MakingLaws.{comparable_of-append}
+use Rattle.mx_schema.specs.declared.index_def.IndexDef.{IndexDef}
+use Rattle.mx_schema.specs.State.{Tuples, key_in, key_or_none}
+use Rattle.mx_schema.specs.Picks.{Indexed, entry_key, indexed_with, tuples_by_index}
+use Rattle.mx_schema.specs.Stored.{StoredTuple, stored_tuple, StoresTuples}
+use Rattle.mx_schema.proofs.PickLaws.{kept_with, all_with}
+
+no_entries : finite.entries (finite.empty {X = List ℕ} {R = key_cmp}) ≡ []
+no_entries = nil_from_length _ (sym (finite.len-entries finite.empty) ∙ finite.len-empty key_cmp (List ℕ))
+
+-- nothing is kept of no tuples
+pub stores_none : (kept : List StoredTuple) → kept ≡ [] → StoresTuples kept finite.empty
+stores_none kept none = record {
+  same = ap (map stored_tuple) no_entries ∙ sym none;
+  fit = subst (AllByRecursion (λ (entry : Indexed). AreFit entry.0)) (sym no_entries) tt;
+}
+
+-- a property of keys that no tuples have
+pub no_keys : (P : Key → Type 0) → AllByRecursion (λ (entry : Indexed). P entry.0) (finite.entries (finite.empty {X = List ℕ} {R = key_cmp}))
+no_keys P = subst (AllByRecursion (λ (entry : Indexed). P entry.0)) (sym no_entries) tt
+
+-- a tuple more is kept under its key
+pub stores_put : (kept after : List StoredTuple) (tuples : Tuples) (key : Key) (bytes tuple : List ℕ) → StoresTuples kept tuples
+    → AreFit key → bytes ≡ comparable_of key → after ≡ insert_entry (slice_cmp nat_cmp) kept bytes tuple
+    → StoresTuples after (finite.insert tuples key tuple)
+stores_put kept after tuples key bytes tuple keeps fit is put_in =
+    let all = finite.entries tuples in
+    let new : finite.entries (finite.insert tuples key tuple) ≡ put key_cmp key tuple all = finite.entries-insert key_cmp_total tuples key tuple in
+    record {
+      same = ap (map stored_tuple) new ∙ sym (kept_with bytes_order key tuple fit all keeps.fit)
+          ∙ ap (λ es. insert_entry (slice_cmp nat_cmp) es (comparable_of key) tuple) keeps.same
+          ∙ ap (λ k. insert_entry (slice_cmp nat_cmp) kept k tuple) (sym is) ∙ sym put_in;
+      fit = subst (AllByRecursion (λ (entry : Indexed). AreFit entry.0)) (sym new) (all_with AreFit key tuple fit all keeps.fit);
+    }
+
+-- and its key has a property that the others have
+pub keys_put : (P : Key → Type 0) (tuples : Tuples) (key : Key) (tuple : List ℕ) → P key → AllByRecursion (λ (entry : Indexed). P entry.0) (finite.entries tuples)
+    → AllByRecursion (λ (entry : Indexed). P entry.0) (finite.entries (finite.insert tuples key tuple))
+keys_put P tuples key tuple has others =
+    subst (AllByRecursion (λ (entry : Indexed). P entry.0)) (sym (finite.entries-insert key_cmp_total tuples key tuple)) (all_with P key tuple has (finite.entries tuples) others)
+
+-- keys that are joined, and their bytes
+pub keys_joined : (one other : Key) → comparable_of (one ++ other) ≡ comparable_of one ++ comparable_of other
+keys_joined one other = comparable_of-append one other
+
+pub fit_joined : (one other : Key) → AreFit one → AreFit other → AreFit (one ++ other)
+fit_joined [] other fits fit = fit
+fit_joined (part ∷ one) other fits fit = (fits.0, fit_joined one other fits.1 fit)
+
+-- the key in an index, by the test whether the index is unique
+pub index_key_is : (def : IndexDef) (first : Key) (tuple bytes : List ℕ) (unique : Bool) → def.unique ≡ unique → AreFit (key_or_none (key_in def.key tuple)) → AreFit first
+    → bytes ≡ comparable_of (key_or_none (key_in def.key tuple)) ++ (if unique then [] else comparable_of first)
+    → (bytes ≡ comparable_of (entry_key def first tuple)) × AreFit (entry_key def first tuple)
+index_key_is def first tuple bytes true is fits fit told =
+    let parts = key_or_none (key_in def.key tuple) in
+    let key : entry_key def first tuple ≡ parts = ap (λ b. parts ++ (if b then [] else first)) is ∙ append-nil parts in
+    (told ∙ append-nil (comparable_of parts) ∙ ap comparable_of (sym key), subst AreFit (sym key) fits)
+index_key_is def first tuple bytes false is fits fit told =
+    let parts = key_or_none (key_in def.key tuple) in
+    let key : entry_key def first tuple ≡ parts ++ first = ap (λ b. parts ++ (if b then [] else first)) is in
+    (told ∙ sym (keys_joined parts first) ∙ ap comparable_of (sym key), subst AreFit (sym key) (fit_joined parts first fits fit))
+
+-- ---- the tuples by another index
+
+-- some of the tuples are kept under their keys in an index, and the others are to come
+pub record PartIndexed (def : IndexDef) (all : Tuples) (kept left : List StoredTuple) : Type 0 where
+  pub so_far : Tuples
+  pub others : List Indexed
+  pub same : indexed_with def so_far others ≡ indexed_with def finite.empty (finite.entries all)
+  pub keeps : StoresTuples kept so_far
+  pub to_come : map stored_tuple others ≡ left
+  pub fit : AllByRecursion (λ (entry : Indexed). AreFit entry.0) others
+
+pub none_indexed : (def : IndexDef) (all : Tuples) (kept stored left : List StoredTuple) → kept ≡ [] → left ≡ stored → StoresTuples stored all → PartIndexed def all kept left
+none_indexed def all kept stored left none is keeps = record {
+  so_far = finite.empty;
+  others = finite.entries all;
+  same = refl;
+  keeps = stores_none kept none;
+  to_come = keeps.same ∙ sym is;
+  fit = keeps.fit;
+}
+
+-- one more is put under its key
+pub one_indexed : (def : IndexDef) (all : Tuples) (kept after left rest : List StoredTuple) (primary tuple bytes copy : List ℕ) → left ≡ (primary, tuple) ∷ rest
+    → ((first : Key) → AreFit first → primary ≡ comparable_of first → (bytes ≡ comparable_of (entry_key def first tuple)) × AreFit (entry_key def first tuple) × (copy ≡ tuple))
+    → after ≡ insert_entry (slice_cmp nat_cmp) kept bytes copy → PartIndexed def all kept left → PartIndexed def all after rest
+one_indexed def all kept after left rest primary tuple bytes copy next keyed put_in part = by_others part.others part.same (part.to_come ∙ next) part.fit
+  where
+    by_others : (others : List Indexed) → indexed_with def part.so_far others ≡ indexed_with def finite.empty (finite.entries all) → map stored_tuple others ≡ (primary, tuple) ∷ rest
+        → AllByRecursion (λ (entry : Indexed). AreFit entry.0) others → PartIndexed def all after rest
+    by_others [] same to_come fit = absurd cc
+    by_others ((first, one) ∷ others) same to_come (fit, fits) =
+        let pair : stored_tuple (first, one) ≡ (primary, tuple) = cc in
+        let key_is : primary ≡ comparable_of first = sym (ap (λ (p : StoredTuple). p.0) pair) in
+        let one_is : one ≡ tuple = ap (λ (p : StoredTuple). p.1) pair in
+        let others_are : map stored_tuple others ≡ rest = cc in
+        let (bytes_are, key_fit, copied) = keyed first fit key_is in
+        let key = entry_key def first tuple in
+        record {
+          so_far = finite.insert part.so_far key tuple;
+          others = others;
+          same = ap (λ t. indexed_with def (finite.insert part.so_far (entry_key def first t) t) others) (sym one_is) ∙ same;
+          keeps = stores_put kept after part.so_far key bytes tuple part.keeps key_fit bytes_are (put_in ∙ ap (insert_entry (slice_cmp nat_cmp) kept bytes) copied);
+          to_come = others_are;
+          fit = fits;
+        }
+
+-- all are
+pub all_indexed : (def : IndexDef) (all : Tuples) (kept left : List StoredTuple) → left ≡ [] → PartIndexed def all kept left
+    → StoresTuples kept (indexed_with def finite.empty (finite.entries all))
+all_indexed def all kept left over part = by_others part.others part.same (part.to_come ∙ over)
+  where
+    by_others : (others : List Indexed) → indexed_with def part.so_far others ≡ indexed_with def finite.empty (finite.entries all) → map stored_tuple others ≡ []
+        → StoresTuples kept (indexed_with def finite.empty (finite.entries all))
+    by_others [] same none = subst (StoresTuples kept) same part.keeps
+    by_others (entry ∷ others) same none = absurd cc
+
+-- the index of the number 0 has the tuples as they are, and another one under keys of its own
+pub primary_index : (def : IndexDef) (all : Tuples) → def.id.0 ≡ 0 → tuples_by_index def all ≡ all
+primary_index def all is = ap (λ b. if b then all else indexed_with def finite.empty (finite.entries all)) (eq-eqb def.id.0 0 is)
+
+pub other_index : (def : IndexDef) (all : Tuples) → (def.id.0 ≡ 0 → ⊥) → tuples_by_index def all ≡ indexed_with def finite.empty (finite.entries all)
+other_index def all apart = ap (λ b. if b then all else indexed_with def finite.empty (finite.entries all)) (ne_eqb def.id.0 0 apart)
+
+-- keys with as many parts as one of them
+pub all_as_long : (key : Key) (long : ℕ) → length key ≡ long → (all : List Indexed) → AllByRecursion (λ (entry : Indexed). length entry.0 ≡ long) all
+    → AllByRecursion (λ (entry : Indexed). length entry.0 ≡ length key) all
+all_as_long key long is [] whole = tt
+all_as_long key long is (entry ∷ all) (first, others) = (first ∙ sym is, all_as_long key long is all others)
+
+-- ---- the tuples that an index has in memory
+
+module _ {X : Type 0} (view : X → List StoredTuple) (def : IndexDef) (all : Tuples) (tuples kept : X) where
+  -- those of the space for the index of the number 0, and else others
+  pub kept_stored : (indexed : Option X) → StoresTuples (view tuples) all
+      → MatchOption indexed (def.id.0 ≡ 0) (λ found. (def.id.0 ≢ 0) × StoresTuples (view found) (tuples_by_index def all))
+      → MatchOption indexed (kept ≡ tuples) (λ found. kept ≡ found) → StoresTuples (view kept) (tuples_by_index def all)
+  kept_stored None keeps first same =
+      let theirs : StoresTuples (view kept) all = subst (λ one. StoresTuples (view one) all) (sym same) keeps in
+      subst (StoresTuples (view kept)) (sym (primary_index def all first)) theirs
+  kept_stored (Some found) keeps other same = subst (λ one. StoresTuples (view one) (tuples_by_index def all)) (sym same) other.1
+
+  pub is_first : (indexed : Option X) (is : Bool) → is_some indexed ≡ not is → IsTrue is
+      → MatchOption indexed (def.id.0 ≡ 0) (λ found. (def.id.0 ≢ 0) × StoresTuples (view found) (tuples_by_index def all)) → def.id.0 ≡ 0
+  is_first None is same here first = first
+  is_first (Some found) is same here other = absurd (true≢false (same ∙ ap not here))

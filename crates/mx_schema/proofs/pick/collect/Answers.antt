@@ -1,0 +1,29 @@
+use Rattle.std.proofs.Common.{rules, ◌≡◌, ◌-◌, ◌++◌, ◌∷◌, [], ◌<◌, length, inl, arith}
+use Rattle.std.proofs.lemmas.Result.{err_from_is_err_and}
+use Rattle.mx_schema.specs.Picks.{max_result_size}
+use Rattle.mx_schema.proofs.WindowLaws.{took_tuple, took_last, took_bytes, too_long}
+use Rattle.mx_schema.proofs.pick.collect.Goals as goal
+
+pub returns-in_err-bytes : goal.returns-in_err-bytes
+returns-in_err-bytes c =
+    let is = c.loop-left.invariant in
+    let p = err_from_is_err_and c.from_residual.result c.from_residual.ensures.1 in
+    let long : c.len.result ≡ length c.in-Some.tuple.now = search rules in
+    let stop = c.in_err-bytes.ensures in
+    let over = stop.1 in
+    let beyond : max_result_size - c.loop-left.bytes < length c.in-Some.tuple.now = omega (arith, over, long, is.3) in
+    rw (p.1, p.2) (inl (stop.0, too_long _ _ _ _ (c.in-Some.key.now, c.in-Some.tuple.now) _ _ (search rules) c.in-Some.ensures is.0 is.2 is.3 beyond))
+
+pub loop-left-preserved : goal.loop-left-preserved
+loop-left-preserved c =
+    let is = c.loop-left.invariant in
+    let more : 0 < c.loop-left.left = search rules in
+    let pushed : c.push.new.self ≡ c.loop-left.tuples ++ c.in-Some.tuple.now ∷ [] = search rules in
+    let long : c.len.result ≡ length c.in-Some.tuple.now = search rules in
+    let size = c.in_ok-bytes.ensures in
+    rw (pushed, size.0, long) (
+      took_tuple _ _ _ (c.in-Some.key.now, c.in-Some.tuple.now) _ _ more c.in-Some.ensures is.0,
+      took_last _ _ _ (c.in-Some.key.now, c.in-Some.tuple.now) _ _ more c.in-Some.ensures is.1,
+      took_bytes c.loop-left.tuples c.in-Some.tuple.now c.loop-left.bytes is.2,
+      search rules,
+    )

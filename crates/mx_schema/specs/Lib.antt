@@ -1,0 +1,15 @@
+pub mod Bootstrap
+pub mod Catalogues
+pub mod IndexRows
+pub mod Lookups
+pub mod Picks
+pub mod RowParts
+pub mod RowSteps
+pub mod Scans
+pub mod SchemaChecks
+pub mod Selecting
+pub mod Settings
+pub mod SpaceRows
+pub mod State
+pub mod Stored
+pub mod TextMaps

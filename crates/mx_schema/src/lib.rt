@@ -1,0 +1,42 @@
+//! What a database has: its spaces, as the rows that describe them say, and their tuples.
+#![tactic(auto)]
+
+mod bootstrap;
+mod catalogue;
+mod checks;
+mod fault;
+mod format_row;
+mod from_rows;
+mod index_def;
+mod index_row;
+mod keyed;
+mod laws;
+mod part_row;
+mod pick;
+mod projections;
+mod schema;
+mod selection;
+mod settings;
+mod space_def;
+mod space_row;
+mod spaces;
+mod state;
+mod text_map;
+
+pub use bootstrap::{first_index_rows, first_setting_rows, first_space_rows};
+pub use catalogue::Catalogue;
+pub use fault::SchemaFault;
+pub use from_rows::from_row_slices;
+pub use index_def::{IndexDef, IndexDefs, IndexKind, IndexRow};
+pub use index_row::index_of_row;
+pub use keyed::{Keyed, array_or_empty, index_tuple, key_array, key_tuple};
+pub use laws::{
+    a_catalogue_is_that_of_its_state, a_new_database_has_its_catalogue, rows_make_one_catalogue,
+};
+pub use pick::{MAX_RESULT_SIZE, Pick, SelectFault, SelectStop};
+pub use schema::Schema;
+pub use settings::is_leader;
+pub use space_def::SpaceDef;
+pub use space_row::space_of_row;
+pub use spaces::{CLUSTER, INDEX_ROWS, SETTINGS, SHOWN_INDEX_ROWS, SHOWN_SPACE_ROWS, SPACE_ROWS};
+pub use state::{State, Table};
