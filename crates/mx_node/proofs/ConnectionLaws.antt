@@ -1,22 +1,23 @@
 -- What one unit more brings to its connection: bytes, jobs, and perhaps the end.
-use Rattle.std.proofs.Common.{◌≡◌, ℕ, Bool, true, false, cond, List, [], ◌∷◌, ◌++◌, length, map, Option, Some, None, Result, Ok, Err, refl, sym, ap, ◌∙◌, subst, inl, inr, ◌⊎◌, arith}
-use Rattle.std.specs.Prelude.{not, ◌&&◌}
-use Rattle.std.proofs.lemmas.List.{append-nil, append_assoc, drop_at, drop_all, map-append}
+use Rattle.std.proofs.Common.{◌≡◌, ◌≢◌, ℕ, Bool, true, false, cond, List, [], ◌∷◌, ◌++◌, length, map, Option, Some, None, Result, Ok, Err, refl, sym, ap, ◌∙◌, subst, inl, inr, ◌⊎◌, arith}
+use Rattle.std.specs.Prelude.{not, ◌&&◌, if◌then◌else◌}
+use Rattle.std.proofs.lemmas.Bool.{eq-eqb, ne_eqb}
+use Rattle.std.proofs.lemmas.List.{append-nil, drop_at, drop_all, map-append}
 use Rattle.mx_base.specs.declared.refusal.Refusal.{Refusal}
 use Rattle.mx_frame.specs.Packets.{First, Packet, NeedMore, Broken, size_at, first_frame, packets_of, rest_of, is_broken, breaks_off}
 use Rattle.mx_frame.proofs.FrameLaws.{packets_of-append, rest_of-append, broken_stays}
 use Rattle.mx_request.specs.declared.request.Head3.{Head3}
 use Rattle.mx_request.specs.declared.request.Request.{Request}
 use Rattle.mx_msgpack.specs.Maps.{pairs_in}
-use Rattle.mx_request.specs.Packets.{maps_in}
+use Rattle.mx_request.specs.Packets.{maps_in, packet_by, request_only}
 use Rattle.mx_request.specs.Requests.{request_in}
 use Rattle.mx_request.proofs.AskableLaws.{asked_is_askable}
 use Rattle.mx_session.specs.declared.job.Job.{Job}
-use Rattle.mx_session.specs.Jobs.{asked_job, job_by, job_in, broken_job, jobs_of, some_ends, ends}
+use Rattle.mx_session.specs.Jobs.{ask_of, job_in, broken_job, jobs_of, some_ends, ends}
 use Rattle.mx_session.specs.Sessions.{JobSeen, next_by}
 use Rattle.mx_session.proofs.JobLaws.{nothing_after_the_end, in_pieces}
-use Rattle.mx_node.specs.Inputs.{InputUnit, Bytes}
-use Rattle.mx_node.specs.Connections.{came_after, came_from, came_on, gained, jobs_by, is_ended_by, IsJob, jobs_from}
+use Rattle.mx_node.specs.Inputs.{InputUnit, Bytes, Close, connection_of}
+use Rattle.mx_node.specs.Connections.{came_after, came_from, came_on, gained, jobs_by, is_ended_by, IsJob, IsSoundAsk}
 
 -- ---- one unit more
 
@@ -29,18 +30,16 @@ pub came_on-push : (connection : ℕ) (units : List InputUnit) (unit : InputUnit
     → came_on connection (units ++ unit ∷ []) ≡ came_after connection (came_on connection units) unit
 came_on-push connection units unit = came_from-push connection [] units unit
 
-pub jobs_from-append : (earlier units more : List InputUnit)
-    → jobs_from earlier (units ++ more) ≡ jobs_from earlier units ++ jobs_from (earlier ++ units) more
-jobs_from-append earlier [] more = ap (λ (l : List InputUnit). jobs_from l more) (sym (append-nil earlier))
-jobs_from-append earlier (unit ∷ units) more =
-    let later = earlier ++ unit ∷ [] in
-    ap (λ (l : List Job). jobs_by earlier unit ++ l) (jobs_from-append later units more)
-    ∙ sym (append_assoc (jobs_by earlier unit) (jobs_from later units) (jobs_from (later ++ units) more))
-    ∙ ap (λ (l : List InputUnit). (jobs_by earlier unit ++ jobs_from later units) ++ jobs_from l more) (append_assoc earlier (unit ∷ []) units)
+pub came_elsewhere : (unit : InputUnit) (connection : ℕ) (came : List ℕ) → connection ≢ connection_of unit → came_after connection came unit ≡ came
+came_elsewhere (Bytes on bytes) connection came other =
+    ap (λ (b : Bool). if b then came ++ bytes else came) (ne_eqb on connection (λ same. other (sym same)))
+came_elsewhere (Close on) connection came other = ap (λ (b : Bool). if b then [] else came) (ne_eqb on connection (λ same. other (sym same)))
 
-pub jobs_from-push : (units : List InputUnit) (unit : InputUnit) → jobs_from [] (units ++ unit ∷ []) ≡ jobs_from [] units ++ jobs_by units unit
-jobs_from-push units unit =
-    jobs_from-append [] units (unit ∷ []) ∙ ap (λ (l : List Job). jobs_from [] units ++ l) (append-nil (jobs_by units unit))
+pub came_here : (on : ℕ) (came bytes : List ℕ) → came_after on came (Bytes on bytes) ≡ came ++ bytes
+came_here on came bytes = ap (λ (b : Bool). if b then came ++ bytes else came) (eq-eqb on on refl)
+
+pub none_came : (on : ℕ) (came : List ℕ) → came_after on came (Close on) ≡ []
+none_came on came = ap (λ (b : Bool). if b then [] else came) (eq-eqb on on refl)
 
 -- ---- pieces of a connection's bytes
 
@@ -102,6 +101,10 @@ pub ends-nothing : (on : ℕ) → ends on [] ≡ false
 unfolding first_frame size_at
 ends-nothing on = refl
 
+pub jobs_of-nothing : (on : ℕ) → jobs_of on [] ≡ []
+unfolding first_frame size_at
+jobs_of-nothing on = refl
+
 -- ---- the jobs of a unit, and the end that it brings
 
 pub gained-append : {X : Type 0} (xs ys : List X) → gained xs (xs ++ ys) ≡ ys
@@ -151,18 +154,15 @@ is_ended_by-nothing earlier on =
 
 -- ---- jobs can be asked
 
-abbrev found_maps : (on : ℕ) → List ℕ → Option (List ℕ × List ℕ) → Type 0
-found_maps on packet maps = IsJob (job_by on packet maps).0
-
 sound_packet : (on : ℕ) (packet : List ℕ) → IsJob (job_in on packet).0
 sound_packet on packet = by_maps (maps_in packet)
   where
     by_asked : (header body : List ℕ) (asked : Result (Head3 × Request) Refusal) → request_in (pairs_in header) (pairs_in body) ≡ asked
-        → IsJob (asked_job on (pairs_in header) asked)
+        → IsSoundAsk (ask_of (Some (request_only asked)))
     by_asked header body (Ok (head, request)) e = (asked_is_askable header body head request e).0
     by_asked header body (Err refusal) e = tt
 
-    by_maps : (maps : Option (List ℕ × List ℕ)) → found_maps on packet maps
+    by_maps : (maps : Option (List ℕ × List ℕ)) → IsSoundAsk (ask_of (packet_by packet maps).asked)
     by_maps None = tt
     by_maps (Some (header, body)) = by_asked header body (request_in (pairs_in header) (pairs_in body)) refl
 

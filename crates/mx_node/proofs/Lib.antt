@@ -15,3 +15,6 @@ pub mod LastingLaws
 pub mod ServingLaws
 pub mod KeepLaws
 pub mod AgainLaws
+pub mod RepliesLaws
+pub mod AnsweringLaws
+pub mod SentLaws

@@ -1,7 +1,7 @@
 -- What a server has done once it has answered a unit.
-use Rattle.std.proofs.Common.{◌≡◌, ◌≢◌, ℕ, ◌+◌, ◌<◌, ◌≤◌, Bool, true, false, not, List, [], ◌∷◌, ◌++◌, length, set, map, Some, None, inl, inr, ◌⊎◌, refl, sym, ap, ◌∙◌, subst, arith}
+use Rattle.std.proofs.Common.{◌≡◌, ◌≢◌, ℕ, ◌<◌, ◌≤◌, Bool, true, false, not, List, [], ◌∷◌, ◌++◌, length, set, map, Some, None, inl, inr, ◌⊎◌, refl, sym, ap, ◌∙◌, subst, arith}
 use Rattle.std.specs.Prelude.{Option, IfSome, unwrap_or, ◌==◌, if◌then◌else◌}
-use Rattle.std.proofs.lemmas.Bool.{cases_lt, eqb-true, eq-eqb, ne_eqb, eqb-false}
+use Rattle.std.proofs.lemmas.Bool.{cases_lt, eqb-true, eqb-false}
 use Rattle.std.proofs.lemmas.List.{append-nil, append_assoc, length-append, length-set, get_or-set_same, get_or-set_other, set-get_or, get_or_past}
 use Rattle.mx_outside.specs.Disks.{Disk}
 use Rattle.mx_frame.specs.Packets.{rest_of}
@@ -10,7 +10,7 @@ use Rattle.mx_session.specs.declared.job.Job.{Job}
 use Rattle.mx_session.specs.Jobs.{ends, jobs_of}
 use Rattle.mx_session.specs.Sessions.{SessionState}
 use Rattle.mx_model.specs.Histories.{Base, History, Left}
-use Rattle.mx_model.specs.Replies.{Told, told_in}
+use Rattle.mx_model.specs.Replies.{told_now}
 use Rattle.mx_model.specs.Order.{Step, order_in}
 use Rattle.mx_model.specs.ReplyStream.{packets_of_replies}
 use Rattle.mx_engine.specs.declared.engine.Engine.{Engine}
@@ -18,19 +18,20 @@ use Rattle.mx_engine.specs.Standing.{EngineStandsFor}
 use Rattle.mx_journal.specs.declared.journal.Journal.{Journal}
 use Rattle.mx_node.specs.declared.single.Single.{Single}
 use Rattle.mx_node.specs.Inputs.{InputUnit, Bytes, Close, connection_of, max_connection}
-use Rattle.mx_node.specs.Connections.{came_after, came_on, is_open, jobs_by, jobs_from}
+use Rattle.mx_node.specs.Connections.{came_after, came_on, is_open, AreOf}
 use Rattle.mx_node.specs.Order.{departure_where, order_by, written_out}
 use Rattle.mx_node.specs.Starts.{Start, start_greeting}
-use Rattle.mx_node.specs.Outputs.{sync_of, opening, sent_on, closed_on, output_for, output_of}
+use Rattle.mx_node.specs.Outputs.{sync_of, sent_on, closed_on, output_for}
 use Rattle.mx_model.specs.declared.out_units.OutUnit.{OutUnit}
 use Rattle.mx_node.specs.Ready.{Ready, IsReady, AnswersJobs, TakenAll}
 use Rattle.mx_model.specs.Survival.{Lasts}
 use Rattle.mx_node.specs.Serving.{Attends, CanServe, HasSession, IsIdle, IsTable, Serves, AnswersUnit, goes_on, opened, session_at}
-use Rattle.mx_node.proofs.ConnectionLaws.{came_on-push, ends-nothing, ends-piece, ends-stays, jobs_by-ended, jobs_by-nothing, jobs_by-open, jobs_from-push, rest_of-nothing}
+use Rattle.mx_node.proofs.ConnectionLaws.{came_elsewhere, came_here, none_came, came_on-push, ends-nothing, ends-piece, ends-stays, rest_of-nothing}
 use Rattle.mx_node.proofs.LastingLaws.{lasts_longer, lasts_none}
-use Rattle.mx_node.proofs.OrderLaws.{order_by-ended, order_by-nothing, order_by-open, order_of-push}
-use Rattle.mx_node.proofs.OutputLaws.{opening-ended, output_for-ended, output_for-nothing, output_for-open, output_of-push}
-use Rattle.mx_node.proofs.TableLaws.{left_by, left_by-order, left_by-told, left_by-since, there_where}
+use Rattle.mx_node.proofs.OrderLaws.{order_by-ended, order_by-nothing, order_by-open, order_of_more, order_of-push}
+use Rattle.mx_node.proofs.OutputLaws.{opening, opening-ended, output_for-ended, output_for-left, output_for-nothing, output_for-open}
+use Rattle.mx_node.proofs.RepliesLaws.{HasReplies, jobs_now-open, jobs_of-whose, replies_of_order, same_twice}
+use Rattle.mx_node.proofs.TableLaws.{left_by, left_by-order, left_by-since, there_where}
 
 -- ---- a table in which one place changed
 
@@ -139,26 +140,15 @@ is_ready_left old new journal states on (base, history, ready) left =
 -- What the answering of a unit gave, and what is in its connection's place now.
 pub record Gave (start : Start) (old new : Single) (units : List InputUnit) (earlier : History) (unit : InputUnit) (output : List OutUnit) (before after : Option (List Disk)) : Type 0 where
   pub history : History
-  pub replies : List Told
   pub since : (more : History) × (history ≡ more ++ earlier)
   pub lasts : Lasts start.base history before after
   pub ready : Ready start.base history new.engine new.journal after
   pub order : order_in history ≡ order_in earlier ++ order_by units unit
-  pub told : told_in start.base history ≡ told_in start.base earlier ++ replies
-  pub each : length replies ≡ length (jobs_by units unit)
-  pub writes : output ≡ output_for start units unit replies
+  pub writes : output ≡ output_for start units earlier unit history
   pub greeting : new.greeting ≡ old.greeting
   pub slot : Option SessionState
   pub table : new.sessions.items ≡ set old.sessions.items (connection_of unit) slot
   pub has : HasSession (connection_of unit) (came_after (connection_of unit) (came_on (connection_of unit) units) unit) slot
-
-came_elsewhere : (unit : InputUnit) (connection : ℕ) (came : List ℕ) → connection ≢ connection_of unit → came_after connection came unit ≡ came
-came_elsewhere (Bytes on bytes) connection came other =
-    ap (λ (b : Bool). if b then came ++ bytes else came) (ne_eqb on connection (λ same. other (sym same)))
-came_elsewhere (Close on) connection came other = ap (λ (b : Bool). if b then [] else came) (ne_eqb on connection (λ same. other (sym same)))
-
-came_here : (on : ℕ) (came bytes : List ℕ) → came_after on came (Bytes on bytes) ≡ came ++ bytes
-came_here on came bytes = ap (λ (b : Bool). if b then came ++ bytes else came) (eq-eqb on on refl)
 
 module _ (start : Start) (old new : Single) (units : List InputUnit) (earlier : History) (unit : InputUnit) (output : List OutUnit) (before after : Option (List Disk))
     (serves : Serves start old units earlier before) (known : connection_of unit ≤ max_connection)
@@ -177,26 +167,27 @@ module _ (start : Start) (old new : Single) (units : List InputUnit) (earlier : 
       (subst (λ (l : List (Option SessionState)). HasSession connection (came_after connection (came_on connection units) unit) (session_at l connection))
       (sym gave.table) one)
 
+  order_more : order_in gave.since.0 ≡ order_by units unit
+  order_more = order_of_more gave.history gave.since.0 earlier (order_by units unit) gave.since.1 gave.order
+
   serves_now : Serves start new (units ++ unit ∷ []) gave.history after
   serves_now = record {
     greeting = gave.greeting ∙ serves.greeting;
     ready = gave.ready;
     order = gave.order ∙ ap (λ (l : List Step). l ++ order_by units unit) serves.order ∙ sym (order_of-push units unit);
-    told = ap length gave.told ∙ length-append (told_in start.base earlier) gave.replies
-        ∙ ap (λ (n : ℕ). n + length gave.replies) serves.told ∙ ap (λ (n : ℕ). length (jobs_from [] units) + n) gave.each
-        ∙ sym (length-append (jobs_from [] units) (jobs_by units unit)) ∙ ap length (sym (jobs_from-push units unit));
     table = ap length gave.table ∙ table_same old.sessions.items (connection_of unit) gave.slot serves.table;
     sessions = session_now;
   }
 
   pub took : AnswersUnit start new units earlier unit output before after
   took = record {
+    more = gave.since.0;
     history = gave.history;
-    since = gave.since;
+    since = gave.since.1;
+    order = order_more;
     lasts = gave.lasts;
     serves = serves_now;
-    grows = output_of-push start units unit earlier gave.history gave.replies serves.told gave.told
-        ∙ ap (λ (l : List OutUnit). output_of start units earlier ++ l) (sym gave.writes);
+    is = gave.writes;
   }
 
 -- ---- a unit without bytes
@@ -208,14 +199,11 @@ gave_nothing start server units history on states serves known =
     let slot = session_at server.sessions.items on in
     record {
       history = history;
-      replies = [];
       since = ([], refl);
       lasts = lasts_none start.base history states;
       ready = serves.ready;
       order = sym (append-nil (order_in history)) ∙ ap (λ (l : List Step). order_in history ++ l) (sym (order_by-nothing units on));
-      told = sym (append-nil (told_in start.base history));
-      each = ap length (sym (jobs_by-nothing units on));
-      writes = sym (output_for-nothing start units on []);
+      writes = sym (output_for-nothing start units history on);
       greeting = refl;
       slot = slot;
       table = sym (set-get_or server.sessions.items on None);
@@ -240,9 +228,6 @@ took_nothing start server units history on bytes output states serves known none
 
 -- ---- a close
 
-closed_here : (on : ℕ) (came : List ℕ) → HasSession on (came_after on came (Close on)) None
-closed_here on came = subst (λ (l : List ℕ). HasSession on l None) (sym (ap (λ (b : Bool). if b then [] else came) (eq-eqb on on refl))) refl
-
 module _ (start : Start) (old new : Single) (units : List InputUnit) (earlier : History) (on : ℕ) (states : Option (List Disk)) (stays : Bool) where
   -- the connection leaves, unless it wasn't there
   pub gave_close : Serves start old units earlier states → is_open on (came_on on units) ≡ not stays
@@ -250,18 +235,15 @@ module _ (start : Start) (old new : Single) (units : List InputUnit) (earlier : 
       → new.sessions.items ≡ set old.sessions.items on None → Gave start old new units earlier (Close on) [] states states
   gave_close serves there ready greeting table = record {
     history = left_by on stays earlier;
-    replies = [];
     since = left_by-since on stays earlier (left_by on stays earlier) ([], refl);
     lasts = lasts_none start.base (left_by on stays earlier) states;
     ready = ready;
     order = left_by-order on stays (is_open on (came_on on units)) earlier there;
-    told = left_by-told start.base on stays earlier ∙ sym (append-nil (told_in start.base earlier));
-    each = refl;
     writes = refl;
     greeting = greeting;
     slot = None;
     table = table;
-    has = closed_here on (came_on on units);
+    has = subst (λ (l : List ℕ). HasSession on l None) (sym (none_came on (came_on on units))) refl;
   }
 
 -- a close was taken: what the table says of its connection is what the units do
@@ -327,18 +309,16 @@ closing_for on ended = if ended then closed_on on ∷ [] else []
 pub record Did (start : Start) (units : List InputUnit) (earlier : History) (on : ℕ) (bytes : List ℕ) (engine : Engine) (journal : Journal)
     (before after : Option (List Disk)) (later : SessionState) (ended : Bool) : Type 0 where
   pub history : History
-  pub replies : List Told
   pub since : (more : History) × (history ≡ more ++ earlier)
   pub lasts : Lasts start.base history before after
   pub ready : Ready start.base history engine journal after
   pub order : order_in history ++ departure_where on ended ≡ order_in earlier ++ order_by units (Bytes on bytes)
-  pub told : told_in start.base history ≡ told_in start.base earlier ++ replies
-  pub each : length replies ≡ length (jobs_by units (Bytes on bytes))
-  pub writes : sent_on on later.out ++ closing_for on ended ≡ output_for start units (Bytes on bytes) replies
+  pub writes : sent_on on later.out ++ closing_for on ended ≡ output_for start units earlier (Bytes on bytes) history
   pub attends : Attends on (came_on on units ++ bytes) (record later { out = [] })
 
 module _ (start : Start) (units : List InputUnit) (earlier : History) (on : ℕ) (bytes : List ℕ) (was now : Engine) (old new : Journal)
     (before after : Option (List Disk)) (session later : SessionState) (ended : Bool) (ready : Ready start.base earlier was old before)
+    (had : HasReplies start.base on (came_on on units) earlier)
     (met : Meets start on (came_on on units) bytes session) (answered : Answered start.base earlier was now old new before after session later bytes ended) where
   -- bytes after the end are dropped
   did_after_end : session.ended ≡ true → Did start units earlier on bytes now new before after later ended
@@ -349,17 +329,14 @@ module _ (start : Start) (units : List InputUnit) (earlier : History) (on : ℕ)
       let nothing : later.out ≡ [] = ap (λ (s : SessionState). s.out) same ∙ met.sends ∙ opening-ended start on (came_on on units) bytes is_over in
       record {
         history = earlier;
-        replies = [];
         since = ([], refl);
         lasts = subst (Lasts start.base earlier before) (sym same_states) (lasts_none start.base earlier before);
         ready = subst (λ (e : Engine). Ready start.base earlier e new after) (sym same_engine)
             (subst (λ (j : Journal). Ready start.base earlier was j after) (sym same_journal) (subst (Ready start.base earlier was old) (sym same_states) ready));
         order = ap (λ (b : Bool). order_in earlier ++ departure_where on b) goes_on
             ∙ ap (λ (l : List Step). order_in earlier ++ l) (sym (order_by-ended units on (came_on on units) bytes refl is_over));
-        told = sym (append-nil (told_in start.base earlier));
-        each = ap length (sym (jobs_by-ended units on (came_on on units) bytes refl is_over));
         writes = ap (λ (l : List ℕ). sent_on on l ++ closing_for on ended) nothing ∙ ap (closing_for on) goes_on
-            ∙ sym (output_for-ended start units on (came_on on units) bytes [] refl is_over);
+            ∙ sym (output_for-ended start units on (came_on on units) bytes refl earlier is_over);
         attends = record {
           whose = ap (λ (s : SessionState). s.connection) same ∙ met.whose;
           idle = ap (λ (s : SessionState). s.waiting) same ∙ met.idle;
@@ -399,12 +376,16 @@ module _ (start : Start) (units : List InputUnit) (earlier : History) (on : ℕ)
       let same_jobs = all_jobs goes_on in
       let same_end : ended ≡ ends on (rest_of (came_on on units) ++ bytes) =
       answered.says ∙ ap (λ (b : Bool). if b then false else ends session.connection (session.rest ++ bytes)) goes_on ∙ all_ends goes_on in
+      let told : told_now start.base on answers.history ≡ told_now start.base on earlier ++ answers.replies =
+      answers.told on (subst (AreOf on) (sym same_jobs) (jobs_of-whose on (rest_of (came_on on units) ++ bytes))) in
+      let each : length answers.replies ≡ length jobs = answers.each ∙ ap length same_jobs in
+      let so_far : length (told_now start.base on earlier) ≡ length (jobs_of on (came_on on units)) =
+      had ∙ ap length (jobs_now-open on (came_on on units) open_before) in
       let output : later.out ≡ opening start (came_on on units) bytes ++ packets_of_replies (map sync_of jobs) answers.replies =
       answers.output ∙ ap (λ (l : List ℕ). l ++ packets_of_replies (map sync_of (jobs_of session.connection (session.rest ++ bytes))) answers.replies) met.sends
       ∙ ap (λ (l : List Job). opening start (came_on on units) bytes ++ packets_of_replies (map sync_of l) answers.replies) same_jobs in
       record {
         history = answers.history;
-        replies = answers.replies;
         since = answers.since;
         lasts = answers.lasts;
         ready = answers.ready;
@@ -413,12 +394,10 @@ module _ (start : Start) (units : List InputUnit) (earlier : History) (on : ℕ)
             ∙ append_assoc (order_in earlier) (written_out jobs) (departure_where on ended)
             ∙ ap (λ (b : Bool). order_in earlier ++ (written_out jobs ++ departure_where on b)) same_end
             ∙ ap (λ (l : List Step). order_in earlier ++ l) (sym (order_by-open units on (came_on on units) bytes refl open_before));
-        told = answers.told;
-        each = answers.each ∙ ap length (same_jobs ∙ sym (jobs_by-open units on (came_on on units) bytes refl open_before));
         writes = ap (λ (l : List ℕ). sent_on on l ++ closing_for on ended) output
             ∙ ap (λ (b : Bool). sent_on on (opening start (came_on on units) bytes ++ packets_of_replies (map sync_of jobs) answers.replies)
             ++ closing_for on b) same_end
-            ∙ sym (output_for-open start units on (came_on on units) bytes answers.replies refl open_before);
+            ∙ sym (output_for-open start units on (came_on on units) bytes refl earlier answers.history answers.replies open_before so_far told each);
         attends = attends_on goes_on;
       }
 
@@ -432,10 +411,6 @@ module _ (start : Start) (units : List InputUnit) (earlier : History) (on : ℕ)
 has_some : (on : ℕ) (bytes : List ℕ) (session : SessionState) → 0 < length bytes → Attends on bytes session → HasSession on bytes (Some session)
 has_some on [] session some attends = absurd (omega (arith, some))
 has_some on (byte ∷ bytes) session some attends = attends
-
-same_twice : (b : Bool) → b ≡ not (not b)
-same_twice true = refl
-same_twice false = refl
 
 since_both : (first earlier all : History) → (more : History) × (first ≡ more ++ earlier) → (more : History) × (all ≡ more ++ first)
     → (more : History) × (all ≡ more ++ earlier)
@@ -462,14 +437,11 @@ module _ (start : Start) (old new : Single) (units : List InputUnit) (earlier : 
       let longer : 0 < length (came ++ bytes) = omega (arith, some, length-append came bytes) in
       record {
         history = all;
-        replies = done.replies;
         since = since_both done.history earlier all done.since last;
         lasts = lasts_since start.base done.history all before after last done.lasts;
         ready = ready;
         order = left_by-order on (not ended) ended done.history (same_twice ended) ∙ done.order;
-        told = left_by-told start.base on (not ended) done.history ∙ done.told;
-        each = done.each;
-        writes = writes ∙ done.writes;
+        writes = writes ∙ done.writes ∙ sym (output_for-left start units earlier (Bytes on bytes) on (not ended) done.history);
         greeting = greeting;
         slot = Some session;
         table = table;
@@ -491,7 +463,7 @@ module _ (start : Start) (server : Single) (units : List InputUnit) (history : H
       → Answered start.base history server.engine now server.journal new before after session later bytes ended
       → Did start units history on bytes now new before after later ended
   did_now now new after later ended answered =
-      did start units history on bytes server.engine now server.journal new before after session later ended serves.ready meets_now answered
+      did start units history on bytes server.engine now server.journal new before after session later ended serves.ready (replies_of_order start.base units history serves.order on) meets_now answered
 
 -- no reply waits once bytes are answered
 pub still_idle : (server : Single) (states : Option (List Disk)) (on : ℕ) (places : List (Option SessionState)) (session later sent : SessionState)

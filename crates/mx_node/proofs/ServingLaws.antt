@@ -15,7 +15,7 @@ use Rattle.mx_xlog.specs.Headers.{IsHeader, header_of}
 use Rattle.mx_xlog.specs.Reading.{blocks_of}
 use Rattle.mx_xlog.proofs.ReadingLaws.{blocks_of_nothing}
 use Rattle.mx_row.specs.declared.tx.Tx.{Tx}
-use Rattle.mx_model.specs.State.{State}
+use Rattle.mx_schema.specs.State.{State}
 use Rattle.mx_model.specs.Answers.{state_after_rows}
 use Rattle.mx_model.specs.Transactions.{state_after}
 use Rattle.mx_row.specs.Clocks.{clock_after, clock_after_one}

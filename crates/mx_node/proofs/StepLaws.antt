@@ -11,7 +11,7 @@ use Rattle.mx_session.specs.Sessions.{SessionState, Waiting, released}
 use Rattle.mx_model.specs.declared.reply.Reply.{Reply}
 use Rattle.mx_row.specs.declared.tx.Tx.{Tx}
 use Rattle.mx_model.specs.Histories.{Base, History, Took, Confirmed, IsLegal, ledger_of}
-use Rattle.mx_model.specs.Replies.{Told, told_in}
+use Rattle.mx_model.specs.Replies.{Told, told_now}
 use Rattle.mx_model.specs.Order.{Step, RequestStep, TakeStep, ConfirmStep, order_in}
 use Rattle.mx_model.specs.ReplyStream.{packet_told, packets_of_replies}
 use Rattle.mx_engine.specs.declared.engine.Engine.{Engine}
@@ -23,6 +23,8 @@ use Rattle.mx_node.specs.Ready.{Ready, Replied, AnswersJob, AnswersJobs, step_of
 use Rattle.mx_node.specs.Interrupted.{StepsSurvive, IsInterrupted}
 use Rattle.mx_model.specs.Survival.{Lasts}
 use Rattle.mx_model.proofs.HistoryLaws.{steps_of_ledger}
+use Rattle.mx_model.proofs.ToldLaws.{told_now-asked}
+use Rattle.mx_node.specs.Connections.{AreOf}
 use Rattle.mx_node.proofs.OrderLaws.{three_more, written_out-append, written_out-push}
 use Rattle.mx_node.proofs.OutputLaws.{reply_packets-append}
 use Rattle.mx_node.proofs.KeepLaws.{ready_keeps}
@@ -85,10 +87,14 @@ answered_none base earlier engine journal states out ready = record {
   since = ([], refl);
   lasts = lasts_none base earlier states;
   order = sym (append-nil (order_in earlier));
-  told = sym (append-nil (told_in base earlier));
+  told = λ connection are. sym (append-nil (told_now base connection earlier));
   each = refl;
   output = sym (append-nil out);
 }
+
+are_of-parts : (connection : ℕ) (jobs : List Job) (job : Job) → AreOf connection (jobs ++ job ∷ []) → AreOf connection jobs × (job.name.conn.0 ≡ connection)
+are_of-parts connection [] job are = (tt, are.0)
+are_of-parts connection (first ∷ jobs) job are = let parts = are_of-parts connection jobs job are.1 in ((are.0, parts.0), parts.1)
 
 module _ (base : Base) (earlier : History) (old new : Engine) (begun written : Journal) (first before_states states : Option (List Disk))
     (before middle : List ℕ) (next after : SessionState) (jobs : List Job) (job : Job)
@@ -110,8 +116,11 @@ module _ (base : Base) (earlier : History) (old new : Engine) (begun written : J
             ∙ ap (λ (l : List Step). l ++ job_steps job) so_far.order
             ∙ append_assoc (order_in earlier) (written_out jobs) (job_steps job)
             ∙ ap (λ (l : List Step). order_in earlier ++ l) (sym (written_out-push jobs job));
-        told = append-nil _ ∙ append-nil _ ∙ ap (λ (l : List Told). l ++ told_step ∷ []) so_far.told
-            ∙ append_assoc (told_in base earlier) so_far.replies (told_step ∷ []);
+        told = λ connection are.
+            let parts = are_of-parts connection jobs job are in
+            told_now-asked base connection job.name job.ask step.reply so_far.history parts.1
+            ∙ ap (λ (l : List Told). l ++ told_step ∷ []) (so_far.told connection parts.0)
+            ∙ append_assoc (told_now base connection earlier) so_far.replies (told_step ∷ []);
         each = length-append so_far.replies (told_step ∷ []) ∙ ap (λ (n : ℕ). n + 1) so_far.each ∙ sym (length-append jobs (job ∷ []));
         output =
             let packet = packet_told job.sync.0 told_step in

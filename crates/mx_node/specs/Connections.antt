@@ -1,5 +1,5 @@
 -- What the units of an input bring to its connections: bytes, by them jobs, and their ends.
-use Rattle.std.specs.Prelude.{⊤, ℕ, Bool, false, not, ◌&&◌, List, [], ◌∷◌, ◌++◌, length, drop, ◌==◌, if◌then◌else◌}
+use Rattle.std.specs.Prelude.{◌≡◌, ⊤, ℕ, Bool, false, not, ◌&&◌, List, [], ◌∷◌, ◌++◌, length, drop, ◌==◌, if◌then◌else◌}
 use Rattle.mx_request.specs.declared.request.Ask.{Ask}
 use Rattle.mx_request.specs.declared.request.Ask.TheVariants as ask
 use Rattle.mx_request.specs.Spelling.{IsAskable}
@@ -48,7 +48,7 @@ IsSoundAsk ask.Leave = ⊥
 abbrev pub IsJob : Job → Type 0
 IsJob job = IsSoundAsk job.ask
 
--- the jobs of units, after earlier ones
-abbrev pub jobs_from : List InputUnit → List InputUnit → List Job
-jobs_from earlier [] = []
-jobs_from earlier (unit ∷ units) = jobs_by earlier unit ++ jobs_from (earlier ++ unit ∷ []) units
+-- each of these jobs came on the connection
+abbrev pub AreOf : (connection : ℕ) → List Job → Type 0
+AreOf connection [] = ⊤
+AreOf connection (job ∷ jobs) = (job.name.conn.0 ≡ connection) × AreOf connection jobs

@@ -1,9 +1,7 @@
 -- In which order the steps for the units of an input come.
 use Rattle.std.specs.Prelude.{ℕ, zero, suc, Bool, List, [], ◌∷◌, ◌++◌, if◌then◌else◌}
-use Rattle.mx_base.specs.declared.ids.TxnName.{TxnName}
-use Rattle.mx_request.specs.declared.request.Ask.{Ask}
 use Rattle.mx_session.specs.declared.job.Job.{Job}
-use Rattle.mx_model.specs.Order.{Step, RequestStep, DepartureStep, TakeStep, ConfirmStep, asks_among}
+use Rattle.mx_model.specs.Order.{Step, RequestStep, DepartureStep, TakeStep, ConfirmStep}
 use Rattle.mx_node.specs.Inputs.{InputUnit, connection_of, max_connection}
 use Rattle.mx_node.specs.Connections.{came_on, is_open, jobs_by, is_ended_by}
 
@@ -45,7 +43,3 @@ departures_of units = departures_from 0 (suc max_connection) units
 -- the steps for an input that ends after these units
 abbrev pub whole_order_of : List InputUnit → List Step
 whole_order_of units = order_of units ++ departures_of units
-
--- all that is asked by an input that ends after these units
-abbrev pub all_asks_of : List InputUnit → List (TxnName × Ask)
-all_asks_of units = asks_among (whole_order_of units)

@@ -12,7 +12,7 @@ use Rattle.mx_frame.specs.Packets.{rest_of}
 use Rattle.mx_row.specs.Clocks.{clock_after, clock_after_one, follows}
 use Rattle.mx_model.specs.Directories.{Continues, ids_in}
 use Rattle.mx_model.specs.Histories.{Base, History, Entry, Asked, Took, Confirmed, ledger_of, journal_of}
-use Rattle.mx_model.specs.Replies.{Told, told_in}
+use Rattle.mx_model.specs.Replies.{Told, told_now}
 use Rattle.mx_model.specs.Transactions.{schema_version}
 use Rattle.mx_model.specs.Order.{order_in}
 use Rattle.mx_model.specs.Gate.{RepliesMayLeave}
@@ -24,6 +24,7 @@ use Rattle.mx_journal.specs.Written.{IsWritten, Waits, name_of}
 use Rattle.mx_images.specs.Fair.{AllDurable}
 use Rattle.mx_model.specs.Survival.{Lasts}
 use Rattle.mx_node.specs.Interrupted.{IsInterrupted}
+use Rattle.mx_node.specs.Connections.{AreOf}
 use Rattle.mx_node.specs.Order.{job_steps, written_out}
 use Rattle.mx_node.specs.Outputs.{sync_of}
 
@@ -132,7 +133,7 @@ pub record AnswersJobs (base : Base) (earlier : History) (engine : Engine) (jour
   pub since : (more : History) × (history ≡ more ++ earlier)
   pub lasts : Lasts base history old states
   pub order : order_in history ≡ order_in earlier ++ written_out jobs
-  pub told : told_in base history ≡ told_in base earlier ++ replies
+  pub told : (connection : ℕ) → AreOf connection jobs → told_now base connection history ≡ told_now base connection earlier ++ replies
   pub each : length replies ≡ length jobs
   pub output : after ≡ before ++ packets_of_replies (map sync_of jobs) replies
 

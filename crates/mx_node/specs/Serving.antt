@@ -12,10 +12,10 @@ use Rattle.mx_model.specs.Replies.{told_in}
 use Rattle.mx_model.specs.Order.{order_in}
 use Rattle.mx_node.specs.declared.single.Single.{Single}
 use Rattle.mx_node.specs.Inputs.{InputUnit, max_connection}
-use Rattle.mx_node.specs.Connections.{came_on, jobs_from}
-use Rattle.mx_node.specs.Order.{order_of, whole_order_of}
+use Rattle.mx_node.specs.Connections.{came_on}
+use Rattle.mx_node.specs.Order.{order_by, order_of, whole_order_of}
 use Rattle.mx_node.specs.Starts.{Start, start_greeting}
-use Rattle.mx_node.specs.Outputs.{output_of}
+use Rattle.mx_node.specs.Outputs.{output_for}
 use Rattle.mx_model.specs.declared.out_units.OutUnit.{OutUnit}
 use Rattle.mx_node.specs.Ready.{Ready, IsReady}
 use Rattle.mx_model.specs.Survival.{Lasts}
@@ -93,17 +93,18 @@ pub record Serves (start : Start) (server : Single) (units : List InputUnit) (hi
   pub greeting : server.greeting ≡ start_greeting start
   pub ready : Ready start.base history server.engine server.journal states
   pub order : order_in history ≡ order_of units
-  pub told : length (told_in start.base history) ≡ length (jobs_from [] units)
   pub table : IsTable server.sessions.items
   pub sessions : (connection : ℕ) → connection ≤ max_connection → HasSession connection (came_on connection units) (session_at server.sessions.items connection)
 
 -- one unit more was answered, and this is sent for it
 pub record AnswersUnit (start : Start) (server : Single) (units : List InputUnit) (earlier : History) (unit : InputUnit) (sent : List OutUnit) (old states : Option (List Disk)) : Type 0 where
+  pub more : History
   pub history : History
-  pub since : (more : History) × (history ≡ more ++ earlier)
+  pub since : history ≡ more ++ earlier
+  pub order : order_in more ≡ order_by units unit
   pub lasts : Lasts start.base history old states
   pub serves : Serves start server (units ++ unit ∷ []) history states
-  pub grows : output_of start (units ++ unit ∷ []) history ≡ output_of start units earlier ++ sent
+  pub is : sent ≡ output_for start units earlier unit history
 
 -- The open connections left, and the journal was ended in order.
 pub record EndedNode (start : Start) (units : List InputUnit) (earlier : History) (old states : Option (List Disk)) : Type 0 where

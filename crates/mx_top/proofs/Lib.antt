@@ -6,3 +6,4 @@ mod ProgressLaws
 mod FinishLaws
 mod Told
 mod RunLaws
+pub mod PassedLaws

@@ -5,21 +5,19 @@ use Rattle.std.proofs.lemmas.List.{append-nil, take_more}
 use mathlib.Core.List.{IsPrefix}
 use Rattle.mx_outside.specs.Disks.{Disk}
 use Rattle.mx_model.specs.declared.out_units.OutUnit.{OutUnit}
-use Rattle.mx_model.specs.Histories.{History, IsLegal, asking}
+use Rattle.mx_model.specs.Histories.{History, IsLegal}
 use Rattle.mx_model.specs.Order.{order_in}
 use Rattle.mx_model.specs.Survival.{Lasts}
 use Rattle.mx_node.specs.Inputs.{InputUnit, connection_of, max_connection}
 use Rattle.mx_node.specs.declared.single.Single.{Single}
 use Rattle.mx_node.specs.Starts.{Start}
-use Rattle.mx_node.specs.Outputs.{output_from, output_of}
 use Rattle.mx_node.specs.Order.{order_by, order_of}
 use Rattle.mx_node.specs.Interrupted.{StepsSurvive, IsInterrupted}
 use Rattle.mx_node.specs.Serving.{AnswersUnit}
 use Rattle.mx_node.proofs.OrderLaws.{order_of-push}
 use Rattle.mx_node.proofs.KeepLaws.{ready_keeps}
 use Rattle.mx_node.proofs.LastingLaws.{breaks_now}
-use Rattle.mx_node.proofs.OutputLaws.{told_in-asking}
-use Rattle.mx_top.specs.TraceOutput.{unit_text, units_text, trace_output}
+use Rattle.mx_top.specs.TraceOutput.{unit_text, units_text}
 use Rattle.mx_top.specs.Units.{UnitHead, unit_by}
 use Rattle.mx_top.specs.Progress.{WritesUnit}
 
@@ -34,10 +32,6 @@ pub units_text-more : (units : List OutUnit) (index : ℕ) (unit : OutUnit) → 
 units_text-more units index unit within is =
     sym (units_text-append (take index units) (unit ∷ []) ∙ ap (λ (l : List ℕ). units_text (take index units) ++ l) (append-nil (unit_text unit)))
     ∙ ap units_text (ap (λ (u : OutUnit). take index units ++ u ∷ []) is ∙ sym (take_more units index unit within))
-
--- takes and confirmations aren't seen in the output
-pub trace_output-asking : (start : Start) (units : List InputUnit) (history : History) → trace_output start units (asking history) ≡ trace_output start units history
-trace_output-asking start units history = ap (λ replies. units_text (output_from start [] units replies)) (told_in-asking start.base history)
 
 -- the head of a unit tells its connection
 pub connection_by : (head : UnitHead) (content : List ℕ) → connection_of (unit_by head content) ≡ head.connection
@@ -55,23 +49,19 @@ module _ (start : Start) (node : Single) (units : List InputUnit) (earlier : His
     (old states : Option (List Disk)) (took : AnswersUnit start node units earlier unit sent old states) where
   pub took_unit : (out : List ℕ) → out ≡ units_text sent → WritesUnit start node units earlier unit out old states
   took_unit out is = record {
-    history = took.history;
-    since = took.since;
-    lasts = took.lasts;
-    serves = took.serves;
-    grows = ap units_text took.grows ∙ units_text-append (output_of start units earlier) sent
-        ∙ ap (λ l. trace_output start units earlier ++ l) (sym is);
+    sent = sent;
+    answered = took;
+    text = is;
   }
 
   -- a unit that was answered and whose output couldn't be written
   pub took_breaks : IsInterrupted start.base earlier (order_of units ++ order_by units unit) old states
   took_breaks =
-      let since = took.since in
       let order = order_of units ++ order_by units unit in
-      breaks_now start.base since.0 earlier order old states
-      (subst (λ h. IsLegal start.base h) since.1 took.serves.ready.behind.stands.legal)
-      (subst (λ h. IsPrefix (order_in h) order) since.1
+      breaks_now start.base took.more earlier order old states
+      (subst (λ h. IsLegal start.base h) took.since took.serves.ready.behind.stands.legal)
+      (subst (λ h. IsPrefix (order_in h) order) took.since
       (subst (λ l. IsPrefix l order) (sym (took.serves.order ∙ order_of-push units unit)) ([], append-nil order)))
-      (subst (λ h. Lasts start.base h old states) since.1 took.lasts)
-      (subst (λ h. StepsSurvive start.base h h states) since.1
+      (subst (λ h. Lasts start.base h old states) took.since took.lasts)
+      (subst (λ h. StepsSurvive start.base h h states) took.since
       (ready_keeps start.base took.history node.engine node.journal states took.serves.ready))

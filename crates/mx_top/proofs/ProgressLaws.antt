@@ -4,6 +4,8 @@ use Rattle.std.specs.Prelude.{⊤, Ok, Err, IsSomeAnd}
 use Rattle.std.proofs.lemmas.List.{append_assoc, length-drop, nil_from_length}
 use mathlib.Core.List.{IsPrefix}
 use Rattle.mx_outside.specs.Disks.{Disk}
+use Rattle.mx_outside.specs.Passed.{IsAllOf, PassesOn}
+use Rattle.mx_model.specs.declared.out_units.OutUnit.{OutUnit}
 use Rattle.mx_model.specs.Histories.{History}
 use Rattle.mx_node.specs.declared.single.Single.{Single}
 use Rattle.mx_top.specs.Units.{UnitHead, content_at, unit_at, unit_by, units_of}
@@ -11,10 +13,10 @@ use Rattle.mx_node.specs.Inputs.{InputUnit}
 use Rattle.mx_node.specs.Order.{departures_of, order_by, order_of}
 use Rattle.mx_node.specs.Starts.{Start}
 use Rattle.mx_top.specs.Stops.{IsDiskStop}
-use Rattle.mx_top.specs.TraceOutput.{trace_output, units_text}
+use Rattle.mx_top.specs.TraceOutput.{units_text}
 use Rattle.mx_node.specs.Serving.{Serves}
 use Rattle.mx_top.specs.Progress.{WritesUnit, StopsAt, ReadTo, Wrote, UnitsSeen, LastStep, NextStep}
-use Rattle.mx_top.specs.Runs.{place_before, AtCompletion, IsOutput, OutputSeen, order_until}
+use Rattle.mx_top.specs.Runs.{place_before, AtCompletion, Held, IsOutput, OutputSeen, order_until}
 use Rattle.mx_top.specs.declared.status.Status.{Status}
 use Rattle.mx_top.specs.declared.status.Status.TheVariants as status
 use Rattle.mx_top.specs.declared.stop.Stop.{Stop}
@@ -23,7 +25,10 @@ use Rattle.mx_node.specs.Interrupted.{IsInterrupted}
 use Rattle.mx_model.specs.Survival.{Lasts}
 use Rattle.mx_node.proofs.KeepLaws.{ready_keeps}
 use Rattle.mx_node.proofs.LastingLaws.{lasts_none, lasts_on, breaks_now, breaks_on}
-use Rattle.mx_node.proofs.OutputLaws.{output_of-stays}
+use Rattle.mx_node.specs.Outputs.{AnswersAll}
+use Rattle.mx_node.proofs.AnsweringLaws.{answers-push}
+use Rattle.mx_top.proofs.OutputLaws.{units_text-append}
+use Rattle.mx_top.proofs.PassedLaws.{passed_at_least}
 use Rattle.mx_top.proofs.UnitLaws.{unit_some, unit_none, unit_at-nil, units_of-none, units_of-some, units_of-begun}
 
 -- ---- how far the input was read
@@ -69,11 +74,12 @@ untouched start server units others history states serves =
 -- at a status that is no completion nothing is said of one, and where the output didn't fail all of it is there
 pub record IsWhole (status : Status) : Type 1 where
   pub early : (P : Type 0) → AtCompletion status P
-  pub whole : (start : Start) (units : List InputUnit) (history : History) → IsOutput status start units history (trace_output start units history)
+  pub whole : (start : Start) (units : List InputUnit) (history : History) (sent : List OutUnit) (before : List ℕ) (passed passed_now : Option (List ℕ))
+      → IsOutput status start units history sent before (units_text sent) passed passed_now
 
 -- where the run stopped after these units, all of the output for them is there
 pub stopped_after : (status : Status) → IsWhole status → (start : Start) (input : List ℕ) (server : Single) (units others : List InputUnit)
-    (output old : Option (List ℕ)) (first states now : Option (List Disk)) → units ++ others ≡ (units_of input).0
+    (output old : Held) (first states now : Option (List Disk)) → units ++ others ≡ (units_of input).0
     → (wrote : Wrote start server units output old first states) → IsInterrupted start.base wrote.history (order_until units others) states now
     → UnitsSeen status start input output old first now
 stopped_after status is start input server units others output old first states now all wrote stops =
@@ -83,29 +89,31 @@ stopped_after status is start input server units others output old first states 
       others = others;
       all = all;
       answered = wrote.history;
-      order = wrote.serves.order;
+      sent = wrote.sent;
+      answers = wrote.answers;
       gate = wrote.serves.ready.gate;
       stopped = stopped;
       complete = is.early _;
       holds = is.early _;
       written = λ before was.
-          subst (λ o. IsSomeAnd o (λ after. OutputSeen status start input units wrote.history (stopped.later ++ wrote.history) before after))
+          subst (λ o. IsSomeAnd o (λ after. OutputSeen status start units wrote.history (stopped.later ++ wrote.history) wrote.sent before after
+          output.passed old.passed))
           (sym (wrote.written before was)) (record {
-            written = trace_output start units wrote.history;
+            written = units_text wrote.sent;
             output = refl;
-            is = is.whole start units wrote.history;
+            is = is.whole start units wrote.history wrote.sent before output.passed old.passed;
             determined = is.early _;
           });
     }
 
 pub read_fault : IsWhole status.ReadFault
-read_fault = record { early = λ P. tt; whole = λ start units history. refl }
+read_fault = record { early = λ P. tt; whole = λ start units history sent before passed passed_now. refl }
 
 pub disk_fault : IsWhole status.DiskFault
-disk_fault = record { early = λ P. tt; whole = λ start units history. refl }
+disk_fault = record { early = λ P. tt; whole = λ start units history sent before passed passed_now. refl }
 
 pub no_memory : IsWhole status.NoMemory
-no_memory = record { early = λ P. tt; whole = λ start units history. refl }
+no_memory = record { early = λ P. tt; whole = λ start units history sent before passed passed_now. refl }
 
 -- ---- the end of the units
 
@@ -114,14 +122,14 @@ fault_at input [] place some at = absurd (omega arith)
 fault_at input (byte ∷ rest) place some at = let here : length input - length (byte ∷ rest) ≡ place = omega arith in ap (λ n. Some n) here
 
 -- the units that were answered are all of the input's
-all_wrote : (start : Start) (input rest : List ℕ) (server : Single) (units : List InputUnit) (output old : Option (List ℕ))
+all_wrote : (start : Start) (input rest : List ℕ) (server : Single) (units : List InputUnit) (output old : Held)
     (first states : Option (List Disk)) → units_of input ≡ (units, rest) → Wrote start server units output old first states
     → Wrote start server (units_of input).0 output old first states
 all_wrote start input rest server units output old first states all wrote =
     subst (λ (u : List InputUnit). Wrote start server u output old first states) (sym (ap (λ (x : List InputUnit × List ℕ). x.0) all)) wrote
 
 -- nothing is left
-pub ends_well : (input rest more : List ℕ) (place : ℕ) (server : Single) (units : List InputUnit) (old : Option (List ℕ))
+pub ends_well : (input rest more : List ℕ) (place : ℕ) (server : Single) (units : List InputUnit) (old : Held)
     (states : Option (List Disk)) (waiting : List ℕ)
     → ReadTo input rest place units → rest ≡ waiting ++ more → waiting ++ more ≡ []
     → LastStep (Ok tt) input (Some more) server server units old old states states
@@ -139,7 +147,7 @@ ends_well input rest more place server units old states waiting read same none =
 
 -- what is left begins with no unit
 ends_malformed : (input rest : List ℕ) (left : Option (List ℕ)) (place : ℕ) (server : Single) (units : List InputUnit)
-    (old : Option (List ℕ)) (states : Option (List Disk)) → ReadTo input rest place units → 0 < length rest → content_at place rest ≡ None
+    (old : Held) (states : Option (List Disk)) → ReadTo input rest place units → 0 < length rest → content_at place rest ≡ None
     → LastStep (Err (BadInput place)) input left server server units old old states states
 ends_malformed input rest left place server units old states read some none =
     let all = all_read input rest place units read none in
@@ -157,11 +165,11 @@ IsQuiet DiskFault = ⊥
 IsQuiet NoMemory = ⊤
 
 -- where nothing was done with the next unit
-ends_read : (input rest : List ℕ) (place : ℕ) (server : Single) (units : List InputUnit) (old left : Option (List ℕ)) (states : Option (List Disk))
+ends_read : (input rest : List ℕ) (place : ℕ) (server : Single) (units : List InputUnit) (old : Held) (left : Option (List ℕ)) (states : Option (List Disk))
     (stop : Stop) → IsQuiet stop → ReadTo input rest place units → LastStep (Err stop) input left server server units old old states states
 ends_read input rest place server units old left states stop quiet read = by_stop stop quiet
   where
-    seen : (status : Status) → IsWhole status → (start : Start) (output : Option (List ℕ)) (first : Option (List Disk))
+    seen : (status : Status) → IsWhole status → (start : Start) (output : Held) (first : Option (List Disk))
         → Wrote start server units output old first states → UnitsSeen status start input output old first states
     seen status is start output first wrote =
         let (others, all) = begun_so_far input rest place units read in
@@ -176,7 +184,7 @@ ends_read input rest place server units old left states stop quiet read = by_sto
     by_stop NoMemory quiet = record { place = tt; output = seen status.NoMemory no_memory }
 
 -- reading the next unit stopped the run
-pub ends_stopped : (input rest waiting more : List ℕ) (place : ℕ) (server : Single) (units : List InputUnit) (old : Option (List ℕ))
+pub ends_stopped : (input rest waiting more : List ℕ) (place : ℕ) (server : Single) (units : List InputUnit) (old : Held)
     (states : Option (List Disk)) (stop : Stop)
     → ReadTo input rest place units → rest ≡ waiting ++ more → StopsAt place (waiting ++ more) stop
     → LastStep (Err stop) input (Some more) server server units old old states states
@@ -200,14 +208,14 @@ same_unit place bytes content part behind after head found same rest =
 
 -- answering it stopped the run
 pub ends_unanswered : (input rest waiting more behind : List ℕ) (unit : InputUnit) (place : ℕ) (server after : Single) (units : List InputUnit)
-    (old : Option (List ℕ)) (states now : Option (List Disk))
+    (old : Held) (states now : Option (List Disk))
     (stop : Stop) → ReadTo input rest place units → rest ≡ waiting ++ more → content_at place (waiting ++ more) ≡ Some (unit, behind) → IsDiskStop stop
     → ((start : Start) (history : History) → Serves start server units history states
     → IsInterrupted start.base history (order_of units ++ order_by units unit) states now)
     → LastStep (Err stop) input (Some more) server after units old old states now
 ends_unanswered input rest waiting more behind unit place server after units old states now stop read same found stops breaks = by_stop stop stops
   where
-    seen : (status : Status) → IsWhole status → (start : Start) (output : Option (List ℕ)) (first : Option (List Disk))
+    seen : (status : Status) → IsWhole status → (start : Start) (output : Held) (first : Option (List Disk))
         → Wrote start server units output old first states → UnitsSeen status start input output old first now
     seen status is start output first wrote =
         let (others, all) = begun_with input rest behind place units unit read (ap (content_at place) same ∙ found) in
@@ -223,83 +231,103 @@ ends_unanswered input rest waiting more behind unit place server after units old
 
 -- all commits last, where one unit more was answered
 lasts_took : {after : Single} {units : List InputUnit} {unit : InputUnit} (start : Start) (history : History) (first states now : Option (List Disk)) (out : List ℕ)
-    → Lasts start.base history first states → (step : WritesUnit start after units history unit out states now) → Lasts start.base step.history first now
+    → Lasts start.base history first states → (step : WritesUnit start after units history unit out states now) → Lasts start.base step.answered.history first now
 lasts_took start history first states now out lasts step =
-    let since = step.since in
-    subst (λ h. Lasts start.base h first now) (sym since.1)
-    (lasts_on start.base since.0 history first states now lasts (subst (λ h. Lasts start.base h states now) since.1 step.lasts))
+    let took = step.answered in
+    subst (λ h. Lasts start.base h first now) (sym took.since)
+    (lasts_on start.base took.more history first states now lasts (subst (λ h. Lasts start.base h states now) took.since took.lasts))
 
--- what was written for the units before it stays
-stays : {after : Single} {units : List InputUnit} {unit : InputUnit} {server : Single} (start : Start) (history : History) (states now : Option (List Disk)) (out : List ℕ)
-    → Serves start server units history states → (step : WritesUnit start after units history unit out states now)
-    → trace_output start units step.history ≡ trace_output start units history
-stays {units = units} start history states now out serves step =
-    let (more, is) = step.since in
-    ap (trace_output start units) is ∙ ap units_text (output_of-stays start units more history serves.told)
+-- one unit more is answered
+answers_took : {after : Single} {units : List InputUnit} {unit : InputUnit} {states now : Option (List Disk)} (start : Start) (history : History) (sent : List OutUnit)
+    (out : List ℕ) → AnswersAll start units history sent → (step : WritesUnit start after units history unit out states now)
+    → AnswersAll start (units ++ unit ∷ []) step.answered.history (sent ++ step.sent)
+answers_took {units = units} {unit = unit} start history sent out answers step =
+    let took = step.answered in
+    answers-push start units unit history took.more took.history sent step.sent answers took.since took.order took.is
 
 -- it was answered, and its output was written in part
 pub ends_unwritten : (input rest waiting more behind out : List ℕ) (unit : InputUnit) (place : ℕ) (server after : Single) (units : List InputUnit)
-    (old new : Option (List ℕ)) (states now : Option (List Disk))
+    (old new : Held) (states now : Option (List Disk))
     → ReadTo input rest place units → rest ≡ waiting ++ more → content_at place (waiting ++ more) ≡ Some (unit, behind)
     → ((start : Start) (history : History) → Serves start server units history states → WritesUnit start after units history unit out states now)
-    → ((before : List ℕ) → old ≡ Some before → (written : List ℕ) × (new ≡ Some (before ++ written)) × IsPrefix written out)
+    → ((before : List ℕ) → old.contents ≡ Some before → (written : List ℕ) × (new.contents ≡ Some (before ++ written)) × IsPrefix written out)
+    → PassesOn old.passed new.passed
     → LastStep (Err WriteFault) input (Some more) server after units old new states now
-ends_unwritten input rest waiting more behind out unit place server after units old new states now read same found took part = record {
+ends_unwritten input rest waiting more behind out unit place server after units old new states now read same found took part passes = record {
   place = tt;
   output = λ start output first wrote.
       let step = took start wrote.history wrote.serves in
+      let answered = step.answered in
       let (others, all) = begun_with input rest behind place units unit read (ap (content_at place) same ∙ found) in
       let done = units ++ unit ∷ [] in
-      let stopped = breaks_on start.base [] step.history (order_until done others) first now now
-      (lasts_took start wrote.history first states now out wrote.lasts step) (untouched start after done others step.history now step.serves) in
-      let sent = trace_output start units wrote.history in
+      let stopped = breaks_on start.base [] answered.history (order_until done others) first now now
+      (lasts_took start wrote.history first states now out wrote.lasts step) (untouched start after done others answered.history now answered.serves) in
+      let was_sent = units_text wrote.sent in
+      let text : units_text (wrote.sent ++ step.sent) ≡ was_sent ++ out =
+      units_text-append wrote.sent step.sent ∙ ap (λ (l : List ℕ). was_sent ++ l) (sym step.text) in
       record {
         units = done;
         others = others;
         all = all;
-        answered = step.history;
-        order = step.serves.order;
-        gate = step.serves.ready.gate;
+        answered = answered.history;
+        sent = wrote.sent ++ step.sent;
+        answers = answers_took start wrote.history wrote.sent out wrote.answers step;
+        gate = answered.serves.ready.gate;
         stopped = stopped;
         complete = tt;
         holds = tt;
         written = λ before was.
-            let (some, is, begins) = part (before ++ sent) (wrote.written before was) in
-            subst (λ o. IsSomeAnd o (λ after. OutputSeen status.WriteFault start input done step.history (stopped.later ++ step.history) before after))
-            (sym (is ∙ ap (λ l. Some l) (append_assoc before sent some))) (record {
-              written = sent ++ some;
+            let held_then = wrote.written before was in
+            let (some, is, begins) = part (before ++ was_sent) held_then in
+            subst (λ o. IsSomeAnd o (λ after. OutputSeen status.WriteFault start done answered.history (stopped.later ++ answered.history) (wrote.sent ++ step.sent)
+            before after output.passed new.passed))
+            (sym (is ∙ ap (λ l. Some l) (append_assoc before was_sent some))) (record {
+              written = was_sent ++ some;
               output = refl;
-              is = (
-                units,
-                unit,
-                refl,
-                (some, ap (λ l. l ++ some) (stays start wrote.history states now out wrote.serves step)),
-                (begins.0, append_assoc sent some begins.0 ∙ ap (λ l. sent ++ l) begins.1 ∙ sym step.grows),
-              );
+              is = record {
+                first = units;
+                last = unit;
+                all = refl;
+                earlier = wrote.history;
+                since = (answered.more, answered.since);
+                was = wrote.sent;
+                answers = wrote.answers;
+                grows = ap (λ (l : List OutUnit). wrote.sent ++ l) answered.is;
+                whole = (some, refl);
+                part = (begins.0, append_assoc was_sent some begins.0 ∙ ap (λ l. was_sent ++ l) begins.1 ∙ sym text);
+                flushed = λ passed.
+                    passed_at_least old.passed new.passed (before ++ was_sent)
+                    (subst (IsAllOf old.passed) held_then (wrote.passed (subst (IsAllOf output.passed) (sym was) passed))) passes;
+              };
               determined = tt;
             });
       };
 }
 
--- it was answered, and all of its output was written
+-- it was answered, and all of its output was written and passed on
 pub goes_on : (input rest waiting more behind out : List ℕ) (unit : InputUnit) (place next : ℕ) (server after : Single) (units : List InputUnit)
-    (old new : Option (List ℕ)) (states now : Option (List Disk))
+    (old new : Held) (states now : Option (List Disk))
     → ReadTo input rest place units → rest ≡ waiting ++ more → content_at place (waiting ++ more) ≡ Some (unit, behind)
     → next + length behind ≡ place + length rest
     → ((start : Start) (history : History) → Serves start server units history states → WritesUnit start after units history unit out states now)
-    → ((before : List ℕ) → old ≡ Some before → new ≡ Some (before ++ out))
+    → ((before : List ℕ) → old.contents ≡ Some before → new.contents ≡ Some (before ++ out)) → IsAllOf new.passed new.contents
     → NextStep input behind next server after units old new states now
-goes_on input rest waiting more behind out unit place next server after units old new states now read same found moved took all = record {
+goes_on input rest waiting more behind out unit place next server after units old new states now read same found moved took all passed = record {
   unit = unit;
   read = read_on input rest behind place next units unit read (ap (content_at place) same ∙ found) moved;
   wrote = λ start output first wrote.
       let step = took start wrote.history wrote.serves in
+      let was_sent = units_text wrote.sent in
       record {
-        history = step.history;
-        serves = step.serves;
+        history = step.answered.history;
+        sent = wrote.sent ++ step.sent;
+        serves = step.answered.serves;
+        answers = answers_took start wrote.history wrote.sent out wrote.answers step;
         lasts = lasts_took start wrote.history first states now out wrote.lasts step;
-        written = λ before was. all (before ++ trace_output start units wrote.history) (wrote.written before was)
-            ∙ ap (λ l. Some l) (append_assoc before (trace_output start units wrote.history) out ∙ ap (λ l. before ++ l) (sym step.grows));
+        written = λ before was. all (before ++ was_sent) (wrote.written before was)
+            ∙ ap (λ l. Some l) (append_assoc before was_sent out
+            ∙ ap (λ l. before ++ l) (ap (λ (l : List ℕ). was_sent ++ l) step.text ∙ sym (units_text-append wrote.sent step.sent)));
+        passed = λ _. passed;
       };
 }
 

@@ -24,8 +24,8 @@ use Rattle.mx_top.specs.declared.stop.Stop.{Stop}
 use Rattle.mx_top.specs.declared.stop.Stop.TheVariants.{BadInput, ReadFault, WriteFault, DiskFault, NoMemory}
 use Rattle.mx_top.specs.Progress.{UnitsSeen, status_of}
 use Rattle.mx_node.proofs.AgainLaws.{read_recovers}
-use Rattle.mx_top.specs.TraceOutput.{trace_output}
-use Rattle.mx_top.specs.Runs.{OutputSeen, StillPassedOn, RecoversAlways, RecoversAsItIs, RecoversNow, all_commits, Served, NotOpened, Untouched, RunSeen}
+use Rattle.mx_top.specs.TraceOutput.{units_text}
+use Rattle.mx_top.specs.Runs.{Held, OutputSeen, StillPassedOn, RecoversAlways, RecoversAsItIs, RecoversNow, all_commits, Served, NotOpened, Untouched, RunSeen}
 
 -- what an opening does, said for all that may be committed after it
 abbrev pub Opens : Origin → List Tx → (old new : Option (List Disk)) → Type 0
@@ -173,10 +173,10 @@ module _ (start : Start) (seed : List ℕ) (origin : Origin) (earlier : List Tx)
 -- ---- what a run says
 
 -- the run opened its directory, and answered these units
-served : (status : Status) (start : Start) (seed input : List ℕ) (output contents : Option (List ℕ)) (old middle new : Option (List Disk))
+served : (status : Status) (start : Start) (seed input : List ℕ) (output now : Held) (old middle new : Option (List Disk))
     → Begins start seed old → KnownAlike old middle → ((origin : Origin) (earlier : List Tx) → Recovers origin earlier old → Opens origin earlier old middle)
-    → UnitsSeen status start input output contents middle new → Served status seed input output contents old new
-served status start seed input output contents old middle new begins alike opens seen =
+    → UnitsSeen status start input output now middle new → Served status seed input output now old new
+served status start seed input output now old middle new begins alike opens seen =
     let stopped = seen.stopped in
     let history = stopped.later ++ seen.answered in
     record {
@@ -186,11 +186,12 @@ served status start seed input output contents old middle new begins alike opens
       others = seen.others;
       all = seen.all;
       answered = seen.answered;
+      sent = seen.sent;
       later = stopped.later;
       history = history;
       both = refl;
       legal = stopped.legal;
-      order = seen.order;
+      answers = seen.answers;
       order_later = stopped.ordered;
       gate = seen.gate;
       complete = seen.complete;
@@ -210,25 +211,25 @@ served status start seed input output contents old middle new begins alike opens
           (confirmed_part start.base history) stopped.confirmed;
     }
 
-pub served_seen : (ended : Result (Unit {0}) Stop) (start : Start) (seed input : List ℕ) (output contents : Option (List ℕ)) (old middle new : Option (List Disk))
+pub served_seen : (ended : Result (Unit {0}) Stop) (start : Start) (seed input : List ℕ) (output now : Held) (old middle new : Option (List Disk))
     → Begins start seed old → KnownAlike old middle → ((origin : Origin) (earlier : List Tx) → Recovers origin earlier old → Opens origin earlier old middle)
-    → UnitsSeen (status_of ended) start input output contents middle new
-    → RunSeen (status_of ended) seed input output contents old new
-served_seen (Ok done) start seed input output contents old middle new begins alike opens seen =
-    served status.Ok start seed input output contents old middle new begins alike opens seen
-served_seen (Err (BadInput at)) start seed input output contents old middle new begins alike opens seen =
-    served (status.BadInput at) start seed input output contents old middle new begins alike opens seen
-served_seen (Err ReadFault) start seed input output contents old middle new begins alike opens seen =
-    served status.ReadFault start seed input output contents old middle new begins alike opens seen
-served_seen (Err WriteFault) start seed input output contents old middle new begins alike opens seen =
-    served status.WriteFault start seed input output contents old middle new begins alike opens seen
-served_seen (Err DiskFault) start seed input output contents old middle new begins alike opens seen =
-    inr (served status.DiskFault start seed input output contents old middle new begins alike opens seen)
-served_seen (Err NoMemory) start seed input output contents old middle new begins alike opens seen =
-    inr (served status.NoMemory start seed input output contents old middle new begins alike opens seen)
+    → UnitsSeen (status_of ended) start input output now middle new
+    → RunSeen (status_of ended) seed input output now old new
+served_seen (Ok done) start seed input output now old middle new begins alike opens seen =
+    served status.Ok start seed input output now old middle new begins alike opens seen
+served_seen (Err (BadInput at)) start seed input output now old middle new begins alike opens seen =
+    served (status.BadInput at) start seed input output now old middle new begins alike opens seen
+served_seen (Err ReadFault) start seed input output now old middle new begins alike opens seen =
+    served status.ReadFault start seed input output now old middle new begins alike opens seen
+served_seen (Err WriteFault) start seed input output now old middle new begins alike opens seen =
+    served status.WriteFault start seed input output now old middle new begins alike opens seen
+served_seen (Err DiskFault) start seed input output now old middle new begins alike opens seen =
+    inr (served status.DiskFault start seed input output now old middle new begins alike opens seen)
+served_seen (Err NoMemory) start seed input output now old middle new begins alike opens seen =
+    inr (served status.NoMemory start seed input output now old middle new begins alike opens seen)
 
 -- the directory couldn't be opened
-pub not_opened : (output : Option (List ℕ)) (old new : Option (List Disk)) → KnownAlike old new
+pub not_opened : (output : Held) (old new : Option (List Disk)) → KnownAlike old new
     → ((origin : Origin) (earlier : List Tx) → Recovers origin earlier old → Opens origin earlier old new) → NotOpened output output old new
 not_opened output old new alike opens = record {
   output = λ before was. was;
@@ -252,21 +253,19 @@ not_opened output old new alike opens = record {
     alone origin earlier recovers = opens origin earlier recovers earlier ([], append-nil earlier) recovers.follow
 
 -- nothing was done
-pub left_alone : (output : Option (List ℕ)) (old new : Option (List Disk)) → new ≡ old → Untouched output output old new
+pub left_alone : (output : Held) (old new : Option (List Disk)) → new ≡ old → Untouched output output old new
 left_alone output old new same = record { output = λ before was. was; directory = same }
 
 -- where the input failed, all of the output for the units that were answered is there
-pub all_written : (seed input before : List ℕ) (output_old output_new : Option (List ℕ)) (old new : Option (List Disk))
-    → (served : Served status.ReadFault seed input output_old output_new old new) → output_old ≡ Some before
-    → output_new ≡ Some (before ++ trace_output served.start served.units served.answered)
-all_written seed input before output_old output_new old new served was = by_contents output_new (served.output before was)
+pub all_written : (seed input before : List ℕ) (output_old output_new : Held) (old new : Option (List Disk))
+    → (served : Served status.ReadFault seed input output_old output_new old new) → output_old.contents ≡ Some before
+    → output_new.contents ≡ Some (before ++ units_text served.sent)
+all_written seed input before output_old output_new old new served was = by_contents output_new.contents (served.output before was)
   where
-    whole : List ℕ
-    whole = before ++ trace_output served.start served.units served.answered
-
     by_contents : (contents : Option (List ℕ))
-        → IsSomeAnd contents (λ after. OutputSeen status.ReadFault served.start input served.units served.answered served.history before after)
-        → contents ≡ Some whole
+        → IsSomeAnd contents (λ after. OutputSeen status.ReadFault served.start served.units served.answered served.history served.sent before after
+        output_old.passed output_new.passed)
+        → contents ≡ Some (before ++ units_text served.sent)
     by_contents None seen = absurd seen
     by_contents (Some after) seen =
         ap (λ (l : List ℕ). Some l) (seen.output ∙ ap (λ (l : List ℕ). before ++ l) seen.is)

@@ -11,14 +11,14 @@ use Rattle.mx_node.specs.Serving.{Serves}
 use Rattle.mx_node.specs.Starts.{Start}
 use Rattle.mx_top.specs.declared.status.Status.{Status}
 use Rattle.mx_top.specs.declared.status.Status.TheVariants as status
-use Rattle.mx_top.specs.Runs.{PlaceSeen, fault_place, status_by}
+use Rattle.mx_top.specs.Runs.{Held, PlaceSeen, fault_place, status_by}
 use Rattle.mx_top.specs.Progress.{ReadTo, Wrote, UnitsSeen, NextStep}
 use Rattle.mx_node.proofs.LastingLaws.{lasts_none}
 use Rattle.mx_top.proofs.ProgressLaws.{no_memory, stopped_after, untouched}
 
 -- The input was read up to this place; and where the server had served nothing first, all of the output for the units read
 -- was written.
-pub record HasRead (input : List ℕ) (left : Option (List ℕ)) (waiting : List ℕ) (place : ℕ) (first server : Single) (old new : Option (List ℕ))
+pub record HasRead (input : List ℕ) (left : Option (List ℕ)) (waiting : List ℕ) (place : ℕ) (first server : Single) (old new : Held)
     (states now : Option (List Disk)) : Type 0 where
   pub rest : List ℕ
   pub left_is : left ≡ Some rest
@@ -27,17 +27,20 @@ pub record HasRead (input : List ℕ) (left : Option (List ℕ)) (waiting : List
   pub wrote : (start : Start) → Serves start first [] [] states → Wrote start server units old new states now
 
 -- nothing was written yet
-wrote_nothing : (start : Start) (server : Single) (old : Option (List ℕ)) (states : Option (List Disk)) → Serves start server [] [] states
+wrote_nothing : (start : Start) (server : Single) (old : Held) (states : Option (List Disk)) → Serves start server [] [] states
     → Wrote start server [] old old states states
 wrote_nothing start server old states serves = record {
   history = [];
+  sent = [];
   serves = serves;
+  answers = (refl, refl);
   written = λ before was. was ∙ ap (λ l. Some l) (sym (append-nil before));
+  passed = λ all. all;
   lasts = lasts_none start.base [] states;
 }
 
 -- nor was anything read
-pub has_read_nothing : (input waiting : List ℕ) (left : Option (List ℕ)) (server : Single) (old : Option (List ℕ)) (states : Option (List Disk))
+pub has_read_nothing : (input waiting : List ℕ) (left : Option (List ℕ)) (server : Single) (old : Held) (states : Option (List Disk))
     → left ≡ Some input → waiting ≡ []
     → HasRead input left waiting 0 server server old old states states
 unfolding units_of
@@ -53,7 +56,7 @@ has_read_nothing input waiting left server old states told none =
 
 -- one unit more
 pub has_read_more : (input waiting rest : List ℕ) (left : Option (List ℕ)) (next : ℕ) (first server after : Single) (units : List InputUnit)
-    (old middle new : Option (List ℕ))
+    (old middle new : Held)
     (states between now : Option (List Disk))
     → left ≡ Some rest → NextStep input (waiting ++ rest) next server after units middle new between now
     → ((start : Start) → Serves start first [] [] states → Wrote start server units old middle states between)
@@ -67,7 +70,7 @@ has_read_more input waiting rest left next first server after units old middle n
 }
 
 -- nothing was written or done
-pub begins_nothing : (start : Start) (input : List ℕ) (server : Single) (old : Option (List ℕ)) (states : Option (List Disk))
+pub begins_nothing : (start : Start) (input : List ℕ) (server : Single) (old : Held) (states : Option (List Disk))
     → Serves start server [] [] states → UnitsSeen status.NoMemory start input old old states states
 unfolding wrote_nothing
 begins_nothing start input server old states serves =

@@ -2,6 +2,7 @@
 use Rattle.std.specs.Prelude.{◌≡◌, ℕ, ◌+◌, ◌<◌, List, [], ◌∷◌, ◌++◌, length, Option, Some, None, Result, Ok, Err, IsSomeAnd}
 use Rattle.mx_msgpack.specs.Readers.{all_from}
 use Rattle.mx_outside.specs.Disks.{Disk, IfKnown}
+use Rattle.mx_model.specs.declared.out_units.OutUnit.{OutUnit}
 use Rattle.mx_model.specs.Histories.{History}
 use Rattle.mx_model.specs.Order.{order_in}
 use Rattle.mx_model.specs.Gate.{RepliesMayLeave}
@@ -13,13 +14,14 @@ use Rattle.mx_top.specs.declared.stop.Stop.{Stop}
 use Rattle.mx_top.specs.declared.stop.Stop.TheVariants.{BadInput, ReadFault, WriteFault, DiskFault, NoMemory}
 use Rattle.mx_top.specs.Units.{content_at, unit_at, units_of}
 use Rattle.mx_node.specs.Inputs.{InputUnit}
-use Rattle.mx_node.specs.Order.{order_of, whole_order_of}
-use Rattle.mx_top.specs.TraceOutput.{trace_output}
-use Rattle.mx_node.specs.Serving.{Serves, DirectoryHolds}
+use Rattle.mx_node.specs.Order.{whole_order_of}
+use Rattle.mx_node.specs.Outputs.{AnswersAll}
+use Rattle.mx_top.specs.TraceOutput.{units_text}
+use Rattle.mx_node.specs.Serving.{AnswersUnit, Serves, DirectoryHolds}
 use Rattle.mx_node.specs.Starts.{Start}
 use Rattle.mx_node.specs.Interrupted.{IsInterrupted}
 use Rattle.mx_model.specs.Survival.{Lasts}
-use Rattle.mx_top.specs.Runs.{AtCompletion, OutputSeen, PlaceSeen, order_until}
+use Rattle.mx_top.specs.Runs.{AtCompletion, Held, OutputSeen, PlaceSeen, StillPassedOn, order_until}
 
 -- what stops a run where a unit stands at this place in the bytes that are left
 abbrev pub StopsAt : (place : ℕ) → (bytes : List ℕ) → Stop → Type 0
@@ -47,55 +49,57 @@ abbrev pub status_of : Result (Unit {0}) Stop → Status
 status_of (Ok done) = status.Ok
 status_of (Err stop) = status_of_stop stop
 
--- these units were answered, and all of the output for them was written, since the output had its first contents and the
--- directory its first states
-pub record Wrote (start : Start) (server : Single) (units : List InputUnit) (output contents : Option (List ℕ)) (first states : Option (List Disk)) : Type 0 where
+-- these units were answered, and all of the output for them was written and passed on, since the output was as it was first and
+-- the directory had its first states
+pub record Wrote (start : Start) (server : Single) (units : List InputUnit) (output now : Held) (first states : Option (List Disk)) : Type 0 where
   pub history : History
+  pub sent : List OutUnit
   pub serves : Serves start server units history states
-  pub written : (before : List ℕ) → output ≡ Some before → contents ≡ Some (before ++ trace_output start units history)
+  pub answers : AnswersAll start units history sent
+  pub written : (before : List ℕ) → output.contents ≡ Some before → now.contents ≡ Some (before ++ units_text sent)
+  pub passed : StillPassedOn output.passed output.contents now.passed now.contents
   pub lasts : Lasts start.base history first states
 
 -- These units of the input were answered whole, and no other one was begun but the next. At the end of the input the directory
 -- holds what was committed.
-pub record UnitsSeen (status : Status) (start : Start) (input : List ℕ) (output contents : Option (List ℕ)) (first states : Option (List Disk)) : Type 0 where
+pub record UnitsSeen (status : Status) (start : Start) (input : List ℕ) (output now : Held) (first states : Option (List Disk)) : Type 0 where
   pub units : List InputUnit
   pub others : List InputUnit
   pub all : units ++ others ≡ (units_of input).0
   pub answered : History
-  pub order : order_in answered ≡ order_of units
+  pub sent : List OutUnit
+  pub answers : AnswersAll start units answered sent
   pub gate : RepliesMayLeave start.base answered
   pub stopped : IsInterrupted start.base answered (order_until units others) first states
   pub complete : AtCompletion status ((others ≡ []) × (order_in (stopped.later ++ answered) ≡ whole_order_of units))
   pub holds : AtCompletion status (IfKnown states (λ disk past. DirectoryHolds start.base (stopped.later ++ answered) disk))
-  pub written : (before : List ℕ) → output ≡ Some before
-      → IsSomeAnd contents (λ after. OutputSeen status start input units answered (stopped.later ++ answered) before after)
+  pub written : (before : List ℕ) → output.contents ≡ Some before
+      → IsSomeAnd now.contents (λ after. OutputSeen status start units answered (stopped.later ++ answered) sent before after output.passed now.passed)
 
 -- what the end of the units, or the cause that stopped the run among them, says of the output and of the directory
-abbrev pub EndSeen : Result (Unit {0}) Stop → (start : Start) → (input : List ℕ) → (server : Single) → (output contents : Option (List ℕ))
+abbrev pub EndSeen : Result (Unit {0}) Stop → (start : Start) → (input : List ℕ) → (server : Single) → (output now : Held)
     → (first states : Option (List Disk)) → Type 0
-EndSeen (Ok done) start input server output contents first states = Wrote start server (units_of input).0 output contents first states
-EndSeen (Err (BadInput at)) start input server output contents first states = Wrote start server (units_of input).0 output contents first states
-EndSeen (Err stop) start input server output contents first states = UnitsSeen (status_of_stop stop) start input output contents first states
+EndSeen (Ok done) start input server output now first states = Wrote start server (units_of input).0 output now first states
+EndSeen (Err (BadInput at)) start input server output now first states = Wrote start server (units_of input).0 output now first states
+EndSeen (Err stop) start input server output now first states = UnitsSeen (status_of_stop stop) start input output now first states
 
 -- the units ended so: what this says of the input, of the output and of the directory
 pub record LastStep (ended : Result (Unit {0}) Stop) (input : List ℕ) (left : Option (List ℕ)) (server after : Single) (units : List InputUnit)
-    (old new : Option (List ℕ)) (states now : Option (List Disk)) : Type 0 where
+    (old new : Held) (states now : Option (List Disk)) : Type 0 where
   pub place : PlaceSeen (status_of ended) input left
-  pub output : (start : Start) (output : Option (List ℕ)) (first : Option (List Disk)) → Wrote start server units output old first states
+  pub output : (start : Start) (output : Held) (first : Option (List Disk)) → Wrote start server units output old first states
       → EndSeen ended start input after output new first now
 
 -- one unit more was answered, by this output
 pub record WritesUnit (start : Start) (node : Single) (units : List InputUnit) (earlier : History) (unit : InputUnit) (output : List ℕ) (old states : Option (List Disk)) : Type 0 where
-  pub history : History
-  pub since : (more : History) × (history ≡ more ++ earlier)
-  pub lasts : Lasts start.base history old states
-  pub serves : Serves start node (units ++ unit ∷ []) history states
-  pub grows : trace_output start (units ++ unit ∷ []) history ≡ trace_output start units earlier ++ output
+  pub sent : List OutUnit
+  pub answered : AnswersUnit start node units earlier unit sent old states
+  pub text : output ≡ units_text sent
 
 -- one unit more was read and answered
 pub record NextStep (input rest : List ℕ) (place : ℕ) (server after : Single) (units : List InputUnit)
-    (old new : Option (List ℕ)) (states now : Option (List Disk)) : Type 0 where
+    (old new : Held) (states now : Option (List Disk)) : Type 0 where
   pub unit : InputUnit
   pub read : ReadTo input rest place (units ++ unit ∷ [])
-  pub wrote : (start : Start) (output : Option (List ℕ)) (first : Option (List Disk)) → Wrote start server units output old first states
+  pub wrote : (start : Start) (output : Held) (first : Option (List Disk)) → Wrote start server units output old first states
       → Wrote start after (units ++ unit ∷ []) output new first now

@@ -7,18 +7,20 @@ use Rattle.mx_outside.specs.Passed.{IsAllOf}
 use Rattle.mx_row.specs.declared.tx.Tx.{Tx}
 use Rattle.mx_images.specs.Changes.{KeepsOthers}
 use Rattle.mx_model.specs.Directories.{Origin, IsDirectoryState}
-use Rattle.mx_model.specs.Histories.{Base, History, IsLegal, HasMemory, history_from, journal_of}
+use Rattle.mx_model.specs.declared.out_units.OutUnit.{OutUnit}
+use Rattle.mx_model.specs.Histories.{Base, History, IsLegal, HasMemory, journal_of}
 use Rattle.mx_model.specs.Order.{Step, order_in}
 use Rattle.mx_model.specs.Gate.{RepliesMayLeave, confirmed_part}
 use Rattle.mx_model.specs.Survival.{Recovers, Survive, NoFewerSurvive, ReadsMost}
 use Rattle.mx_node.specs.Inputs.{InputUnit}
-use Rattle.mx_node.specs.Order.{order_by, order_of, whole_order_of, all_asks_of}
+use Rattle.mx_node.specs.Order.{order_by, order_of, whole_order_of}
+use Rattle.mx_node.specs.Outputs.{AnswersAll, output_for}
 use Rattle.mx_node.specs.Serving.{DirectoryHolds}
 use Rattle.mx_node.specs.Starts.{Start}
 use Rattle.mx_top.specs.declared.status.Status.{Status}
 use Rattle.mx_top.specs.declared.status.Status.TheVariants as status
 use Rattle.mx_top.specs.Units.{units_of}
-use Rattle.mx_top.specs.TraceOutput.{trace_output}
+use Rattle.mx_top.specs.TraceOutput.{units_text}
 use Rattle.mx_top.specs.Starts.{Begins}
 
 -- ---- the input
@@ -57,27 +59,56 @@ order_until units (unit ∷ others) = order_of units ++ order_by units unit
 
 -- ---- the output
 
--- the output where each request finds memory
-abbrev pub expected_output : (start : Start) (input : List ℕ) → List ℕ
-expected_output start input =
-    trace_output start (units_of input).0 (history_from start.base [] (all_asks_of (units_of input).0))
+-- what a sink holds, and what of it was passed on, where they are known
+pub record Held : Type 0 where
+  pub contents : Option (List ℕ)
+  pub passed : Option (List ℕ)
 
--- What was written is the whole output for the units that were answered. Where the output failed, it may lack some of that for
+abbrev pub held : (contents passed : Option (List ℕ)) → Held
+held contents passed = record { contents = contents; passed = passed }
+
+-- what was passed on, where it is known, begins with these bytes
+abbrev pub PassedAtLeast : (passed : Option (List ℕ)) → List ℕ → Type 0
+PassedAtLeast None bytes = ⊤
+PassedAtLeast (Some passed) bytes = IsPrefix bytes passed
+
+-- The output failed at the last of these units. What was written is all that is sent for the units before it, and a prefix of
+-- what is sent for it. The former was passed on, if all that the output had before was.
+pub record CutOutput (start : Start) (units : List InputUnit) (answered : History) (sent : List OutUnit) (before written : List ℕ)
+    (passed passed_now : Option (List ℕ)) : Type 0 where
+  pub first : List InputUnit
+  pub last : InputUnit
+  pub all : units ≡ first ++ last ∷ []
+  pub earlier : History
+  pub since : (more : History) × (answered ≡ more ++ earlier)
+  pub was : List OutUnit
+  pub answers : AnswersAll start first earlier was
+  pub grows : sent ≡ was ++ output_for start first earlier last answered
+  pub whole : IsPrefix (units_text was) written
+  pub part : IsPrefix written (units_text sent)
+  pub flushed : IsAllOf passed (Some before) → PassedAtLeast passed_now (before ++ units_text was)
+
+-- What was written is all that is sent for the units that were answered. Where the output failed, it may lack some of that for
 -- the last one.
-abbrev pub IsOutput : Status → (start : Start) → List InputUnit → History → (written : List ℕ) → Type 0
-IsOutput status.WriteFault start units answered written =
-    (first : List InputUnit) × (last : InputUnit) × (units ≡ first ++ last ∷ [])
-    × IsPrefix (trace_output start first answered) written × IsPrefix written (trace_output start units answered)
-IsOutput _ start units answered written = written ≡ trace_output start units answered
+abbrev pub IsOutput : Status → (start : Start) → List InputUnit → (answered : History) → (sent : List OutUnit) → (before written : List ℕ)
+    → (passed passed_now : Option (List ℕ)) → Type 0
+IsOutput status.WriteFault start units answered sent before written passed passed_now =
+    CutOutput start units answered sent before written passed passed_now
+IsOutput _ start units answered sent before written passed passed_now = written ≡ units_text sent
 
--- What the output has, after what it had before. Where no request of an input that was answered whole was out of
--- memory, it is a function of the start and the input.
-pub record OutputSeen (status : Status) (start : Start) (input : List ℕ) (units : List InputUnit) (answered history : History)
-    (before after : List ℕ) : Type 0 where
+-- each legal history that answers these units, and in which no request is out of memory, is sent this
+abbrev pub IsOnlyOutput : (start : Start) → List InputUnit → (written : List ℕ) → Type 0
+IsOnlyOutput start units written =
+    (other : History) (sent : List OutUnit) → IsLegal start.base other → HasMemory other → AnswersAll start units other sent → written ≡ units_text sent
+
+-- What the output has, after what it had before. Where no request of an input that was answered whole was out of memory, what
+-- was written is determined by the start and the units.
+pub record OutputSeen (status : Status) (start : Start) (units : List InputUnit) (answered history : History) (sent : List OutUnit)
+    (before after : List ℕ) (passed passed_now : Option (List ℕ)) : Type 0 where
   pub written : List ℕ
   pub output : after ≡ before ++ written
-  pub is : IsOutput status start units answered written
-  pub determined : AtCompletion status (HasMemory history → written ≡ expected_output start input)
+  pub is : IsOutput status start units answered sent before written passed passed_now
+  pub determined : AtCompletion status (HasMemory history → IsOnlyOutput start units written)
 
 -- all that the output holds was passed on, if that was so before
 abbrev pub StillPassedOn : (passed contents passed_now contents_now : Option (List ℕ)) → Type 0
@@ -119,24 +150,25 @@ DamageSeen _ old = ⊤
 -- A run that opened its directory. It answered these units whole, and began none of the others but the next; one history has
 -- the steps for both. Each part says the same of that history: what was written, what the directory recovers at each moment,
 -- and that no reply was written before all that it depends on was durable.
-pub record Served (status : Status) (seed input : List ℕ) (output_old output_new : Option (List ℕ)) (old new : Option (List Disk)) : Type 0 where
+pub record Served (status : Status) (seed input : List ℕ) (output_old output_new : Held) (old new : Option (List Disk)) : Type 0 where
   pub start : Start
   pub begins : Begins start seed old
   pub units : List InputUnit
   pub others : List InputUnit
   pub all : units ++ others ≡ (units_of input).0
-  -- the steps for the units that were answered whole, and then those of the next one
+  -- the steps for the units that were answered whole, what is sent for them, and then the steps of the next one
   pub answered : History
+  pub sent : List OutUnit
   pub later : History
   pub history : History
   pub both : history ≡ later ++ answered
   pub legal : IsLegal start.base history
-  pub order : order_in answered ≡ order_of units
+  pub answers : AnswersAll start units answered sent
   pub order_later : IsPrefix (order_in history) (order_until units others)
   pub gate : RepliesMayLeave start.base answered
   pub complete : AtCompletion status ((others ≡ []) × (order_in history ≡ whole_order_of units))
-  pub output : (before : List ℕ) → output_old ≡ Some before
-      → IsSomeAnd output_new (λ after. OutputSeen status start input units answered history before after)
+  pub output : (before : List ℕ) → output_old.contents ≡ Some before
+      → IsSomeAnd output_new.contents (λ after. OutputSeen status start units answered history sent before after output_old.passed output_new.passed)
   pub holds : AtCompletion status (IfKnown new (λ disk past. DirectoryHolds start.base history disk))
   pub crash : (origin : Origin) (earlier : List Tx) → Recovers origin earlier old → RecoversAlways origin (all_commits earlier start.base history) old new
   pub acknowledged : (origin : Origin) (earlier : List Tx) → Recovers origin earlier old
@@ -147,19 +179,19 @@ pub record Served (status : Status) (seed input : List ℕ) (output_old output_n
       → RecoversNow origin (all_commits earlier start.base history) (length (all_commits earlier start.base (confirmed_part start.base history))) new
 
 -- A run that didn't open its directory: nothing was written or committed.
-pub record NotOpened (output_old output_new : Option (List ℕ)) (old new : Option (List Disk)) : Type 0 where
-  pub output : (before : List ℕ) → output_old ≡ Some before → output_new ≡ Some before
+pub record NotOpened (output_old output_new : Held) (old new : Option (List Disk)) : Type 0 where
+  pub output : (before : List ℕ) → output_old.contents ≡ Some before → output_new.contents ≡ Some before
   pub crash : (origin : Origin) (earlier : List Tx) → Recovers origin earlier old → RecoversAlways origin earlier old new
   pub killed : (origin : Origin) (earlier : List Tx) (least : ℕ) → Recovers origin earlier old → RecoversNow origin earlier least old
       → RecoversAsItIs origin earlier least new
 
 -- nothing was written, and the directory is as it was
-pub record Untouched (output_old output_new : Option (List ℕ)) (old new : Option (List Disk)) : Type 0 where
-  pub output : (before : List ℕ) → output_old ≡ Some before → output_new ≡ Some before
+pub record Untouched (output_old output_new : Held) (old new : Option (List Disk)) : Type 0 where
+  pub output : (before : List ℕ) → output_old.contents ≡ Some before → output_new.contents ≡ Some before
   pub directory : new ≡ old
 
 -- what a status says of the output and of the directory
-abbrev pub RunSeen : Status → (seed input : List ℕ) (output_old output_new : Option (List ℕ)) (old new : Option (List Disk)) → Type 0
+abbrev pub RunSeen : Status → (seed input : List ℕ) (output_old output_new : Held) (old new : Option (List Disk)) → Type 0
 RunSeen status.BadWords seed input output_old output_new old new = Untouched output_old output_new old new
 RunSeen (status.Damaged damage) seed input output_old output_new old new = Untouched output_old output_new old new
 RunSeen status.DiskFault seed input output_old output_new old new =

@@ -2,10 +2,6 @@
 use Rattle.std.specs.Prelude.{ℕ, List, [], ◌∷◌, ◌++◌, length}
 use Rattle.byteorder.specs.Endian.{big_bytes}
 use Rattle.mx_model.specs.declared.out_units.OutUnit.{OutUnit}
-use Rattle.mx_model.specs.Histories.{History}
-use Rattle.mx_node.specs.Inputs.{InputUnit}
-use Rattle.mx_node.specs.Starts.{Start}
-use Rattle.mx_node.specs.Outputs.{output_of}
 
 -- an output unit: a connection, a length and that many bytes
 abbrev pub unit_text : OutUnit → List ℕ
@@ -15,7 +11,3 @@ unit_text unit = (big_bytes 4 unit.conn.0 ++ big_bytes 4 (length unit.bytes)) ++
 abbrev pub units_text : List OutUnit → List ℕ
 units_text [] = []
 units_text (unit ∷ units) = unit_text unit ++ units_text units
-
--- what is written for these units of the input, where a history has their replies
-abbrev pub trace_output : (start : Start) → List InputUnit → History → List ℕ
-trace_output start units history = units_text (output_of start units history)

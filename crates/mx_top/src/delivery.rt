@@ -3,7 +3,7 @@
 ghost use Rattle.std.specs.Prelude.{◌≡◌, ◌++◌, ℕ, List, Some, OnOk};
 ghost use mathlib.Core.List.{IsPrefix};
 ghost use Rattle.mx_outside.specs.Causes.{HasCause};
-ghost use Rattle.mx_outside.specs.Passed.{IsAllOf};
+ghost use Rattle.mx_outside.specs.Passed.{IsAllOf, PassesOn};
 
 use mx_outside::{Failed, Sink};
 
@@ -11,6 +11,7 @@ use mx_outside::{Failed, Sink};
 pub(crate) fn deliver<K: Sink>(output: &mut K, bytes: &[u8]) -> Result<(), Failed>
     ensures told { (before : List ℕ) → K.contents output.old ≡ Some before → (written : List ℕ)
         × (K.contents output.new ≡ Some (before ++ written)) × IsPrefix written bytes.now × OnOk result (written ≡ bytes.now) }
+    ensures passes { PassesOn (K.passed output.old) (K.passed output.new) }
     ensures passed { OnOk result (IsAllOf (K.passed output.new) (K.contents output.new)) }
     ensures cause { HasCause (K.faults output.old) (K.faults output.new) result }
 {
@@ -23,6 +24,7 @@ pub(crate) fn deliver<K: Sink>(output: &mut K, bytes: &[u8]) -> Result<(), Faile
 fn write_all<K: Sink>(output: &mut K, bytes: &[u8]) -> Result<(), Failed>
     ensures told { (before : List ℕ) → K.contents output.old ≡ Some before → (written : List ℕ)
         × (K.contents output.new ≡ Some (before ++ written)) × IsPrefix written bytes.now × OnOk result (written ≡ bytes.now) }
+    ensures passes { PassesOn (K.passed output.old) (K.passed output.new) }
     ensures cause { HasCause (K.faults output.old) (K.faults output.new) result }
 {
     let mut rest = bytes;

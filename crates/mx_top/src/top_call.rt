@@ -5,7 +5,7 @@ ghost use Rattle.mx_outside.specs.Causes.{Rose};
 ghost use Rattle.mx_model.specs.declared.damage.Damage.{Damage};
 ghost use Rattle.mx_top.specs.declared.status.Status.TheVariants as status;
 ghost use Rattle.mx_top.specs.Arguments.{is_command};
-ghost use Rattle.mx_top.specs.Runs.{PlaceSeen, RunSeen, DamageSeen, StillPassedOn, OthersKept, fault_place, status_by};
+ghost use Rattle.mx_top.specs.Runs.{PlaceSeen, RunSeen, DamageSeen, StillPassedOn, OthersKept, fault_place, held, status_by};
 
 use crate::arguments;
 use crate::status::Status;
@@ -66,7 +66,7 @@ pub fn run<D: Dir, S: Source, K: Sink>(
     // written is the output for the former; the directory recovers a prefix of its commits after any crash, at any moment,
     // and all on which a reply that was written depends. A run that opened no directory wrote and committed nothing.
     ensures history { (bytes : List ℕ) (old new : D) → S.left input.old ≡ Some bytes → dirs.old.items ≡ old ∷ [] → dirs.new.items ≡ new ∷ []
-        → RunSeen result seed.now bytes (K.contents output.old) (K.contents output.new) (D.states old) (D.states new) }
+        → RunSeen result seed.now bytes (held (K.contents output.old) (K.passed output.old)) (held (K.contents output.new) (K.passed output.new)) (D.states old) (D.states new) }
 
     // The run of a command that no fault ended has the status that its input demands, unless the directory is damaged or
     // memory ran out.

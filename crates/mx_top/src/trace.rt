@@ -1,6 +1,6 @@
 //! The command `trace`: opens the directory, reads units, answers them, and writes output units.
 
-ghost use Rattle.std.specs.Prelude.{◌≡◌, ◌⊎◌, ◌<◌, ◌≤◌, ◌++◌, ℕ, List, [], Some, Ok, Err, IfOk, IfSome, IsSomeAnd, MatchOption, MatchResult, OnOk, OnErr, IfErr};
+ghost use Rattle.std.specs.Prelude.{◌≡◌, ◌⊎◌, ◌<◌, ◌≤◌, ◌++◌, ℕ, List, [], Some, Ok, Err, IfOk, IfSome, MatchOption, MatchResult, OnOk, OnErr, IfErr};
 ghost use Rattle.mx_outside.specs.Causes.{HasCauseOf};
 ghost use Rattle.mx_top.specs.declared.stop.Stop.TheVariants.{ReadFault, WriteFault, DiskFault};
 ghost use Rattle.mx_top.specs.declared.status.Status.TheVariants as status;
@@ -14,7 +14,7 @@ ghost use Rattle.mx_node.specs.Order.{order_by, order_of, whole_order_of};
 ghost use Rattle.mx_node.specs.Interrupted.{IsInterrupted};
 ghost use Rattle.mx_node.specs.Starts.{Start};
 ghost use Rattle.mx_node.specs.Serving.{CanServe, EndedNode, Serves};
-ghost use Rattle.mx_top.specs.Runs.{PlaceSeen, RunSeen, DamageSeen, StillPassedOn, OthersKept};
+ghost use Rattle.mx_top.specs.Runs.{PlaceSeen, RunSeen, DamageSeen, StillPassedOn, OthersKept, held};
 ghost use Rattle.mx_top.specs.Progress.{ReadTo, LastStep, EndSeen, UnitsSeen, NextStep, WritesUnit, status_of};
 
 use crate::delivery::deliver;
@@ -41,7 +41,7 @@ pub(crate) fn trace<D: Dir, S: Source, K: Sink>(
     ensures words { result ≡ status.BadWords → ⊥ }
     ensures place { (bytes : List ℕ) → S.left input.old ≡ Some bytes → PlaceSeen result bytes (S.left input.new) }
     ensures history { (bytes : List ℕ) → S.left input.old ≡ Some bytes
-        → RunSeen result seed.now bytes (K.contents output.old) (K.contents output.new) (D.states dir.old) (D.states dir.new) }
+        → RunSeen result seed.now bytes (held (K.contents output.old) (K.passed output.old)) (held (K.contents output.new) (K.passed output.new)) (D.states dir.old) (D.states dir.new) }
     ensures damage { DamageSeen result (D.states dir.old) }
     ensures others { OthersKept (D.states dir.old) (D.states dir.new) }
     ensures passed { (result ≡ status.WriteFault) ⊎ StillPassedOn (K.passed output.old) (K.contents output.old) (K.passed output.new) (K.contents output.new) }
@@ -68,7 +68,7 @@ fn run_units<D: Dir, S: Source, K: Sink>(
     requires { CanServe node (D.states dir.old) }
     ensures place { (bytes : List ℕ) → S.left input.old ≡ Some bytes → PlaceSeen (status_of result) bytes (S.left input.new) }
     ensures units { (start : Start) (bytes : List ℕ) → Serves start node [] [] (D.states dir.old) → S.left input.old ≡ Some bytes
-        → UnitsSeen (status_of result) start bytes (K.contents output.old) (K.contents output.new) (D.states dir.old) (D.states dir.new) }
+        → UnitsSeen (status_of result) start bytes (held (K.contents output.old) (K.passed output.old)) (held (K.contents output.new) (K.passed output.new)) (D.states dir.old) (D.states dir.new) }
     ensures others { OthersKept (D.states dir.old) (D.states dir.new) }
     ensures passed { (result ≡ Err WriteFault) ⊎ StillPassedOn (K.passed output.old) (K.contents output.old) (K.passed output.new) (K.contents output.new) }
     ensures causes { HasCauses (result ≡ Err ReadFault) (result ≡ Err WriteFault) (result ≡ Err DiskFault)
@@ -114,7 +114,7 @@ fn answer_units<D: Dir, S: Source, K: Sink>(
     requires { CanServe node.old (D.states dir.old) }
     ensures place { (bytes : List ℕ) → S.left input.old ≡ Some bytes → PlaceSeen (status_of result) bytes (S.left input.new) }
     ensures units { (start : Start) (bytes : List ℕ) → Serves start node.old [] [] (D.states dir.old) → S.left input.old ≡ Some bytes
-        → EndSeen result start bytes node.new (K.contents output.old) (K.contents output.new) (D.states dir.old) (D.states dir.new) }
+        → EndSeen result start bytes node.new (held (K.contents output.old) (K.passed output.old)) (held (K.contents output.new) (K.passed output.new)) (D.states dir.old) (D.states dir.new) }
     ensures serves { MatchResult result (λ _. CanServe node.new (D.states dir.new))
         (λ stop. AtBadInput stop (CanServe node.new (D.states dir.new))) }
     ensures others { OthersKept (D.states dir.old) (D.states dir.new) }
@@ -147,9 +147,9 @@ fn step<D: Dir, S: Source, K: Sink>(
     ensures told { (bytes left : List ℕ) (units : List InputUnit) → S.left input.old ≡ Some left → ReadTo bytes (intake.old ++ left) place units
         → (more : List ℕ) × (S.left input.new ≡ Some more) × MatchResult result
         (λ found. MatchOption found
-        (LastStep (Ok tt) bytes (Some more) node.old node.new units (K.contents output.old) (K.contents output.new) (D.states dir.old) (D.states dir.new))
-        (λ next. NextStep bytes (intake.new ++ more) next node.old node.new units (K.contents output.old) (K.contents output.new) (D.states dir.old) (D.states dir.new)))
-        (λ stop. LastStep (Err stop) bytes (Some more) node.old node.new units (K.contents output.old) (K.contents output.new) (D.states dir.old) (D.states dir.new)) }
+        (LastStep (Ok tt) bytes (Some more) node.old node.new units (held (K.contents output.old) (K.passed output.old)) (held (K.contents output.new) (K.passed output.new)) (D.states dir.old) (D.states dir.new))
+        (λ next. NextStep bytes (intake.new ++ more) next node.old node.new units (held (K.contents output.old) (K.passed output.old)) (held (K.contents output.new) (K.passed output.new)) (D.states dir.old) (D.states dir.new)))
+        (λ stop. LastStep (Err stop) bytes (Some more) node.old node.new units (held (K.contents output.old) (K.passed output.old)) (held (K.contents output.new) (K.passed output.new)) (D.states dir.old) (D.states dir.new)) }
     ensures serves { MatchResult result (λ _. CanServe node.new (D.states dir.new))
         (λ stop. AtBadInput stop (CanServe node.new (D.states dir.new))) }
     ensures others { OthersKept (D.states dir.old) (D.states dir.new) }

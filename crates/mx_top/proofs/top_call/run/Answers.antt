@@ -1,6 +1,7 @@
 use Rattle.std.proofs.Common.{ap, inr}
 use Rattle.mx_images.specs.Changes.{KeepsOthers}
 use Rattle.mx_images.proofs.MomentLaws.{steps_same}
+use Rattle.mx_top.specs.Runs.{held}
 use Rattle.mx_top.proofs.RunLaws.{left_alone}
 use Rattle.mx_top.proofs.Told.{completes, only_one, same_one}
 use Rattle.mx_top.proofs.top_call.run.Goals as goal
@@ -23,7 +24,7 @@ returns-clause-disks g c = λ before after was is.
 
 pub returns-then-not-is_command-clause-history : goal.returns-then-not-is_command-clause-history
 returns-then-not-is_command-clause-history g c = λ bytes old new told was is.
-    left_alone (g.K.Sink.contents c.args.output.now) (g.D.Dir.states old) (g.D.Dir.states new)
+    left_alone (held (g.K.Sink.contents c.args.output.now) (g.K.Sink.passed c.args.output.now)) (g.D.Dir.states old) (g.D.Dir.states new)
     (ap g.D.Dir.states (same_one c.args.dirs.now.items new old is was))
 
 pub returns-clause-history : goal.returns-clause-history

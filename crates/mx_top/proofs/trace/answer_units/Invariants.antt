@@ -1,7 +1,7 @@
 use Rattle.std.proofs.Common.{◌≡◌, ◌-◌, ◌≤◌, ℕ, List, Some}
 use Rattle.mx_top.specs.Units.{max_offset}
 use Rattle.mx_node.specs.Serving.{CanServe}
-use Rattle.mx_top.specs.Runs.{OthersKept, StillPassedOn}
+use Rattle.mx_top.specs.Runs.{OthersKept, StillPassedOn, held}
 use Rattle.mx_top.proofs.Told.{HasRead}
 use Rattle.mx_top.proofs.trace.answer_units.Given as goal
 
@@ -9,7 +9,8 @@ use Rattle.mx_top.proofs.trace.answer_units.Given as goal
 abbrev pub invariant-units : goal.invariant-units
 invariant-units g l = record {
   told : (bytes : List ℕ) → g.S.Source.left l.fn.input ≡ Some bytes
-      → HasRead bytes (g.S.Source.left l.input) l.intake l.place l.fn.node l.node (g.K.Sink.contents l.fn.output) (g.K.Sink.contents l.output)
+      → HasRead bytes (g.S.Source.left l.input) l.intake l.place l.fn.node l.node
+      (held (g.K.Sink.contents l.fn.output) (g.K.Sink.passed l.fn.output)) (held (g.K.Sink.contents l.output) (g.K.Sink.passed l.output))
       (g.D.Dir.states l.fn.dir) (g.D.Dir.states l.dir);
   serves : CanServe l.node (g.D.Dir.states l.dir);
   reads : g.S.Source.faults l.input ≡ g.S.Source.faults l.fn.input;

@@ -2,12 +2,13 @@ use Rattle.std.proofs.Common.{Err}
 use Rattle.std.proofs.lemmas.Result.{err_from_is_err_and}
 use Rattle.mx_images.specs.Changes.{KeepsOthers}
 use Rattle.mx_images.proofs.MomentLaws.{steps_then}
+use Rattle.mx_top.specs.Runs.{held}
 use Rattle.mx_top.proofs.FinishLaws.{seen_ended, seen_malformed}
 use Rattle.mx_top.proofs.trace.run_units.Goals as goal
 
 pub returns-in-Ok-clause-units : goal.returns-in-Ok-clause-units
 returns-in-Ok-clause-units g c = λ start bytes serves told.
-    seen_ended c.end_node.result start bytes c.answer_units.new.node (g.K.Sink.contents c.args.output.now) (g.K.Sink.contents c.answer_units.new.output)
+    seen_ended c.end_node.result start bytes c.answer_units.new.node (held (g.K.Sink.contents c.args.output.now) (g.K.Sink.passed c.args.output.now)) (held (g.K.Sink.contents c.answer_units.new.output) (g.K.Sink.passed c.answer_units.new.output))
     (g.D.Dir.states c.args.dir.now) (g.D.Dir.states c.answer_units.new.dir) (g.D.Dir.states c.end_node.new.dir)
     c.end_node.ensures.stops c.end_node.ensures.closed c.end_node.ensures.breaks (c.in-Ok.ensures.units start bytes serves told)
 
@@ -16,7 +17,7 @@ returns-in_err-end_node-in-Err-BadInput-clause-units g c = λ start bytes serves
     let p = err_from_is_err_and c.from_residual.result c.from_residual.ensures.1 in
     let finished = rw c.in-Err-BadInput.field-0-is at c.in-Err-BadInput.ensures.units start bytes serves told in
     rw (p.1, p.2) (seen_ended (Err c.in_err-end_node-in-Err-BadInput.field-0.0) start bytes c.answer_units.new.node
-    (g.K.Sink.contents c.args.output.now) (g.K.Sink.contents c.answer_units.new.output)
+    (held (g.K.Sink.contents c.args.output.now) (g.K.Sink.passed c.args.output.now)) (held (g.K.Sink.contents c.answer_units.new.output) (g.K.Sink.passed c.answer_units.new.output))
     (g.D.Dir.states c.args.dir.now) (g.D.Dir.states c.answer_units.new.dir) (g.D.Dir.states c.end_node-in-Err-BadInput.new.dir)
     c.in_err-end_node-in-Err-BadInput.ensures.stops c.in_err-end_node-in-Err-BadInput.ensures.closed
     c.in_err-end_node-in-Err-BadInput.ensures.breaks finished)
@@ -28,7 +29,7 @@ pub returns-in_ok-end_node-in-Err-BadInput-clause-units : goal.returns-in_ok-end
 returns-in_ok-end_node-in-Err-BadInput-clause-units g c = λ start bytes serves told.
     let finished = rw c.in-Err-BadInput.field-0-is at c.in-Err-BadInput.ensures.units start bytes serves told in
     seen_malformed _ c.in_ok-end_node-in-Err-BadInput.field-0 start bytes c.answer_units.new.node
-    (g.K.Sink.contents c.args.output.now) (g.K.Sink.contents c.answer_units.new.output)
+    (held (g.K.Sink.contents c.args.output.now) (g.K.Sink.passed c.args.output.now)) (held (g.K.Sink.contents c.answer_units.new.output) (g.K.Sink.passed c.answer_units.new.output))
     (g.D.Dir.states c.args.dir.now) (g.D.Dir.states c.answer_units.new.dir) (g.D.Dir.states c.end_node-in-Err-BadInput.new.dir)
     c.in_ok-end_node-in-Err-BadInput.ensures.closed finished
 

@@ -6,6 +6,7 @@ use Rattle.mx_images.specs.Changes.{KeepsOthers}
 use Rattle.mx_images.proofs.MomentLaws.{steps_none}
 use Rattle.mx_top.specs.Units.{unit_by}
 use Rattle.mx_top.specs.UnitViews.{head_view}
+use Rattle.mx_top.specs.Runs.{held}
 use Rattle.mx_top.proofs.ProgressLaws.{ends_well, ends_stopped, ends_unanswered, ends_unwritten, same_unit, goes_on, moves}
 use Rattle.mx_top.proofs.trace.step.Goals as goal
 
@@ -23,7 +24,7 @@ returns-in_err-head-clause-told g c = λ bytes left units told read.
       t.0,
       t.1,
       ends_stopped bytes (c.args.intake.now ++ left) c.next_unit.new.intake t.0 c.args.place c.args.node.now units
-          (g.K.Sink.contents c.args.output.now) (g.D.Dir.states c.args.dir.now) c.in_err-head.field-0.0 read t.2 t.3,
+          (held (g.K.Sink.contents c.args.output.now) (g.K.Sink.passed c.args.output.now)) (g.D.Dir.states c.args.dir.now) c.in_err-head.field-0.0 read t.2 t.3,
     )
 
 pub returns-in_default-clause-told : goal.returns-in_default-clause-told
@@ -33,7 +34,7 @@ returns-in_default-clause-told g c = λ bytes left units told read.
       t.0,
       t.1,
       ends_well bytes (c.args.intake.now ++ left) t.0 c.args.place c.args.node.now units
-          (g.K.Sink.contents c.args.output.now) (g.D.Dir.states c.args.dir.now) c.next_unit.new.intake read t.2 none,
+          (held (g.K.Sink.contents c.args.output.now) (g.K.Sink.passed c.args.output.now)) (g.D.Dir.states c.args.dir.now) c.next_unit.new.intake read t.2 none,
     )
 
 pub returns-in_err-answer_unit-clause-told : goal.returns-in_err-answer_unit-clause-told
@@ -50,7 +51,7 @@ returns-in_err-answer_unit-clause-told g c = λ bytes left units told read.
       t.1,
       ends_unanswered bytes (c.args.intake.now ++ left) waiting t.0 (drop size (drop 9 waiting) ++ t.0)
           (unit_by (head_view c.in-Some.head) c.split_at-2.result.0.now) c.args.place c.args.node.now c.answer_unit.new.node units
-          (g.K.Sink.contents c.args.output.now) (g.D.Dir.states c.args.dir.now) (g.D.Dir.states c.answer_unit.new.dir) c.in_err-answer_unit.field-0.0 read t.2
+          (held (g.K.Sink.contents c.args.output.now) (g.K.Sink.passed c.args.output.now)) (g.D.Dir.states c.args.dir.now) (g.D.Dir.states c.answer_unit.new.dir) c.in_err-answer_unit.field-0.0 read t.2
           (same_unit c.args.place (waiting ++ t.0) (take size (drop 9 waiting)) c.split_at-2.result.0.now (drop size (drop 9 waiting) ++ t.0)
           (drop size (drop 9 waiting) ++ t.0) (head_view c.in-Some.head) found content refl)
           c.in_err-answer_unit.ensures.stops (λ start history serves. c.in_err-answer_unit.ensures.breaks start units history serves),
@@ -74,10 +75,11 @@ returns-in-Ok-clause-told g c = λ bytes left units told read.
       t.0,
       t.1,
       goes_on bytes (c.args.intake.now ++ left) waiting t.0 (c.consume.new.self ++ t.0) c.answer_unit.new.out.items unit
-          c.args.place (c.args.place + (9 + size)) c.args.node.now c.answer_unit.new.node units (g.K.Sink.contents c.args.output.now) (g.K.Sink.contents c.deliver.new.output)
+          c.args.place (c.args.place + (9 + size)) c.args.node.now c.answer_unit.new.node units (held (g.K.Sink.contents c.args.output.now) (g.K.Sink.passed c.args.output.now)) (held (g.K.Sink.contents c.deliver.new.output) (g.K.Sink.passed c.deliver.new.output))
           (g.D.Dir.states c.args.dir.now) (g.D.Dir.states c.answer_unit.new.dir) read t.2 here moved
           (λ start history serves. c.in_ok-answer_unit.ensures.took start units history serves)
-          (λ before was. let d = c.in-Ok.ensures.told before was in d.1 ∙ ap (λ (l : List ℕ). Some (before ++ l)) (d.3 ∙ c.deref.ensures.value)),
+          (λ before was. let d = c.in-Ok.ensures.told before was in d.1 ∙ ap (λ (l : List ℕ). Some (before ++ l)) (d.3 ∙ c.deref.ensures.value))
+          c.in-Ok.ensures.passed,
     )
 
 pub returns-in-Err-clause-told : goal.returns-in-Err-clause-told
@@ -92,10 +94,10 @@ returns-in-Err-clause-told g c = λ bytes left units told read.
       t.1,
       ends_unwritten bytes (c.args.intake.now ++ left) waiting t.0 (drop size (drop 9 waiting) ++ t.0) c.answer_unit.new.out.items
           (unit_by (head_view c.in-Some.head) c.split_at-2.result.0.now) c.args.place c.args.node.now c.answer_unit.new.node units
-          (g.K.Sink.contents c.args.output.now) (g.K.Sink.contents c.deliver.new.output)
+          (held (g.K.Sink.contents c.args.output.now) (g.K.Sink.passed c.args.output.now)) (held (g.K.Sink.contents c.deliver.new.output) (g.K.Sink.passed c.deliver.new.output))
           (g.D.Dir.states c.args.dir.now) (g.D.Dir.states c.answer_unit.new.dir) read t.2
           (same_unit c.args.place (waiting ++ t.0) (take size (drop 9 waiting)) c.split_at-2.result.0.now (drop size (drop 9 waiting) ++ t.0)
           (drop size (drop 9 waiting) ++ t.0) (head_view c.in-Some.head) found content refl)
           (λ start history serves. c.in_ok-answer_unit.ensures.took start units history serves)
-          (λ before was. let d = c.in-Err.ensures.told before was in (d.0, d.1, subst (IsPrefix d.0) c.deref.ensures.value d.2)),
+          (λ before was. let d = c.in-Err.ensures.told before was in (d.0, d.1, subst (IsPrefix d.0) c.deref.ensures.value d.2)) c.deliver.ensures.passes,
     )

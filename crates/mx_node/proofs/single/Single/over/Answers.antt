@@ -9,7 +9,6 @@ returns c = λ start states salted ready.
       greeting = c.in_ok-write_greeting.ensures ∙ instance ∙ ap (greeting_of start.base.ids.instance) (sym salted);
       ready = ready;
       order = refl;
-      told = refl;
       table = c.in_ok-no_sessions.ensures.table;
       sessions = λ connection within. c.in_ok-no_sessions.ensures.none connection;
     }
