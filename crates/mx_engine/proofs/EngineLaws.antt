@@ -1,6 +1,5 @@
 -- What a step makes of an engine, and of its history.
-use Rattle.std.proofs.Common.{◌≡◌, ◌⊎◌, inl, inr, ℕ, suc, ◌+◌, ◌-◌, ◌%◌, ◌^◌, ◌<◌, ◌≤◌, Bool, true, false, not, List, [], ◌∷◌, ◌++◌, length, refl, true≢false, sym, ap, ◌∙◌, subst, append-nil, arith}
-use Rattle.std.specs.FinMap.{get}
+use Rattle.std.proofs.Common.{◌≡◌, ◌⊎◌, inl, inr, ℕ, suc, ◌+◌, ◌-◌, ◌%◌, ◌^◌, ◌<◌, ◌≤◌, Bool, true, false, not, List, [], ◌∷◌, ◌++◌, length, refl, true≢false, sym, ap, ◌∙◌, subst, Option, append-nil, arith}
 use Rattle.std.specs.List.{filter}
 use Rattle.std.proofs.lemmas.List.Elements.{filter-append}
 use Rattle.std.specs.Prelude.{Ok, Err, ◌==◌, ◌&&◌, ◌||◌, Some, None, nat_lt, slice_index, slice_set, if◌then◌else◌}
@@ -10,7 +9,7 @@ use Rattle.mx_base.specs.declared.ids.SpaceId.{SpaceId}
 use Rattle.mx_base.specs.declared.ids.IndexId.{IndexId}
 use Rattle.mx_base.specs.declared.ids.TxnName.{TxnName}
 use Rattle.mx_base.specs.declared.refusal.Refusal.{Refusal}
-use Rattle.mx_base.specs.declared.refusal.Refusal.TheVariants.{OutOfMemory, ReadOnly, UnknownRequestType, LsnsUsedUp, ResultTooLong}
+use Rattle.mx_base.specs.declared.refusal.Refusal.TheVariants.{OutOfMemory, ReadOnly, UnknownRequestType, LsnsUsedUp, ResultTooLong, SpaceMissing, IndexMissing}
 use Rattle.mx_request.specs.declared.request.Ask.TheVariants as ask
 use Rattle.mx_request.specs.declared.request.Request.{Request}
 use Rattle.mx_request.specs.declared.request.Request.TheVariants as request
@@ -19,34 +18,36 @@ use Rattle.mx_model.specs.declared.reply.Reply.{Reply}
 use Rattle.mx_model.specs.declared.reply.Reply.TheVariants.{Tuples, Refused}
 use Rattle.mx_row.specs.declared.row.Row.TheVariants.{Replaced}
 use Rattle.mx_row.specs.declared.tx.Tx.{Tx}
-use Rattle.mx_model.specs.declared.state.State as coded
 use Rattle.mx_key.specs.declared.iterator.IterKind.{IterKind}
 use Rattle.mx_key.specs.declared.fault.Misfit.{Misfit}
-use Rattle.mx_key.specs.Keys.{Key}
 use Rattle.mx_key.specs.Parts.{key_of_array}
-use Rattle.mx_model.specs.declared.pick.SelectStop.{SelectStop}
-use Rattle.mx_model.specs.declared.pick.SelectStop.TheVariants.{TooLong, NoMemory as NoRoom}
-use Rattle.mx_model.specs.Picks.{pick, entries_of, total_bytes, max_result_size}
-use Rattle.mx_model.specs.State.{State, test_space, test_parts}
-use Rattle.mx_model.specs.Stored.{Holds}
-use Rattle.mx_model.specs.Scans.{SelectsByArray}
-use Rattle.mx_model.specs.declared.pick.Pick.{Pick}
-use Rattle.mx_model.specs.declared.pick.SelectFault.{SelectFault}
-use Rattle.mx_model.specs.declared.pick.SelectFault.TheVariants as faults
+use Rattle.mx_schema.specs.declared.index_def.IndexDef.{IndexDef}
+use Rattle.mx_schema.specs.declared.keyed.Keyed.{Keyed}
+use Rattle.mx_schema.specs.declared.schema.Schema.{Schema}
+use Rattle.mx_schema.specs.Catalogues.{index_with, schema_of}
+use Rattle.mx_key.specs.declared.edge.KeyRange.{KeyRange}
+use Rattle.mx_key.specs.declared.part.Part.{Part}
+use Rattle.mx_schema.specs.Picks.{entries_of, total_bytes, max_result_size}
+use Rattle.mx_schema.specs.State.{State}
+use Rattle.mx_schema.specs.Stored.{Holds}
+use Rattle.mx_schema.specs.Scans.{SelectsByKey}
+use Rattle.mx_schema.specs.declared.pick.Pick.{Pick}
+use Rattle.mx_schema.specs.declared.pick.SelectFault.{SelectFault}
+use Rattle.mx_schema.specs.declared.pick.SelectFault.TheVariants as faults
 use Rattle.mx_model.specs.Answers.{answer_to, state_after_row}
 use Rattle.mx_model.specs.statements.Replace.{replace_answer_in, replaced}
-use Rattle.mx_model.specs.statements.Select.{select_answer, iterator_of, misfit_refusal}
-use Rattle.mx_model.specs.Selecting.{stop_refusal}
-use Rattle.mx_model.specs.statements.Lookup.{schema_reads, in_space}
+use Rattle.mx_model.specs.statements.Select.{select_answer_in, select_by_key, iterator_of, misfit_refusal}
+use Rattle.mx_model.specs.statements.Lookup.{schema_reads, in_index, in_space}
 use Rattle.mx_model.specs.statements.Answer.{Answer, Read, refusal_alone, refusal_after, not_built}
 use Rattle.mx_model.specs.Transactions.{state_after, is_schema_commit, schema_version}
 use Rattle.mx_row.specs.Clocks.{clock_after}
 use Rattle.mx_model.specs.Histories.{Base, History, Asked, Left, node_answer, answer_in, with_lsn, commit_of, is_write, commits_of, writable_node, is_out_of_memory, ledger_of, state_of, clock_of}
-use Rattle.mx_model.proofs.AnswerLaws.{one_space, key_is_misfit, tuples_are_picked, result_is_too_long}
+use Rattle.mx_model.proofs.AnswerLaws.{select_misses_space, select_misses_index, key_is_misfit, tuples_are_picked, result_is_too_long}
+use Rattle.mx_model.proofs.PutLaws.{describes_none}
 use Rattle.mx_model.proofs.HistoryLaws.{base_of_ledger, steps_of_ledger, select_no_row, committed-no_row, state_of-asked, clock_of-asked, untaken-asked, untaken}
 use Rattle.mx_engine.specs.declared.engine.Engine.{Engine}
 use Rattle.mx_engine.specs.Standing.{EngineStandsFor}
-use Rattle.mx_engine.specs.Steps.{IsReplyOf, SameNode, Stores, AnswersRequest, transaction_of, lsn_after, answer_by, commits_by, accepts}
+use Rattle.mx_engine.specs.Steps.{IsPut, IsReplyOf, SameNode, Stores, AnswersRequest, transaction_of, lsn_after, answer_by, commits_by, accepts}
 
 both_tests : (mine writes : Bool) → (mine || not writes) ≡ true → (writes && not mine) ≡ false
 both_tests true true taken = refl
@@ -109,10 +110,10 @@ pub stores_same : (old new : Engine) (before : State) → Holds new.state before
 stores_same old new before holds pending = record { holds = holds; pending = pending ∙ sym (append-nil old.pending) }
 
 -- the state holds one tuple more, and its transaction waits
-pub stores_one : (old new : Engine) (before : State) (lsn : ℕ) (tuple : List ℕ) (transaction : Tx) → transaction ≡ transaction_of lsn tuple
-    → Holds new.state (state_after_row before (Replaced test_space tuple)) → new.pending ≡ old.pending ++ transaction ∷ []
-    → Stores old new before (transaction_of lsn tuple ∷ [])
-stores_one old new before lsn tuple transaction is holds pending = record {
+pub stores_one : (old new : Engine) (before : State) (lsn space : ℕ) (tuple : List ℕ) (transaction : Tx) → transaction ≡ transaction_of lsn space tuple
+    → Holds new.state (state_after_row before (Replaced space tuple)) → new.pending ≡ old.pending ++ transaction ∷ []
+    → Stores old new before (transaction_of lsn space tuple ∷ [])
+stores_one old new before lsn space tuple transaction is holds pending = record {
   holds = holds;
   pending = pending ∙ ap (λ t. old.pending ++ t ∷ []) is;
 }
@@ -136,20 +137,20 @@ pub answers_not_built : (engine : Engine) (before : State) (asked : Request) →
 answers_not_built engine before asked taken holds is =
     answers_told engine before asked (Refused (UnknownRequestType (type_number asked))) taken holds (inl (sym (ap (λ a. a.reply) is))) (ap (λ a. a.row) is)
 
--- a SELECT
+-- a SELECT by a key that has the same parts
 pub answers_selected : (engine : Engine) (before : State) (asked : Request) (reply : Reply) (space : SpaceId) (index : IndexId)
     (limit offset iterator : ℕ) (key sought : List ℕ) (kind : IterKind) → accepts engine.ids asked ≡ true → Holds engine.state before
-    → asked ≡ request.Select space index limit offset iterator key → sought ≡ key → kind ≡ iterator_of iterator
-    → IsReplyOf reply (in_space space.0 (get before space.0) (select_answer space.0 index.0 limit offset kind sought))
+    → asked ≡ request.Select space index limit offset iterator key → ((parts : List Part) → key_of_array parts sought ≡ key_of_array parts key)
+    → kind ≡ iterator_of iterator → IsReplyOf reply (select_answer_in before space.0 index.0 limit offset kind sought)
     → AnswersRequest engine engine before asked reply
 unfolding answer_to
 answers_selected engine before asked reply space index limit offset iterator key sought kind taken holds is same by told =
-    let answer : answer_to before asked ≡ in_space space.0 (get before space.0) (select_answer space.0 index.0 limit offset kind sought) =
+    let answer : answer_to before asked ≡ select_answer_in before space.0 index.0 limit offset kind sought =
     ap (answer_to before) is
-    ∙ ap (λ k. in_space space.0 (get before space.0) (select_answer space.0 index.0 limit offset k key)) (sym by)
-    ∙ ap (λ k. in_space space.0 (get before space.0) (select_answer space.0 index.0 limit offset kind k)) (sym same) in
+    ∙ ap (λ k. select_answer_in before space.0 index.0 limit offset k key) (sym by)
+    ∙ (λ i. in_space before space.0 (λ schema. in_index space.0 schema index.0 (λ def. select_by_key before space.0 limit offset kind def (sym (same def.key) i)))) in
     answers_told engine before asked reply taken holds (subst (IsReplyOf reply) (sym answer) told)
-    (ap (λ a. a.row) answer ∙ select_no_row space.0 index.0 limit offset kind sought (get before space.0))
+    (ap (λ a. a.row) answer ∙ select_no_row before space.0 index.0 limit offset kind sought)
 
 -- a REPLACE
 module _ (engine : Engine) (before : State) (space : SpaceId) (tuple : List ℕ)
@@ -167,13 +168,13 @@ module _ (engine : Engine) (before : State) (space : SpaceId) (tuple : List ℕ)
       subst (λ r. AnswersRequest engine engine before asked (Refused r)) (sym none)
       record { told = inr refl; stores = stores_nothing engine before holds; clock = refl; schema = refl }
 
-  module _ (put : replace_answer_in before space.0 tuple ≡ replaced space.0 tuple) where
+  module _ (put : replace_answer_in before space.0 tuple ≡ replaced before space.0 tuple) where
     -- the node is the one that may be written
     pub writes_here : engine.ids.me ≡ writable_node
     writes_here = eqb-true engine.ids.me writable_node (writer (engine.ids.me == writable_node) true taken refl)
 
     abbrev answer : Bool → Answer
-    answer used_up = if used_up then refusal_after (schema_reads space.0) LsnsUsedUp else replaced space.0 tuple
+    answer used_up = if used_up then refusal_after (schema_reads space.0) LsnsUsedUp else replaced before space.0 tuple
 
     pub replaced_by : (used_up : Bool) → nat_lt max_lsn (lsn_after engine) ≡ used_up → answer_by engine before asked ≡ answer used_up
     unfolding answer_to
@@ -191,30 +192,31 @@ pub answers_no_memory : (old new : Engine) (before : State) (request : Request) 
 answers_no_memory old new before request stores clock = record { told = inr refl; stores = stores; clock = clock; schema = refl }
 
 -- a REPLACE that is taken
-pub answers_replaced : (old put : Engine) (before : State) (clock : List ℕ) (lsn : ℕ) (space : SpaceId) (tuple copy : List ℕ) (tuples : List (List ℕ))
-    → accepts old.ids (request.Replace space tuple) ≡ true → Holds old.state before → space.0 ≡ test_space
-    → replace_answer_in before space.0 tuple ≡ replaced space.0 tuple → copy ≡ tuple → IsNext old.clock writable_node lsn → tuples ≡ copy ∷ []
-    → Stores old put before (transaction_of lsn copy ∷ []) → clock ≡ slice_set old.clock writable_node lsn
+pub answers_replaced : (old put : Engine) (before : State) (clock : List ℕ) (lsn : ℕ) (space : SpaceId) (tuple : List ℕ) (keyed : Keyed) (tuples : List (List ℕ))
+    → IsPut old before space tuple keyed → IsNext old.clock writable_node lsn → tuples ≡ keyed.tuple ∷ []
+    → Stores old put before (transaction_of lsn space.0 keyed.tuple ∷ []) → clock ≡ slice_set old.clock writable_node lsn
     → AnswersRequest old (record put { clock = clock }) before (request.Replace space tuple) (Tuples tuples)
-answers_replaced old put before clock lsn space tuple copy tuples taken holds there is_put same next shown stores reached =
+answers_replaced old put before clock lsn space tuple keyed tuples is_put next shown stores reached =
     let asked = request.Replace space tuple in
-    let me = writes_here old before space tuple taken holds is_put in
+    let replaces = is_put.replaces in
+    let copied = replaces.copied in
+    let me = writes_here old before space tuple is_put.accepted is_put.holds replaces.answer in
     let number : lsn_after old ≡ lsn = ap (λ id. suc (slice_index old.clock id)) me ∙ sym next.follows in
-    let is : answer_by old before asked ≡ replaced space.0 tuple =
-    replaced_by old before space tuple taken holds is_put false
+    let is : answer_by old before asked ≡ replaced before space.0 tuple =
+    replaced_by old before space tuple is_put.accepted is_put.holds replaces.answer false
     (ap (nat_lt max_lsn) number ∙ le-ltb max_lsn lsn next.allowed) in
-    let commits : transaction_of lsn copy ∷ [] ≡ commits_by old before asked (Tuples tuples) =
+    let commits : transaction_of lsn space.0 keyed.tuple ∷ [] ≡ commits_by old before asked (Tuples tuples) =
     sym (ap (λ a. commit_of old.ids.me (lsn_after old) false a.row) is
     ∙ ap (λ id. commit_of id (lsn_after old) false (Some (Replaced space.0 tuple))) me
     ∙ ap (λ first. commit_of writable_node first false (Some (Replaced space.0 tuple))) number
-    ∙ ap (λ s. commit_of writable_node lsn false (Some (Replaced s tuple))) there
-    ∙ ap (λ t. commit_of writable_node lsn false (Some (Replaced test_space t))) (sym same)) in
+    ∙ ap (λ t. commit_of writable_node lsn false (Some (Replaced space.0 t))) (sym copied)) in
     let last : lsn ≡ (lsn + 1) - 1 = omega arith in
     record {
-      told = inl (ap (λ t. Tuples t) (shown ∙ ap (λ t. t ∷ []) same) ∙ sym (ap (λ a. a.reply) is));
+      told = inl (ap (λ t. Tuples t) (shown ∙ ap (λ t. t ∷ []) copied) ∙ sym (ap (λ a. a.reply) is));
       stores = subst (Stores old (record put { clock = clock }) before) commits record { holds = stores.holds; pending = stores.pending };
       clock = reached ∙ ap (slice_set old.clock writable_node) last ∙ ap (clock_after old.clock) commits;
-      schema = ap (filter is_schema_commit) (sym commits);
+      schema = ap (filter is_schema_commit) (sym commits)
+          ∙ ap (λ b. if b || false then transaction_of lsn space.0 keyed.tuple ∷ [] else []) (describes_none before space.0 tuple keyed replaces);
     }
 
 -- commits that change no schema leave its version as it is
@@ -326,61 +328,80 @@ count_is_length engine base history stands = stands.matches.count ∙ steps_of_l
 pub ids_are_those : (engine : Engine) (base : Base) (history : History) → EngineStandsFor engine base history → engine.ids ≡ base.ids
 ids_are_those engine base history stands = stands.matches.ids ∙ ap (λ (b : Base). b.ids) (base_of_ledger base history)
 
+-- an index that was found has the number that was asked for
+numbered : (id : ℕ) (indexes : List IndexDef) (def : IndexDef) → index_with id indexes ≡ Some def → def.id.0 ≡ id
+numbered id [] def is = absurd cc
+numbered id (first ∷ others) def is = by_test (first.id.0 == id) refl (numbered id others def) is
+  where
+    by_test : (b : Bool) → (first.id.0 == id) ≡ b → (index_with id others ≡ Some def → def.id.0 ≡ id)
+        → (if b then Some first else index_with id others) ≡ Some def → def.id.0 ≡ id
+    by_test true same later found =
+        let this : first ≡ def = cc in
+        ap (λ (d : IndexDef). d.id.0) (sym this) ∙ eqb-true first.id.0 id same
+    by_test false other later found = later found
+
+pub found_by_number : (id : ℕ) (schema shown : Schema) (def : IndexDef) → shown ≡ schema → index_with id shown.indexes ≡ Some def → index_with def.id.0 schema.indexes ≡ Some def
+found_by_number id schema shown def same found =
+    let there : index_with id schema.indexes ≡ Some def = ap (λ (s : Schema). index_with id s.indexes) (sym same) ∙ found in
+    ap (λ n. index_with n schema.indexes) (numbered id schema.indexes def there) ∙ there
+
 -- ---- a SELECT, by the first test that it fails
 
-module _ (memory : coded.State) (before : State) (holds : Holds memory before) (space : SpaceId) (index : IndexId) (limit offset : ℕ) (iterator : IterKind) (key : List ℕ)
-    (same : space.0 ≡ test_space) (first : index.0 ≡ 0) where
+module _ (before : State) (space index : ℕ) (wanted : Pick) where
   abbrev select : Answer
-  select = in_space space.0 (get before space.0) (select_answer space.0 index.0 limit offset iterator key)
+  select = select_answer_in before space index wanted.limit wanted.offset wanted.iterator wanted.key.now
 
-  pub tells_misfit : (misfit : Misfit) (refusal : Refusal) → refusal ≡ misfit_refusal misfit → key_of_array test_parts key ≡ Err misfit → IsReplyOf (Refused refusal) select
-  tells_misfit misfit refusal is gives =
-      inl (ap (λ r. Refused r) is
-      ∙ sym (ap (λ a. a.reply) (key_is_misfit before (one_space memory before holds) space.0 index.0 limit offset iterator key same first misfit gives)))
+  -- the space is missing
+  pub tells_no_space : (refusal : Refusal) → (schema_of before space ≡ None) × (refusal ≡ SpaceMissing (record { 0 = space })) → IsReplyOf (Refused refusal) select
+  tells_no_space refusal (none, is) =
+      inl (ap (λ r. Refused r) is ∙ sym (ap (λ a. a.reply) (select_misses_space before space index wanted.limit wanted.offset wanted.iterator wanted.key.now none)))
 
-  module _ (fitting : Key) (gives : key_of_array test_parts key ≡ Ok fitting) where
-    abbrev picked : List (List ℕ)
-    picked = (pick (entries_of holds.keeps.tuples) iterator fitting offset limit).tuples
+  module _ (schema shown : Schema) (described : schema_of before space ≡ Some schema) (same : shown ≡ schema) where
+    -- the index is missing
+    pub tells_no_index : (refusal : Refusal)
+        → ((index_with index shown.indexes ≡ None) × (refusal ≡ IndexMissing (record { 0 = index }) shown.def.name)) ⊎ (refusal ≡ OutOfMemory)
+        → IsReplyOf (Refused refusal) select
+    tells_no_index refusal (inl (none, is)) =
+        inl (ap (λ r. Refused r) (is ∙ ap (λ (s : Schema). IndexMissing (record { 0 = index }) s.def.name) same)
+        ∙ sym (ap (λ a. a.reply) (select_misses_index before space index wanted.limit wanted.offset wanted.iterator wanted.key.now schema described
+        (ap (λ (s : Schema). index_with index s.indexes) (sym same) ∙ none))))
+    tells_no_index refusal (inr none) = inr (ap (λ r. Refused r) none)
 
-    pub tells_tuples : (tuples : List (List ℕ)) → tuples ≡ picked → total_bytes tuples ≤ max_result_size → IsReplyOf (Tuples tuples) select
-    tells_tuples tuples is short =
-        inl (ap (λ t. Tuples t) is
-        ∙ sym (ap (λ a. a.reply) (tuples_are_picked before (one_space memory before holds) space.0 index.0 limit offset iterator key same first fitting gives
-        (subst (λ t. total_bytes t ≤ max_result_size) is short))))
+    -- it is there
+    module _ (def : IndexDef) (found : index_with index shown.indexes ≡ Some def) where
+      there : index_with index schema.indexes ≡ Some def
+      there = ap (λ (s : Schema). index_with index s.indexes) (sym same) ∙ found
 
-    pub tells_stop : (stop : SelectStop) (refusal : Refusal) → refusal ≡ stop_refusal stop
-        → ((stop ≡ TooLong) × (max_result_size < total_bytes picked)) ⊎ (stop ≡ NoRoom) → IsReplyOf (Refused refusal) select
-    tells_stop stop refusal is (inl (long, above)) =
-        inl (ap (λ r. Refused r) (is ∙ ap stop_refusal long)
-        ∙ sym (ap (λ a. a.reply) (result_is_too_long before (one_space memory before holds) space.0 index.0 limit offset iterator key same first fitting gives above)))
-    tells_stop stop refusal is (inr none) = inr (ap (λ r. Refused r) (is ∙ ap stop_refusal none))
+      -- and these tuples were found
+      pub tells_tuples : (tuples : List (List ℕ)) (read : Option KeyRange) → SelectsByKey (entries_of before space def) def wanted tuples (Ok read) → IsReplyOf (Tuples tuples) select
+      tells_tuples tuples read (fitting, fits, fit, is, few, _) =
+          inl (ap (λ t. Tuples t) is
+          ∙ sym (ap (λ a. a.reply) (tuples_are_picked before space index wanted.limit wanted.offset wanted.iterator wanted.key.now schema described def there fitting fits
+          (subst (λ t. total_bytes t ≤ max_result_size) is few))))
 
--- why a SELECT by a key that is an array picks no tuples
-module _ (memory : coded.State) (before : State) (holds : Holds memory before) (space : SpaceId) (index : IndexId) (wanted : Pick) (tuples : List (List ℕ))
-    (there : space.0 ≡ test_space) (first : index.0 ≡ 0) (fault : SelectFault) (tells : SelectsByArray before holds wanted tuples (Err fault)) where
-  abbrev by_array : Answer
-  by_array = in_space space.0 (get before space.0) (select_answer space.0 index.0 wanted.limit wanted.offset wanted.iterator wanted.key.now)
+      -- or none, for this reason
+      module _ (tuples : List (List ℕ)) (fault : SelectFault) (tells : SelectsByKey (entries_of before space def) def wanted tuples (Err fault)) where
+        pub tells_misfit : (misfit : Misfit) (refusal : Refusal) → fault ≡ faults.Misfit misfit
+            → ((key : List ℕ) → key_of_array def.key key ≡ Err misfit → refusal ≡ misfit_refusal (length def.key) misfit) → IsReplyOf (Refused refusal) select
+        tells_misfit misfit refusal is told = by_fault tells
+          where
+            by_fault : SelectsByKey (entries_of before space def) def wanted tuples (Err fault) → IsReplyOf (Refused refusal) select
+            by_fault (inl (found, also, fits)) =
+                let same : found ≡ misfit = cc in
+                let unfit : key_of_array def.key wanted.key.now ≡ Err misfit = fits ∙ ap (λ m. Err m) same in
+                inl (ap (λ r. Refused r) (told wanted.key.now unfit)
+                ∙ sym (ap (λ a. a.reply) (key_is_misfit before space index wanted.limit wanted.offset wanted.iterator wanted.key.now schema described def there misfit unfit)))
+            by_fault (inr (inl (long, fitting, fits, fit, above))) = absurd cc
+            by_fault (inr (inr none)) = absurd cc
 
-  pub tells_array_misfit : (misfit : Misfit) (refusal : Refusal) → fault ≡ faults.Misfit misfit → refusal ≡ misfit_refusal misfit → IsReplyOf (Refused refusal) by_array
-  tells_array_misfit misfit refusal is told = by_fault tells
-    where
-      by_fault : SelectsByArray before holds wanted tuples (Err fault) → IsReplyOf (Refused refusal) by_array
-      by_fault (inl (found, also, gives)) =
-          let same : found ≡ misfit = cc in
-          tells_misfit memory before holds space index wanted.limit wanted.offset wanted.iterator wanted.key.now there first misfit refusal told
-          (gives ∙ ap (λ m. Err m) same)
-      by_fault (inr (inl (long, fitting, gives, fit, above))) = absurd cc
-      by_fault (inr (inr none)) = absurd cc
-
-  pub tells_array_long : fault ≡ faults.TooLong → IsReplyOf (Refused ResultTooLong) by_array
-  tells_array_long is = by_fault tells
-    where
-      by_fault : SelectsByArray before holds wanted tuples (Err fault) → IsReplyOf (Refused ResultTooLong) by_array
-      by_fault (inl (found, also, gives)) = absurd cc
-      by_fault (inr (inl (long, fitting, gives, fit, above))) =
-          tells_stop memory before holds space index wanted.limit wanted.offset wanted.iterator wanted.key.now there first fitting gives TooLong ResultTooLong refl
-          (inl (refl, above))
-      by_fault (inr (inr none)) = absurd cc
+        pub tells_long : fault ≡ faults.TooLong → IsReplyOf (Refused ResultTooLong) select
+        tells_long is = by_fault tells
+          where
+            by_fault : SelectsByKey (entries_of before space def) def wanted tuples (Err fault) → IsReplyOf (Refused ResultTooLong) select
+            by_fault (inl (found, also, fits)) = absurd cc
+            by_fault (inr (inl (long, fitting, fits, fit, above))) =
+                inl (sym (ap (λ a. a.reply) (result_is_too_long before space index wanted.limit wanted.offset wanted.iterator wanted.key.now schema described def there fitting fits above)))
+            by_fault (inr (inr none)) = absurd cc
 
 -- a REPLACE as it was asked
 pub answers_asked : (old new : Engine) (before : State) (wanted : Request) (reply : Reply) (space : SpaceId) (tuple shown : List ℕ)

@@ -1,5 +1,5 @@
 -- Only private functions and proofs need these: an engine after a step.
-use Rattle.std.specs.Prelude.{true, ◌≡◌, ◌⊎◌, ℕ, suc, Bool, not, ◌||◌, ◌==◌, List, [], ◌∷◌, ◌++◌, Ok, slice_index}
+use Rattle.std.specs.Prelude.{true, ◌≡◌, ◌⊎◌, ℕ, suc, Bool, not, ◌||◌, ◌==◌, List, [], ◌∷◌, ◌++◌, slice_index}
 use Rattle.std.specs.List.{filter}
 use Rattle.mx_base.specs.declared.refusal.Refusal.TheVariants.{OutOfMemory}
 use Rattle.mx_request.specs.declared.request.Request.{Request}
@@ -10,12 +10,10 @@ use Rattle.mx_row.specs.declared.row.Row.TheVariants.{Replaced}
 use Rattle.mx_row.specs.declared.tx.Tx.{Tx}
 use Rattle.mx_base.specs.declared.ids.SpaceId.{SpaceId}
 use Rattle.mx_request.specs.declared.request.Request.TheVariants.{Replace}
-use Rattle.mx_key.specs.Comparable.{comparable_of}
-use Rattle.mx_key.specs.Keys.{Key, AreFit}
-use Rattle.mx_model.specs.declared.keyed.Keyed.{Keyed}
-use Rattle.mx_model.specs.statements.Replace.{replace_answer_in, replaced}
-use Rattle.mx_model.specs.State.{State, test_parts, test_space, key_in}
-use Rattle.mx_model.specs.Stored.{Holds}
+use Rattle.mx_schema.specs.declared.keyed.Keyed.{Keyed}
+use Rattle.mx_model.specs.statements.Replaces.{Replaces}
+use Rattle.mx_schema.specs.State.{State}
+use Rattle.mx_schema.specs.Stored.{Holds}
 use Rattle.mx_model.specs.statements.Answer.{Answer}
 use Rattle.mx_model.specs.Transactions.{state_after, is_schema_commit}
 use Rattle.mx_row.specs.Clocks.{clock_after}
@@ -42,9 +40,9 @@ pub record Stores (old new : Engine) (state : State) (transactions : List Tx) : 
   pub holds : Holds new.state (state_after state transactions)
   pub pending : new.pending ≡ old.pending ++ transactions
 
--- the transaction that puts a tuple in its place
-abbrev pub transaction_of : (lsn : ℕ) → List ℕ → Tx
-transaction_of lsn tuple = record { replica = writable_node; first = lsn; rows = Replaced test_space tuple ∷ [] }
+-- the transaction that puts a tuple of a space in its place
+abbrev pub transaction_of : (lsn space : ℕ) → (tuple : List ℕ) → Tx
+transaction_of lsn space tuple = record { replica = writable_node; first = lsn; rows = Replaced space tuple ∷ [] }
 
 -- the node's next lsn
 abbrev pub lsn_after : Engine → ℕ
@@ -66,13 +64,8 @@ pub record AnswersRequest (old new : Engine) (state : State) (request : Request)
   pub clock : new.clock ≡ clock_after old.clock (commits_by old state request reply)
   pub schema : filter is_schema_commit (commits_by old state request reply) ≡ []
 
--- a REPLACE of this tuple is no error on a state that the engine holds, and this is its key
-pub record IsPut (engine : Engine) (state : State) (space : SpaceId) (tuple : List ℕ) (keyed : Keyed) (key : Key) : Type 0 where
+-- a REPLACE of this tuple is no error on a state that the engine holds, and this is its copy
+pub record IsPut (engine : Engine) (state : State) (space : SpaceId) (tuple : List ℕ) (keyed : Keyed) : Type 0 where
   pub accepted : accepts engine.ids (Replace space tuple) ≡ true
   pub holds : Holds engine.state state
-  pub there : space.0 ≡ test_space
-  pub put : replace_answer_in state space.0 tuple ≡ replaced space.0 tuple
-  pub key_is : key_in test_parts tuple ≡ Ok key
-  pub fit : AreFit key
-  pub bytes : keyed.key ≡ comparable_of key
-  pub copied : keyed.tuple ≡ tuple
+  pub replaces : Replaces state space.0 tuple keyed

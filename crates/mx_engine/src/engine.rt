@@ -2,8 +2,8 @@
 
 ghost use Rattle.std.specs.Prelude.{◌≡◌, true, ◌<◌, ◌-◌, ◌^◌, ◌∷◌, [], length, IfOk};
 ghost use Rattle.std.specs.List.{Contains};
-ghost use Rattle.mx_model.specs.State as plain;
-ghost use Rattle.mx_model.specs.Stored.{Holds};
+ghost use Rattle.mx_schema.specs.State as plain;
+ghost use Rattle.mx_schema.specs.Stored.{Holds};
 ghost use Rattle.mx_base.specs.declared.refusal.Refusal.{Refusal};
 ghost use Rattle.mx_request.specs.declared.request.Ask.TheVariants as ask;
 ghost use Rattle.mx_request.specs.declared.request.Request.{Request};
@@ -20,9 +20,10 @@ ghost use Rattle.mx_engine.specs.Views.{reply_of, reply_view};
 use crate::answer::{Answer, Answered};
 use crate::pending::Pending;
 use mx_base::{ConnId, Refusal, ReplicaId, TxnName};
-use mx_model::{Ids, Pick, State, Txs, WRITABLE_NODE, is_write, iterator_of, not_built};
+use mx_model::{Ids, Txs, WRITABLE_NODE, is_write, iterator_of, not_built};
 use mx_msgpack::Tuples;
 use mx_request::{Request, RequestRef};
+use mx_schema::{Pick, State, array_or_empty};
 use mx_vclock::Vclock;
 use std::alloc::{AllocError, Global};
 
@@ -82,11 +83,7 @@ impl Engine {
         }
     }
 
-    /// As `request`, with the answer's tuples in `found`, in place of what it had.
-    ///
-    /// # Errors
-    /// The request is refused, and the state is as it was.
-    pub fn request_into(
+    fn request_into(
         &mut self,
         _name: TxnName,
         request: &Request,
@@ -104,7 +101,8 @@ impl Engine {
         self.answer(request, found)
     }
 
-    /// As `request_into`, of a request that stands in its packet.
+    /// As `request`, of a request that stands in its packet. The answer's tuples go into `found`, in place
+    /// of what it had, which is of no use after a refusal.
     ///
     /// # Errors
     /// The request is refused, and the state is as it was.
@@ -231,7 +229,7 @@ impl Engine {
             } => {
                 let pick = Pick {
                     iterator: iterator_of(*iterator),
-                    key: key.as_slice(),
+                    key: array_or_empty(key.as_slice()),
                     offset: *offset,
                     limit: *limit,
                 };
@@ -279,7 +277,7 @@ impl Engine {
                     offset: *offset,
                     limit: *limit,
                 };
-                self.select_by_array(*space, *index, &pick, found)
+                self.select(*space, *index, &pick, found)
             }
             RequestRef::Replace { space, tuple } => self.replace_array(*space, tuple, found),
             RequestRef::Nop | RequestRef::Ping => Ok(Answered::Empty),

@@ -1,11 +1,10 @@
 -- What a legal history commits can be written and read again.
-use Rattle.std.proofs.Common.{◌≡◌, ℕ, suc, ◌+◌, ◌-◌, ◌^◌, ◌<◌, ◌≤◌, Bool, true, false, not, List, [], ◌∷◌, ◌++◌, length, length-append, refl, sym, ap, ◌∙◌, subst, arith}
-use Rattle.std.specs.Prelude.{◌==◌, ◌&&◌, Option, Some, None, Result, Ok, Err, is_some, nat_lt, nat_le, slice_index, if◌then◌else◌}
-use Rattle.std.specs.FinMap as map
+use Rattle.std.proofs.Common.{◌≡◌, ◌⊎◌, inl, inr, ℕ, suc, ◌+◌, ◌-◌, ◌^◌, ◌<◌, ◌≤◌, Bool, true, false, not, List, [], ◌∷◌, ◌++◌, length, length-append, refl, sym, ap, ◌∙◌, subst, arith}
+use Rattle.std.specs.Prelude.{◌==◌, ◌&&◌, Some, None, is_some, nat_lt, nat_le, slice_index, if◌then◌else◌}
 use Rattle.std.proofs.lemmas.Bool.{eq-eqb}
 use Rattle.std.proofs.lemmas.Bool.Decides.{nat_tests}
 use Rattle.mx_vclock.specs.Vclocks.{max_lsn}
-use Rattle.mx_base.specs.declared.refusal.Refusal.TheVariants.{ReadOnly, LsnsUsedUp, TupleTooLong}
+use Rattle.mx_base.specs.declared.refusal.Refusal.TheVariants.{ReadOnly, LsnsUsedUp}
 use Rattle.mx_msgpack.proofs.SpellingLaws.{shortest_length}
 use Rattle.mx_msgpack.specs.Spelling.{shortest_unsigned}
 use Rattle.mx_base.specs.declared.ids.TxnName.{TxnName}
@@ -17,14 +16,12 @@ use Rattle.mx_request.specs.Spelling.{IsAskable, IsInnerArray}
 use Rattle.mx_row.specs.declared.row.Row.TheVariants.{Replaced}
 use Rattle.mx_row.specs.declared.tx.Tx.{Tx}
 use Rattle.mx_model.specs.declared.reply.Reply.{Reply}
-use Rattle.mx_model.specs.State as state
-use Rattle.mx_model.specs.State.{State, test_parts, key_in}
-use Rattle.mx_key.specs.declared.fault.NoKey.{NoKey}
-use Rattle.mx_key.specs.Keys.{Key}
+use Rattle.mx_schema.specs.State.{State}
 use Rattle.mx_model.specs.Answers.{answer_to, state_after_rows}
-use Rattle.mx_model.specs.statements.Replace.{replace_answer, replace_by_key, max_tuple_size}
+use Rattle.mx_model.specs.statements.Replace.{replace_answer_in, replaced}
+use Rattle.mx_tuple.specs.Fields.{max_tuple_size}
 use Rattle.mx_model.specs.statements.Select.{iterator_of}
-use Rattle.mx_model.specs.statements.Lookup.{schema_reads, in_space}
+use Rattle.mx_model.specs.statements.Lookup.{schema_reads}
 use Rattle.mx_model.specs.statements.Answer.{Answer, refusal_alone, refusal_after}
 use Rattle.mx_model.specs.Transactions.{state_after}
 use Rattle.mx_row.specs.Clocks.{clock_after, clock_after_one}
@@ -32,6 +29,7 @@ use Rattle.mx_row.specs.Rows.{IsRow}
 use Rattle.mx_base.specs.Keys.{space_key, tuple_key}
 use Rattle.mx_model.specs.Directories.{AllFollow, takes_row}
 use Rattle.mx_model.specs.Histories.{Base, History, Asked, Left, Took, Confirmed, Looked, Ledger, IsLegal, IsReply, is_out_of_memory, writable_node, with_lsn, commit_of, commits_of, ledger_of, journal_of, ledger_state, ledger_clock, next_lsn}
+use Rattle.mx_model.proofs.AnswerLaws.{replace_cases}
 use Rattle.mx_model.proofs.HistoryLaws.{base_of_ledger, committed-no_row, select_no_row, node_no_row}
 
 -- transactions that follow, and then others that follow those
@@ -85,42 +83,31 @@ module _ (now : State) (clock : List ℕ) (replica space : ℕ) (tuple : List �
     tt,
   )
 
-  numbered_follows : (above : Bool) (key : Key) → IsRow (Replaced space tuple) → replica ≡ writable_node → takes_row now (Replaced space tuple) ≡ true
+  numbered_follows : (above : Bool) → IsRow (Replaced space tuple) → replica ≡ writable_node → takes_row now (Replaced space tuple) ≡ true
       → nat_lt max_lsn (lsn_of clock replica) ≡ above
-      → AllFollow now clock (commits (if above then refusal_after (schema_reads space) LsnsUsedUp else replace_by_key space tuple (Ok key)))
-  numbered_follows true key can node takes test = no_commit now clock replica (lsn_of clock replica) without_memory
-  numbered_follows false key can node takes test = one_follows without_memory can node takes test
+      → AllFollow now clock (commits (if above then refusal_after (schema_reads space) LsnsUsedUp else replaced now space tuple))
+  numbered_follows true can node takes test = no_commit now clock replica (lsn_of clock replica) without_memory
+  numbered_follows false can node takes test = one_follows without_memory can node takes test
 
-  -- what a tuple with this primary key, or none, commits
-  keyed_follows : (tuples : state.Tuples) (key : Result Key NoKey) → key_in test_parts tuple ≡ key → nat_lt max_tuple_size (length tuple) ≡ false
-      → replica ≡ writable_node → map.get now space ≡ Some tuples
-      → AllFollow now clock (commits (with_lsn (lsn_of clock replica) (replace_by_key space tuple key) (replace_by_key space tuple key).row))
-  unfolding in_space
-  keyed_follows tuples (Err fault) is short node there = no_commit now clock replica (lsn_of clock replica) without_memory
-  keyed_follows tuples (Ok key) is short node there =
-      let takes : takes_row now (Replaced space tuple) ≡ true =
-      ap (λ found. is_some (in_space space found (λ _. replace_answer space tuple)).row) there
-      ∙ ap (λ long. is_some (if long then refusal_after (schema_reads space) (TupleTooLong (length tuple)) else replace_by_key space tuple (key_in test_parts tuple)).row) short
-      ∙ ap (λ k. is_some (replace_by_key space tuple k).row) is in
-      numbered_follows (nat_lt max_lsn (lsn_of clock replica)) key (row_can_be_written space tuple fits inner short) node takes refl
-
-  -- what a REPLACE in a space that is there commits
-  replacing_follows : (tuples : state.Tuples) (long : Bool) → nat_lt max_tuple_size (length tuple) ≡ long → replica ≡ writable_node → map.get now space ≡ Some tuples
-      → AllFollow now clock (commits (with_lsn (lsn_of clock replica)
-      (if long then refusal_after (schema_reads space) (TupleTooLong (length tuple)) else replace_by_key space tuple (key_in test_parts tuple))
-      (if long then refusal_after (schema_reads space) (TupleTooLong (length tuple)) else replace_by_key space tuple (key_in test_parts tuple)).row))
-  replacing_follows tuples true long node there = no_commit now clock replica (lsn_of clock replica) without_memory
-  replacing_follows tuples false short node there = keyed_follows tuples (key_in test_parts tuple) refl short node there
+  abbrev put : Answer
+  put = replace_answer_in now space tuple
 
   -- what a REPLACE commits
-  replaced_follows : (read_only : Bool) (found : Option state.Tuples) → not (replica == writable_node) ≡ read_only → map.get now space ≡ found
-      → AllFollow now clock (commits (if read_only then refusal_alone (ReadOnly (record { 0 = writable_node }))
-      else with_lsn (lsn_of clock replica) (in_space space found (λ _. replace_answer space tuple)) (in_space space found (λ _. replace_answer space tuple)).row))
-  unfolding in_space
-  replaced_follows true found node there = no_commit now clock replica (lsn_of clock replica) without_memory
-  replaced_follows false None node there = no_commit now clock replica (lsn_of clock replica) without_memory
-  replaced_follows false (Some tuples) node there =
-      replacing_follows tuples (nat_lt max_tuple_size (length tuple)) refl (writable replica node) there
+  replaced_follows : (read_only : Bool) → not (replica == writable_node) ≡ read_only
+      → AllFollow now clock (commits (if read_only then refusal_alone (ReadOnly (record { 0 = writable_node })) else with_lsn (lsn_of clock replica) put put.row))
+  replaced_follows true node = no_commit now clock replica (lsn_of clock replica) without_memory
+  replaced_follows false node = by_answer (replace_cases now space tuple)
+    where
+      by_answer : ((put.row ≡ None) ⊎ ((put ≡ replaced now space tuple) × (nat_lt max_tuple_size (length tuple) ≡ false)))
+          → AllFollow now clock (commits (with_lsn (lsn_of clock replica) put put.row))
+      by_answer (inl none) =
+          subst (λ row. AllFollow now clock (commit_of replica (lsn_of clock replica) without_memory row))
+          (sym (ap (λ row. (with_lsn (lsn_of clock replica) put row).row) none ∙ none))
+          (no_commit now clock replica (lsn_of clock replica) without_memory)
+      by_answer (inr (is, short)) =
+          let takes : takes_row now (Replaced space tuple) ≡ true = ap (λ (answer : Answer). is_some answer.row) is in
+          subst (λ (answer : Answer). AllFollow now clock (commits (with_lsn (lsn_of clock replica) answer answer.row))) (sym is)
+          (numbered_follows (nat_lt max_lsn (lsn_of clock replica)) (row_can_be_written space tuple fits inner short) (writable replica node) takes refl)
 
 -- a request that writes no row commits nothing
 none_follows : (ledger : Ledger) (name : TxnName) (asked : Request) (reply : Reply) → (answer_to (ledger_state ledger) asked).row ≡ None
@@ -137,10 +124,10 @@ request_follows : (ledger : Ledger) (name : TxnName) (asked : Request) (reply : 
 unfolding answer_to
 request_follows ledger name (request.Select space index limit offset iterator key) reply can =
     none_follows ledger name (request.Select space index limit offset iterator key) reply
-    (select_no_row space.0 index.0 limit offset (iterator_of iterator) key (map.get (ledger_state ledger) space.0))
+    (select_no_row (ledger_state ledger) space.0 index.0 limit offset (iterator_of iterator) key)
 request_follows ledger name (request.Replace space tuple) reply can =
     replaced_follows (ledger_state ledger) (ledger_clock ledger) ledger.base.ids.me space.0 tuple (is_out_of_memory reply) can.0 can.1
-    (not (ledger.base.ids.me == writable_node)) (map.get (ledger_state ledger) space.0) refl refl
+    (not (ledger.base.ids.me == writable_node)) refl
 request_follows ledger name (request.Insert space tuple) reply can = none_follows ledger name (request.Insert space tuple) reply refl
 request_follows ledger name (request.Update space index first key operations) reply can =
     none_follows ledger name (request.Update space index first key operations) reply refl

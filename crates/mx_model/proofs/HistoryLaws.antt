@@ -2,7 +2,7 @@
 use Rattle.std.proofs.Common.{◌≡◌, inl, inr, ℕ, suc, ◌≤◌, Bool, true, false, List, [], ◌∷◌, ◌++◌, length, drop, refl, sym, ap, ◌∙◌, append-nil, length-append, arith}
 use Rattle.std.specs.Prelude.{Option, Some, None, Result, Ok, Err, not, nat_lt, ◌&&◌, ◌==◌, if◌then◌else◌}
 use Rattle.std.proofs.lemmas.List.{drop-append-le}
-use Rattle.mx_base.specs.declared.refusal.Refusal.TheVariants.{OutOfMemory, ReadOnly, IndexMissing, ResultTooLong}
+use Rattle.mx_base.specs.declared.refusal.Refusal.TheVariants.{OutOfMemory, ReadOnly, ResultTooLong}
 use Rattle.mx_base.specs.declared.ids.TxnName.{TxnName}
 use Rattle.mx_request.specs.declared.request.Ask.{Ask}
 use Rattle.mx_request.specs.declared.request.Ask.TheVariants as ask
@@ -11,17 +11,19 @@ use Rattle.mx_model.specs.declared.reply.Reply.{Reply}
 use Rattle.mx_model.specs.declared.reply.Reply.TheVariants.{Refused}
 use Rattle.mx_row.specs.declared.tx.Tx.{Tx}
 use Rattle.mx_model.specs.declared.ids.Ids.{Ids}
-use Rattle.mx_model.specs.State as state
-use Rattle.mx_model.specs.State.{State, test_name, test_parts}
-use Rattle.mx_model.specs.Picks.{Selection, pick, entries_of, total_bytes, max_result_size}
+use Rattle.mx_schema.specs.declared.index_def.IndexDef.{IndexDef}
+use Rattle.mx_schema.specs.declared.schema.Schema.{Schema}
+use Rattle.mx_schema.specs.Catalogues.{index_with, schema_of}
+use Rattle.mx_schema.specs.State.{State, source_of}
+use Rattle.mx_schema.specs.Picks.{Selection, pick, entries_of, total_bytes, max_result_size}
 use Rattle.mx_key.specs.declared.fault.Misfit.{Misfit}
 use Rattle.mx_key.specs.declared.iterator.IterKind.{IterKind}
 use Rattle.mx_key.specs.Keys.{Key}
 use Rattle.mx_key.specs.Parts.{key_of_array}
 use Rattle.mx_key.specs.Ranges.{Range, range_of}
 use Rattle.mx_model.specs.Answers.{answer_to, state_after_rows}
-use Rattle.mx_model.specs.statements.Select.{range_reads, select_found, select_by_key, select_answer}
-use Rattle.mx_model.specs.statements.Lookup.{in_space, schema_reads}
+use Rattle.mx_model.specs.statements.Select.{range_reads, select_found, select_by_key, select_in_index, select_answer, select_answer_in}
+use Rattle.mx_model.specs.statements.Lookup.{in_def, in_schema, schema_reads}
 use Rattle.mx_model.specs.statements.Answer.{refusal_alone, refusal_after, tuples_after}
 use Rattle.mx_model.specs.Transactions.{state_after}
 use Rattle.mx_row.specs.Clocks.{clock_after}
@@ -230,34 +232,33 @@ pub committed-no_row : (replica lsn : ℕ) (without_memory : Bool) → commit_of
 committed-no_row replica lsn true = refl
 committed-no_row replica lsn false = refl
 
-answered_no_row : (space index : ℕ) (whole : Range) (found : Selection) (long : Bool) → nat_lt max_result_size (total_bytes found.tuples) ≡ long
-    → (select_found space index whole found).row ≡ None
-answered_no_row space index whole found long test = by_test (nat_lt max_result_size (total_bytes found.tuples))
+answered_no_row : (space source index : ℕ) (whole : Range) (found : Selection) → (select_found space source index whole found).row ≡ None
+answered_no_row space source index whole found = by_test (nat_lt max_result_size (total_bytes found.tuples))
   where
     by_test : (long : Bool)
-        → (if long then refusal_after (schema_reads space ++ range_reads space index (Some whole)) ResultTooLong
-        else tuples_after (schema_reads space ++ range_reads space index found.read) found.tuples).row ≡ None
+        → (if long then refusal_after (schema_reads space ++ range_reads source index (Some whole)) ResultTooLong
+        else tuples_after (schema_reads space ++ range_reads source index found.read) found.tuples).row ≡ None
     by_test true = refl
     by_test false = refl
 
-selected_by_no_row : (space limit offset : ℕ) (iterator : IterKind) (tuples : state.Tuples) (key : Result Key Misfit)
-    → (select_by_key space limit offset iterator tuples key).row ≡ None
-selected_by_no_row space limit offset iterator tuples (Err misfit) = refl
-selected_by_no_row space limit offset iterator tuples (Ok key) =
-    answered_no_row space 0 (range_of iterator key) (pick (entries_of tuples) iterator key offset limit) _ refl
+selected_by_no_row : (before : State) (space limit offset : ℕ) (iterator : IterKind) (def : IndexDef) (key : Result Key Misfit)
+    → (select_by_key before space limit offset iterator def key).row ≡ None
+selected_by_no_row before space limit offset iterator def (Err misfit) = refl
+selected_by_no_row before space limit offset iterator def (Ok key) =
+    answered_no_row space (source_of space) def.id.0 (range_of iterator key) (pick (entries_of before space def) iterator key offset limit)
 
 -- a SELECT writes no row
-pub select_no_row : (space index limit offset : ℕ) (iterator : IterKind) (key : List ℕ) (found : Option state.Tuples)
-    → (in_space space found (select_answer space index limit offset iterator key)).row ≡ None
-unfolding in_space
-select_no_row space index limit offset iterator key None = refl
-select_no_row space index limit offset iterator key (Some tuples) = by_test (index == 0)
+pub select_no_row : (before : State) (space index limit offset : ℕ) (iterator : IterKind) (key : List ℕ)
+    → (select_answer_in before space index limit offset iterator key).row ≡ None
+select_no_row before space index limit offset iterator key = by_schema (schema_of before space)
   where
-    by_test : (first : Bool)
-        → (if first then select_by_key space limit offset iterator tuples (key_of_array test_parts key)
-        else refusal_after (schema_reads space) (IndexMissing (record { 0 = index }) test_name)).row ≡ None
-    by_test true = selected_by_no_row space limit offset iterator tuples (key_of_array test_parts key)
-    by_test false = refl
+    by_def : (schema : Schema) (def : Option IndexDef) → (in_def space schema index def (select_in_index before space limit offset iterator key)).row ≡ None
+    by_def schema None = refl
+    by_def schema (Some def) = selected_by_no_row before space limit offset iterator def (key_of_array def.key key)
+
+    by_schema : (schema : Option Schema) → (in_schema space schema (select_answer before space index limit offset iterator key)).row ≡ None
+    by_schema None = refl
+    by_schema (Some schema) = by_def schema (index_with index schema.indexes)
 
 -- where the statement writes no row, the node writes none
 pub node_no_row : (ids : Ids) (before : State) (lsn : ℕ) (request : Request) → (answer_to before request).row ≡ None

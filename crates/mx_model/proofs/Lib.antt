@@ -1,4 +1,3 @@
-pub mod StateLaws
 pub mod HistoryLaws
 pub mod DirectoryLaws
 pub mod GrowthLaws
@@ -9,17 +8,15 @@ pub mod CommitLaws
 pub mod BlockLaws
 pub mod OnceLaws
 pub mod AnswerLaws
+pub mod FirstRowLaws
+pub mod PutLaws
 pub mod NoKeyLaws
-pub mod StopLaws
 mod NodeLaws
-pub mod WholeKeyLaws
-pub mod StoredLaws
-pub mod WindowLaws
-pub mod PickLaws
-pub mod SlowLaws
 pub mod CountLaws
 pub mod DamageLaws
 pub mod ImageLaws
 pub mod OrderLaws
 pub mod GateLaws
 pub mod ReadLaws
+pub mod ToldLaws
+pub mod SlowLaws

@@ -20,7 +20,7 @@ use Rattle.mx_row.specs.declared.row.Row.{Row}
 use Rattle.mx_model.specs.declared.damage.Damage.{Damage}
 use Rattle.mx_model.specs.declared.damage.DamageKind.TheVariants.{Gap}
 use Rattle.mx_row.specs.declared.tx.Tx.{Tx}
-use Rattle.mx_model.specs.State.{State}
+use Rattle.mx_schema.specs.State.{State}
 use Rattle.mx_model.specs.Answers.{state_after_rows}
 use Rattle.mx_row.specs.Clocks.{last_lsn, clock_after_one, clock_after, follows}
 use Rattle.mx_row.specs.Rows.{IsTransaction, transactions_in}

@@ -1,98 +1,197 @@
 -- What the plain slow program finds and keeps is what the definitions say.
-use Rattle.std.proofs.Common.{◌≡◌, ◌⊎◌, inl, inr, ℕ, suc, ◌+◌, ◌-◌, Bool, true, false, not, ◌&&◌, List, [], ◌∷◌, ◌++◌, map, length, ◌<◌, ◌≤◌, refl, sym, ap, ◌∙◌, subst, append-nil, arith, ne_eqb, eq-eqb}
-use Rattle.std.specs.Prelude.{Some, None, Result, Ok, Err, IfOk, MatchResult, nat_lt, slice_index, slice_set, ◌==◌, if◌then◌else◌}
-use Rattle.std.specs.List.{filter}
-use Rattle.std.specs.FinMap.{get}
-use Rattle.std.proofs.lemmas.Bool.{lt-ltb, le-ltb}
-use Rattle.mx_vclock.specs.Vclocks.{max_lsn, IsNext}
-use Rattle.mx_base.specs.declared.ids.TxnName.{TxnName}
-use Rattle.mx_request.specs.declared.request.Ask.TheVariants as ask
-use Rattle.mx_row.specs.declared.tx.Tx.{Tx}
-use Rattle.mx_row.specs.Clocks.{clock_after, clock_after_one}
-use Rattle.mx_base.specs.declared.refusal.Refusal.{Refusal}
-use Rattle.mx_base.specs.declared.refusal.Refusal.TheVariants.{LsnsUsedUp, ReadOnly, ResultTooLong, SpaceMissing, TupleTooLong}
-use Rattle.std.specs.BTreeMap.{insert_entry}
-use Rattle.std.specs.Ordering.{nat_cmp}
+use Rattle.std.proofs.Common.{◌≡◌, ◌⊎◌, inl, inr, ℕ, suc, ◌+◌, ◌-◌, Bool, true, false, cond, not, ◌&&◌, List, [], ◌∷◌, ◌++◌, map, drop, get_or, length, ◌<◌, ◌≤◌, refl, sym, ap, ◌∙◌, subst, append-nil, arith, add-one, ne_eqb, eq-eqb, nat_cmp}
+use Rattle.std.specs.Prelude.{Option, Some, None, Result, Ok, Err, IfOk, IfSome, MatchResult, OnOk, nat_lt, slice_index, slice_set, ◌==◌, if◌then◌else◌}
+use Rattle.std.specs.List.{AllByRecursion}
+use Rattle.std.specs.BTreeMap.{get_by, insert_entry, is_at}
+use Rattle.std.specs.FinMap.{empty, entries, insert}
 use Rattle.std.specs.Cmp.Lexicographic.{slice_cmp}
-use Rattle.mx_key.specs.declared.fault.KeyFault.{KeyFault}
-use Rattle.mx_key.specs.declared.fault.KeyFault.TheVariants.{NoMemory as NoKeyMemory}
-use Rattle.mx_key.specs.declared.fault.NoKey.{NoKey}
-use Rattle.mx_key.specs.Faults.{key_fault_of}
-use Rattle.mx_model.proofs.NoKeyLaws.{same_why, is_no_memory}
-use Rattle.mx_base.specs.declared.ids.SpaceId.{SpaceId}
+use Rattle.std.proofs.lemmas.Bool.{eqb-true, lt-ltb, le-ltb}
+use Rattle.std.proofs.lemmas.Bool.Decides.{nat_tests}
+use Rattle.std.proofs.lemmas.List.{drop_all}
+use Rattle.std.proofs.Math.Seq.{drop-cons}
+use Rattle.mx_vclock.specs.Vclocks.{max_lsn, IsNext}
 use Rattle.mx_base.specs.declared.ids.IndexId.{IndexId}
+use Rattle.mx_base.specs.declared.ids.SpaceId.{SpaceId}
+use Rattle.mx_base.specs.declared.ids.TxnName.{TxnName}
+use Rattle.mx_base.specs.declared.refusal.Refusal.{Refusal}
+use Rattle.mx_base.specs.declared.refusal.Refusal.TheVariants.{LsnsUsedUp, ReadOnly}
+use Rattle.mx_request.specs.declared.request.Ask.TheVariants as ask
 use Rattle.mx_request.specs.declared.request.Request.{Request}
 use Rattle.mx_request.specs.declared.request.Request.TheVariants as request
 use Rattle.mx_key.specs.declared.edge.KeyRange.{KeyRange}
+use Rattle.mx_key.specs.declared.fault.KeyFault.{KeyFault}
+use Rattle.mx_key.specs.declared.fault.KeyFault.TheVariants.{NoMemory as NoKeyMemory}
+use Rattle.mx_key.specs.declared.fault.NoKey.{NoKey}
 use Rattle.mx_key.specs.declared.iterator.IterKind.{IterKind}
+use Rattle.mx_key.specs.Comparable.{comparable_of, edges_of}
+use Rattle.mx_key.specs.Faults.{key_fault_of}
 use Rattle.mx_key.specs.Keys.{Key, AreFit}
-use Rattle.mx_key.specs.Parts.{key_of_array}
-use Rattle.mx_key.specs.Ranges.{range_of, descends}
-use Rattle.mx_key.specs.Comparable.{comparable_of, edges_of, holds}
+use Rattle.mx_key.specs.Ranges.{range_of}
 use Rattle.mx_key.proofs.RangeLaws.{range_holds}
+use Rattle.mx_row.specs.declared.row.Row.TheVariants.{Replaced}
+use Rattle.mx_row.specs.declared.tx.Tx.{Tx}
+use Rattle.mx_row.specs.Clocks.{clock_after, clock_after_one}
+use Rattle.mx_row.proofs.ClockLaws.{clock_after-append}
+use Rattle.mx_schema.specs.declared.index_def.IndexDef.{IndexDef}
+use Rattle.mx_schema.specs.declared.keyed.Keyed.{Keyed}
+use Rattle.mx_schema.specs.declared.pick.Pick.{Pick}
+use Rattle.mx_schema.specs.declared.pick.SelectStop.{SelectStop}
+use Rattle.mx_schema.specs.declared.schema.Schema.{Schema}
+use Rattle.mx_schema.specs.declared.state.Table.{Table}
+use Rattle.mx_schema.specs.Catalogues.{index_with, schema_of}
+use Rattle.mx_schema.specs.Picks.{Indexed, entry_key, indexed_with, total_bytes, max_result_size}
+use Rattle.mx_schema.specs.Scans.{picked_of}
+use Rattle.mx_schema.specs.Selecting.{found_in}
+use Rattle.mx_schema.specs.State as plain
+use Rattle.mx_schema.specs.State.{State, key_in, tuples_in, with_tuple}
+use Rattle.mx_schema.specs.Stored.{AreWhole, StoredTuple, StoresSpace, StoresTuples, stored_list, stored_view}
+use Rattle.mx_schema.proofs.PickLaws as picks
+use Rattle.mx_schema.proofs.PickLaws.{fit_ends}
+use Rattle.mx_schema.proofs.StateLaws.{tuples_after}
+use Rattle.mx_schema.proofs.StoredLaws.{PartIndexed, keys_put, one_indexed, all_indexed, stores_none}
 use Rattle.mx_model.specs.declared.reply.Reply.{Reply}
 use Rattle.mx_model.specs.declared.reply.Reply.TheVariants.{Tuples, Refused}
-use Rattle.mx_model.specs.declared.keyed.Keyed.{Keyed}
-use Rattle.mx_model.specs.declared.pick.SelectStop.{SelectStop}
-use Rattle.mx_model.specs.declared.pick.SelectStop.TheVariants.{TooLong, NoMemory}
 use Rattle.mx_model.specs.declared.slow.Slow.{Slow}
-use Rattle.mx_model.specs.Stored.{StoredTuple, StoresTuples}
-use Rattle.mx_model.specs.State.{State, test_space, test_parts, key_in}
-use Rattle.mx_model.specs.Picks.{pick, entries_of, directed, window, total_bytes, max_result_size}
-use Rattle.mx_model.specs.Answers.{answer_to}
+use Rattle.mx_model.specs.declared.slow.SlowSpace.{SlowSpace}
+use Rattle.mx_model.specs.Answers.{answer_to, state_after_row}
 use Rattle.mx_model.specs.Histories.{Ledger, Asked, answer_in, commit_of, commits_of, is_out_of_memory, is_write, ledger_after, ledger_state, next_lsn, with_lsn, writable_node}
+use Rattle.mx_model.specs.Slow.{Answers, IsSlow, KeepsSpace, KeepsTuples, Takes}
+use Rattle.mx_model.specs.SlowSteps.{Finds, Gathers, KeepsBy, MovesTable}
 use Rattle.mx_model.specs.Transactions.{state_after}
-use Rattle.mx_model.specs.statements.Replace.{replace_answer, replace_answer_in, replaced, fault_refusal, max_tuple_size}
-use Rattle.mx_model.specs.statements.Select.{iterator_of, select_answer}
-use Rattle.mx_model.specs.statements.Lookup.{space_read, schema_reads, in_space}
 use Rattle.mx_model.specs.statements.Answer.{Answer, Read, refusal_after, refusal_alone}
-use Rattle.mx_row.specs.declared.row.Row.TheVariants.{Replaced}
-use Rattle.mx_model.specs.Slow.{Answers, IsSlow, KeepsTuples, Takes, stored_list}
-use Rattle.mx_model.proofs.AnswerLaws as answers
+use Rattle.mx_model.specs.statements.Lookup.{schema_reads}
+use Rattle.mx_model.specs.statements.Replace.{fault_refusal, replace_answer_in, replaced}
+use Rattle.mx_model.specs.statements.Replaces.{Replaces, TakesTuple}
+use Rattle.mx_model.specs.statements.Select.{iterator_of, select_answer_in}
+use Rattle.mx_model.proofs.AnswerLaws.{tuple_has_no_key}
 use Rattle.mx_model.proofs.HistoryLaws.{committed-no_row, select_no_row, state_after-append}
-use Rattle.mx_row.proofs.ClockLaws.{clock_after-append}
-use Rattle.mx_model.proofs.PickLaws.{tuples_are_picked, fit_ends}
-use Rattle.mx_model.proofs.StateLaws.{HasOneSpace}
-use Rattle.mx_model.proofs.StoredLaws.{one_space, keeps_put}
+use Rattle.mx_model.proofs.NoKeyLaws.{is_no_memory, same_why}
+use Rattle.mx_model.proofs.PutLaws.{row_puts, schema_stays}
 
-module _ (slow : Slow) (before : State) (is : KeepsTuples slow before) (space index limit offset : ℕ) (iterator : IterKind) (key : List ℕ)
-    (same : space ≡ test_space) (first : index ≡ 0) (fitting : Key) (gives : key_of_array slow.parts key ≡ Ok fitting) (fit : AreFit fitting)
-    (range : KeyRange) (reaches : range ≡ edges_of (range_of iterator fitting)) (kept : List Keyed) (lent : kept ≡ slow.kept.items) where
-  fits : key_of_array test_parts key ≡ Ok fitting
-  fits = ap (λ parts. key_of_array parts key) (sym is.parts) ∙ gives
+-- ---- the tables of a state
 
-  -- the tuples whose keys the range holds, in their window
-  abbrev found_by : KeyRange → List (List ℕ)
-  found_by edges = map (λ entry. entry.1) (window offset limit (directed (descends iterator) (filter (λ entry. holds edges entry.0) (stored_list slow.kept.items))))
+-- a table was moved, or is still to come
+abbrev pub PartMoved : (whole : Option Table) → Option SlowSpace → (left : Option Table) → Type 0
+PartMoved whole None left = left ≡ whole
+PartMoved whole (Some space) left = (table : Table) × (whole ≡ Some table) × MovesTable table space × (left ≡ None)
 
-  abbrev lent_by : KeyRange → List (List ℕ)
-  lent_by edges = map (λ entry. entry.1) (window offset limit (directed (descends iterator) (filter (λ entry. holds edges entry.0) (stored_list kept))))
+-- ---- a tuple more
 
-  lent_is : lent_by range ≡ found_by range
-  lent_is = ap (λ l. map (λ (entry : StoredTuple). entry.1) (window offset limit (directed (descends iterator) (filter (λ entry. holds range entry.0) (stored_list l))))) lent
+at_same : (a b : ℕ) → is_at (nat_cmp a) b ≡ (b == a)
+at_same a b = grind (arith, nat_tests)
 
-  found_is : found_by range ≡ (pick (entries_of is.keeps.tuples) iterator fitting offset limit).tuples
-  found_is =
-      ap found_by reaches
-      ∙ tuples_are_picked iterator fitting (λ sought f. range_holds (range_of iterator fitting) sought (fit_ends iterator fitting fit) f)
-      (entries_of is.keeps.tuples) is.keeps.fit (stored_list slow.kept.items) is.keeps.same offset limit
+whole_after : (schema : Schema) (tuples : plain.Tuples) (key : Key) (tuple : List ℕ) → IfSome (index_with 0 schema.indexes) (λ def. length key ≡ length def.key)
+    → AreWhole schema tuples → AreWhole schema (insert tuples key tuple)
+whole_after schema tuples key tuple long whole = by_index (index_with 0 schema.indexes) long whole
+  where
+    by_index : (def : Option IndexDef) → IfSome def (λ def. length key ≡ length def.key)
+        → IfSome def (λ def. AllByRecursion (λ (entry : Indexed). length entry.0 ≡ length def.key) (entries tuples))
+        → IfSome def (λ def. AllByRecursion (λ (entry : Indexed). length entry.0 ≡ length def.key) (entries (insert tuples key tuple)))
+    by_index None long whole = tt
+    by_index (Some def) long whole = keys_put (λ k. length k ≡ length def.key) tuples key tuple long whole
 
-  abbrev select : Answer
-  select = in_space space (get before space) (select_answer space index limit offset iterator key)
+module _ (schemas : ℕ → Option Schema) (before : State) (space : ℕ) (schema : Schema) (key : Key) (tuple : List ℕ) (is : schemas space ≡ Some schema)
+    (long : IfSome (index_with 0 schema.indexes) (λ def. length key ≡ length def.key)) where
+  abbrev put_into : State
+  put_into = with_tuple before space key tuple
 
-  pub slow_finds : (tuples : List (List ℕ)) → tuples ≡ lent_by range → total_bytes tuples ≤ max_result_size → Tuples tuples ≡ select.reply
-  slow_finds tuples found short =
-      let picked = found ∙ lent_is ∙ found_is in
-      ap (λ t. Tuples t) picked
-      ∙ sym (ap (λ answer. answer.reply)
-      (answers.tuples_are_picked before (one_space (stored_list slow.kept.items) before is.keeps) space index limit offset iterator key same first fitting fits
-      (subst (λ t. total_bytes t ≤ max_result_size) picked short)))
+  abbrev with_it : plain.Tuples
+  with_it = insert (tuples_in before space) key tuple
 
-  pub slow_finds_too_much : max_result_size < total_bytes (lent_by range) → Refused ResultTooLong ≡ select.reply
-  slow_finds_too_much above =
-      sym (ap (λ answer. answer.reply)
-      (answers.result_is_too_long before (one_space (stored_list slow.kept.items) before is.keeps) space index limit offset iterator key same first fitting fits
-      (subst (λ t. max_result_size < total_bytes t) (lent_is ∙ found_is) above)))
+  has_more : (was now : SlowSpace) → now.schema ≡ was.schema → StoresTuples (stored_list now.tuples.items) with_it
+      → KeepsSpace (schemas space) (Some was) (tuples_in before space) → KeepsSpace (schemas space) (Some now) with_it
+  has_more was now same keeps had =
+      let one : schema ≡ now.schema = same_schema schema now.schema (sym is ∙ had.is ∙ ap (λ s. Some s) (sym same)) in
+      let whole : AreWhole now.schema (tuples_in before space) = subst (λ (s : Schema). AreWhole s (tuples_in before space)) (sym same) had.whole in
+      record {
+        is = had.is ∙ ap (λ s. Some s) (sym same);
+        keeps = keeps;
+        whole = whole_after now.schema (tuples_in before space) key tuple
+            (subst (λ (s : Schema). IfSome (index_with 0 s.indexes) (λ def. length key ≡ length def.key)) one long) whole;
+      }
+    where
+      same_schema : (one other : Schema) → Some one ≡ Some other → one ≡ other
+      same_schema one other e = cc
+
+  -- one space has a tuple more
+  pub keeps_put : (old new : ℕ → Option SlowSpace) (was now : SlowSpace) → old space ≡ Some was → now.schema ≡ was.schema
+      → ((tuples : plain.Tuples) → StoresTuples (stored_list was.tuples.items) tuples → StoresTuples (stored_list now.tuples.items) (insert tuples key tuple))
+      → ((q : ℕ) → new q ≡ cond (is_at (nat_cmp space) q) (Some now) (old q)) → KeepsBy schemas old before → KeepsBy schemas new put_into
+  keeps_put old new was now there same put updates keeps q = by_test (q == space) refl
+    where
+      by_test : (b : Bool) → (q == space) ≡ b → KeepsSpace (schemas q) (new q) (tuples_in put_into q)
+      by_test true e =
+          let found : new q ≡ Some now = updates q ∙ ap (λ b. cond b (Some now) (old q)) (at_same space q ∙ e) in
+          let tuples : tuples_in put_into q ≡ with_it = tuples_after before space key tuple q ∙ ap (λ b. if b then with_it else tuples_in before q) e in
+          let had : KeepsSpace (schemas space) (Some was) (tuples_in before space) = subst (λ o. KeepsSpace (schemas space) o (tuples_in before space)) there (keeps space) in
+          subst (λ o. KeepsSpace (schemas q) o (tuples_in put_into q)) (sym found)
+          (subst (λ t. KeepsSpace (schemas q) (Some now) t) (sym tuples)
+          (subst (λ s. KeepsSpace (schemas s) (Some now) with_it) (sym (eqb-true q space e)) (has_more was now same (put (tuples_in before space) had.keeps) had)))
+      by_test false e =
+          let found : new q ≡ old q = updates q ∙ ap (λ b. cond b (Some now) (old q)) (at_same space q ∙ e) in
+          let tuples : tuples_in put_into q ≡ tuples_in before q = tuples_after before space key tuple q ∙ ap (λ b. if b then with_it else tuples_in before q) e in
+          subst (λ o. KeepsSpace (schemas q) o (tuples_in put_into q)) (sym found)
+          (subst (λ t. KeepsSpace (schemas q) (old q) t) (sym tuples) (keeps q))
+
+-- what follows from a call that succeeds
+pub where_ok : {X E P R : Type 0} (Q : Type 0) (result : Result X E) → MatchResult result (λ _. P) (λ _. Q) → (P → R) → OnOk result R
+where_ok Q (Ok x) p follows = follows p
+where_ok Q (Err e) q follows = tt
+
+-- ---- a space, as it is looked up
+
+-- a space that is there
+pub space_found : (schema : Option Schema) (tuples : plain.Tuples) (found : SlowSpace) (there : Option SlowSpace) → Some found ≡ there → KeepsSpace schema there tuples
+    → StoresSpace schema found.schema (stored_list found.tuples.items) tuples
+space_found schema tuples found there is keeps = subst (λ o. KeepsSpace schema o tuples) (sym is) keeps
+
+-- one that isn't
+pub none_found : (schema : Option Schema) (tuples : plain.Tuples) (there : Option SlowSpace) → None ≡ there → KeepsSpace schema there tuples
+    → (schema ≡ None) × StoresTuples [] tuples
+none_found schema tuples there is keeps =
+    let had : KeepsSpace schema None tuples = subst (λ o. KeepsSpace schema o tuples) (sym is) keeps in
+    (had.none, subst (StoresTuples []) (sym had.no_tuples) (stores_none [] refl))
+
+-- ---- the tuples by another index
+
+-- one more stands under its key
+pub one_listed : (def : IndexDef) (all : plain.Tuples) (kept : List Keyed) (place : ℕ) (one : Keyed) (indexed after : List Keyed) (keyed : Keyed) → place < length kept
+    → one ≡ get_or kept place one
+    → ((first : Key) → AreFit first → one.key ≡ comparable_of first
+    → (keyed.key ≡ comparable_of (entry_key def first one.tuple)) × AreFit (entry_key def first one.tuple) × (keyed.tuple ≡ one.tuple))
+    → stored_list after ≡ insert_entry (slice_cmp nat_cmp) (stored_list indexed) keyed.key keyed.tuple
+    → PartIndexed def all (stored_list indexed) (stored_list (drop place kept)) → PartIndexed def all (stored_list after) (stored_list (drop (place + 1) kept))
+one_listed def all kept place one indexed after keyed within is keys put part =
+    let next : stored_list (drop place kept) ≡ stored_view one ∷ stored_list (drop (place + 1) kept) =
+    rw add-one (ap stored_list (drop-cons kept place one within) ∙ ap (λ k. stored_view k ∷ stored_list (drop (suc place) kept)) (sym is)) in
+    one_indexed def all (stored_list indexed) (stored_list after) (stored_list (drop place kept)) (stored_list (drop (place + 1) kept)) one.key one.tuple keyed.key keyed.tuple
+    next keys put part
+
+-- all do
+pub all_listed : (def : IndexDef) (all : plain.Tuples) (kept : List Keyed) (place : ℕ) (indexed : List Keyed) → length kept ≤ place
+    → PartIndexed def all (stored_list indexed) (stored_list (drop place kept)) → StoresTuples (stored_list indexed) (indexed_with def empty (entries all))
+all_listed def all kept place indexed past part =
+    all_indexed def all (stored_list indexed) (stored_list (drop place kept)) (ap stored_list (drop_all place kept past)) part
+
+-- ---- what is gathered
+
+-- it is what is picked of the tuples that are kept so
+pub finds : (all : plain.Tuples) (wanted : Pick) (key : Key) (kept : List StoredTuple) (range : KeyRange) → StoresTuples kept all → AreFit key
+    → range ≡ edges_of (range_of wanted.iterator key) → (result : Result (List (List ℕ)) SelectStop)
+    → Gathers (found_in kept range wanted.iterator wanted.offset wanted.limit) result → Finds (entries all) wanted key result
+finds all wanted key kept range stores fit edges result gathers = by_result result gathers
+  where
+    picked : map (λ (entry : StoredTuple). entry.1) (found_in kept range wanted.iterator wanted.offset wanted.limit) ≡ (picked_of (entries all) wanted key).tuples
+    picked =
+        ap (λ r. map (λ (entry : StoredTuple). entry.1) (found_in kept r wanted.iterator wanted.offset wanted.limit)) edges
+        ∙ picks.tuples_are_picked wanted.iterator key (λ sought f. range_holds (range_of wanted.iterator key) sought (fit_ends wanted.iterator key fit) f)
+        (entries all) stores.fit kept stores.same wanted.offset wanted.limit
+
+    by_result : (result : Result (List (List ℕ)) SelectStop) → Gathers (found_in kept range wanted.iterator wanted.offset wanted.limit) result
+        → Finds (entries all) wanted key result
+    by_result (Ok tuples) (found, short) = (found ∙ picked, short)
+    by_result (Err stop) (inl (long, above)) = inl (long, subst (λ t. max_result_size < total_bytes t) picked above)
+    by_result (Err stop) (inr none) = inr none
 
 -- ---- answers on a node
 
@@ -103,9 +202,9 @@ abbrev node_by : (refuses : Bool) → (lsn : ℕ) → Answer → Answer
 node_by refuses lsn answer = if refuses then read_only else with_lsn lsn answer answer.row
 
 -- a step without a row changes nothing of what the program keeps
-keeps_same : (slow : Slow) (ledger : Ledger) (name : TxnName) (asked : Request) (reply : Reply) → (answer_in ledger name asked).row ≡ None
+stays_slow : (slow : Slow) (ledger : Ledger) (name : TxnName) (asked : Request) (reply : Reply) → (answer_in ledger name asked).row ≡ None
     → IsSlow slow ledger → IsSlow slow (ledger_after ledger (Asked name (ask.Request asked) reply))
-keeps_same slow ledger name asked reply none is =
+stays_slow slow ledger name asked reply none is =
     let without = is_out_of_memory reply in
     let same : ledger.journal ++ commits_of ledger name (ask.Request asked) reply ≡ ledger.journal =
     ap (λ row. ledger.journal ++ commit_of ledger.base.ids.me (next_lsn ledger) without row) none
@@ -122,7 +221,7 @@ told_alone : (slow : Slow) (ledger : Ledger) (name : TxnName) (asked : Request) 
     → answer_in ledger name asked ≡ answer → reply ≡ answer.reply → answer.row ≡ None → Answers slow ledger name asked reply
 told_alone slow ledger name asked answer reply is gives tells none = record {
   told = tells ∙ sym (ap (λ a. a.reply) gives);
-  after = keeps_same slow ledger name asked reply (ap (λ a. a.row) gives ∙ none) is;
+  after = stays_slow slow ledger name asked reply (ap (λ a. a.row) gives ∙ none) is;
 }
 
 -- the node may not be written
@@ -160,117 +259,102 @@ slow_is_told slow ledger name is asked answer reply takes gives tells none =
     told_alone slow ledger name asked answer reply is
     (answer_taken slow ledger name asked answer is takes gives ∙ ap (with_lsn (next_lsn ledger) answer) none) tells none
 
--- a stop for too many bytes isn't one out of memory
-pub stopped_too_long : {P : Type 0} (stop : SelectStop) → stop ≡ TooLong → ((stop ≡ TooLong) × P) ⊎ (stop ≡ NoMemory) → P
-stopped_too_long stop is (inl both) = both.1
-stopped_too_long stop is (inr none) = absurd cc
-
--- ---- a SELECT
-
 pub slow_selects : {E : Type 0} (slow : Slow) (ledger : Ledger) (name : TxnName) → IsSlow slow ledger → (asked : Request) (space : SpaceId) (index : IndexId)
     (limit offset iterator : ℕ) (key sought : List ℕ) (kind : IterKind) → asked ≡ request.Select space index limit offset iterator key → sought ≡ key
     → kind ≡ iterator_of iterator → (result : Result Reply E)
-    → IfOk result (λ reply. reply ≡ (in_space space.0 (get (ledger_state ledger) space.0) (select_answer space.0 index.0 limit offset kind sought)).reply)
+    → IfOk result (λ reply. reply ≡ (select_answer_in (ledger_state ledger) space.0 index.0 limit offset kind sought).reply)
     → MatchResult result (λ reply. Answers slow ledger name asked reply) (λ _. IsSlow slow ledger)
 unfolding answer_to
 slow_selects slow ledger name is asked space index limit offset iterator key sought kind same sought_is kind_is (Err fault) tells = is
 slow_selects slow ledger name is asked space index limit offset iterator key sought kind same sought_is kind_is (Ok reply) tells =
     let before = ledger_state ledger in
-    let answer : answer_to before asked ≡ in_space space.0 (get before space.0) (select_answer space.0 index.0 limit offset kind sought) =
+    let answer : answer_to before asked ≡ select_answer_in before space.0 index.0 limit offset kind sought =
     ap (answer_to before) same
-    ∙ ap (λ k. in_space space.0 (get before space.0) (select_answer space.0 index.0 limit offset k key)) (sym kind_is)
-    ∙ ap (λ k. in_space space.0 (get before space.0) (select_answer space.0 index.0 limit offset kind k)) (sym sought_is) in
+    ∙ ap (λ k. select_answer_in before space.0 index.0 limit offset k key) (sym kind_is)
+    ∙ ap (λ k. select_answer_in before space.0 index.0 limit offset kind k) (sym sought_is) in
     slow_is_told slow ledger name is asked _ reply (inl (ap is_write same)) answer tells
-    (select_no_row space.0 index.0 limit offset kind sought (get before space.0))
+    (select_no_row before space.0 index.0 limit offset kind sought)
 
 -- ---- a REPLACE
 
+-- why a tuple has no key, by the fault that tells it
+pub fault_is_told : (before : State) (space : ℕ) (tuple : List ℕ) (def : IndexDef) → TakesTuple before space tuple def → (fault : KeyFault) (why : NoKey) (refusal : Refusal)
+    → fault ≡ key_fault_of why → refusal ≡ fault_refusal why → ((told : NoKey) × (fault ≡ key_fault_of told) × (key_in def.key tuple ≡ Err told)) ⊎ (fault ≡ NoKeyMemory)
+    → (reads : List Read) × (replace_answer_in before space tuple ≡ refusal_after reads refusal)
+fault_is_told before space tuple def takes fault why refusal by is (inl (found, also, unkeyed)) =
+    let same : found ≡ why = same_why found why (sym also ∙ by) in (
+      schema_reads space,
+      tuple_has_no_key before space tuple takes.schema takes.described takes.writable def takes.primary takes.short found unkeyed
+          ∙ ap (refusal_after (schema_reads space)) (ap fault_refusal same ∙ sym is),
+    )
+fault_is_told before space tuple def takes fault why refusal by is (inr none) = absurd (is_no_memory why (sym by ∙ none))
+
+-- spaces that have a tuple that was put have what its row makes of the state
+keeps_after : (before : State) (space : ℕ) (tuple : List ℕ) (keyed : Keyed) (replaces : Replaces before space tuple keyed) (spaces : ℕ → Option SlowSpace)
+    → KeepsBy (schema_of before) spaces (with_tuple before space replaces.key keyed.tuple)
+    → KeepsBy (schema_of (state_after_row before (Replaced space tuple))) spaces (state_after_row before (Replaced space tuple))
+keeps_after before space tuple keyed replaces spaces keeps =
+    let put = with_tuple before space replaces.key keyed.tuple in
+    subst (λ (s : State). KeepsBy (schema_of s) spaces s) (row_puts before space tuple keyed replaces)
+    (λ q. subst (λ (s : Option Schema). KeepsSpace s (spaces q) (tuples_in put q)) (sym (schema_stays before space tuple keyed replaces q)) (keeps q))
+
 module _ (slow : Slow) (ledger : Ledger) (name : TxnName) (is : IsSlow slow ledger) (space : SpaceId) (tuple : List ℕ) (here : slow.ids.me ≡ writable_node) where
+  abbrev before : State
+  before = ledger_state ledger
+
   abbrev asked : Request
   asked = request.Replace space tuple
 
-  abbrev put : Answer
-  put = replace_answer_in (ledger_state ledger) space.0 tuple
-
-  abbrev has : HasOneSpace (ledger_state ledger)
-  has = one_space (stored_list slow.kept.items) (ledger_state ledger) is.keeps.keeps
-
-  asked_put : answer_to (ledger_state ledger) asked ≡ put
+  asked_put : answer_to before asked ≡ replace_answer_in before space.0 tuple
   unfolding answer_to
   asked_put = refl
 
-  told : (refusal : Refusal) (reads : List Read) → put ≡ refusal_after reads refusal → Answers slow ledger name asked (Refused refusal)
-  told refusal reads answer = slow_is_told slow ledger name is asked (refusal_after reads refusal) (Refused refusal) (inr here) (asked_put ∙ answer) refl refl
+  -- it is refused
+  pub slow_refuses : (refusal : Refusal) → (reads : List Read) × (replace_answer_in before space.0 tuple ≡ refusal_after reads refusal) → Answers slow ledger name asked (Refused refusal)
+  slow_refuses refusal (reads, answer) =
+      slow_is_told slow ledger name is asked (refusal_after reads refusal) (Refused refusal) (inr here) (asked_put ∙ answer) refl refl
 
-  pub slow_misses : (space.0 ≡ test_space → ⊥) → Answers slow ledger name asked (Refused (SpaceMissing (record { 0 = space.0 })))
-  slow_misses other =
-      told (SpaceMissing (record { 0 = space.0 })) (space_read space.0 ∷ [])
-      (answers.space_is_missing (ledger_state ledger) has space.0 (λ _. replace_answer space.0 tuple) other)
+  -- it is no error
+  module _ (keyed : Keyed) (replaces : Replaces before space.0 tuple keyed) where
+    -- the lsn of the node
+    lsn_is : suc (slice_index slow.clock writable_node) ≡ next_lsn ledger
+    lsn_is = ap (λ id. suc (slice_index slow.clock id)) (sym here ∙ ap (λ ids. ids.me) is.ids) ∙ ap (λ clock. suc (slice_index clock ledger.base.ids.me)) is.clock
 
-  module _ (same : space.0 ≡ test_space) where
-    pub slow_refuses_length : max_tuple_size < length tuple → Answers slow ledger name asked (Refused (TupleTooLong (length tuple)))
-    slow_refuses_length above =
-        told (TupleTooLong (length tuple)) (schema_reads space.0) (answers.tuple_is_too_long (ledger_state ledger) has space.0 tuple same above)
+    abbrev answer : Bool → Answer
+    answer used_up = if used_up then refusal_after (schema_reads space.0) LsnsUsedUp else replaced before space.0 tuple
 
-    module _ (short : length tuple ≤ max_tuple_size) where
-      pub slow_refuses_fault : (fault : KeyFault) (why : NoKey) (refusal : Refusal) → fault ≡ key_fault_of why → refusal ≡ fault_refusal why
-          → ((told : NoKey) × (fault ≡ key_fault_of told) × (key_in test_parts tuple ≡ Err told)) ⊎ (fault ≡ NoKeyMemory)
-          → Answers slow ledger name asked (Refused refusal)
-      slow_refuses_fault fault why refusal by is_refusal (inl (found, also, keyed)) =
-          let same_one = same_why found why (sym also ∙ by) in
-          subst (λ r. Answers slow ledger name asked (Refused r)) (ap fault_refusal same_one ∙ sym is_refusal)
-          (told (fault_refusal found) (schema_reads space.0) (answers.tuple_has_no_key (ledger_state ledger) has space.0 tuple same short found keyed))
-      slow_refuses_fault fault why refusal by is_refusal (inr none) = absurd (is_no_memory why (sym by ∙ none))
+    answer_by : (used_up : Bool) → nat_lt max_lsn (next_lsn ledger) ≡ used_up → answer_in ledger name asked ≡ answer used_up
+    answer_by used_up test = answer_taken slow ledger name asked (answer false) is (inr here) (asked_put ∙ replaces.answer) ∙ ap answer test
 
-      module _ (key : Key) (keyed : key_in test_parts tuple ≡ Ok key) where
-        -- the lsn of the node
-        lsn_is : suc (slice_index slow.clock writable_node) ≡ next_lsn ledger
-        lsn_is = ap (λ id. suc (slice_index slow.clock id)) (sym here ∙ ap (λ ids. ids.me) is.ids) ∙ ap (λ clock. suc (slice_index clock ledger.base.ids.me)) is.clock
+    pub slow_used_up : max_lsn < suc (slice_index slow.clock writable_node) → Answers slow ledger name asked (Refused LsnsUsedUp)
+    slow_used_up above =
+        told_alone slow ledger name asked (answer true) (Refused LsnsUsedUp) is
+        (answer_by true (ap (nat_lt max_lsn) (sym lsn_is) ∙ lt-ltb max_lsn _ above)) refl refl
 
-        abbrev answer : Bool → Answer
-        answer used_up = if used_up then refusal_after (schema_reads space.0) LsnsUsedUp else replaced space.0 tuple
-
-        answer_by : (used_up : Bool) → nat_lt max_lsn (next_lsn ledger) ≡ used_up → answer_in ledger name asked ≡ answer used_up
-        answer_by used_up test =
-            answer_taken slow ledger name asked (answer false) is (inr here)
-            (asked_put ∙ answers.tuple_is_replaced (ledger_state ledger) has space.0 tuple same short key keyed)
-            ∙ ap answer test
-
-        pub slow_used_up : max_lsn < suc (slice_index slow.clock writable_node) → Answers slow ledger name asked (Refused LsnsUsedUp)
-        slow_used_up above =
-            told_alone slow ledger name asked (answer true) (Refused LsnsUsedUp) is
-            (answer_by true (ap (nat_lt max_lsn) (sym lsn_is) ∙ lt-ltb max_lsn _ above)) refl refl
-
-        pub slow_replaces : (new : Slow) (bytes copy shown : List ℕ) (tuples : List (List ℕ)) (lsn : ℕ) → AreFit key → bytes ≡ comparable_of key → copy ≡ tuple
-            → shown ≡ tuple → tuples ≡ shown ∷ [] → new.parts ≡ slow.parts → new.ids ≡ slow.ids
-            → stored_list new.kept.items ≡ insert_entry (slice_cmp nat_cmp) (stored_list slow.kept.items) bytes copy
-            → IsNext slow.clock writable_node lsn → new.clock ≡ slice_set slow.clock writable_node lsn → Answers new ledger name asked (Tuples tuples)
-        slow_replaces new bytes copy shown tuples lsn fit coded copied seen one parts ids kept next clock =
-            let number : next_lsn ledger ≡ lsn = sym lsn_is ∙ sym next.follows in
-            let me : ledger.base.ids.me ≡ writable_node = ap (λ ids. ids.me) (sym is.ids) ∙ here in
-            let gives = answer_by false (ap (nat_lt max_lsn) number ∙ le-ltb max_lsn lsn next.allowed) in
-            let all = one ∙ ap (λ t. t ∷ []) seen in
-            let transaction : Tx = record { replica = writable_node; first = lsn; rows = Replaced test_space tuple ∷ [] } in
-            let commits : transaction ∷ [] ≡ commits_of ledger name (ask.Request asked) (Tuples tuples) =
-            sym (ap (λ a. commit_of ledger.base.ids.me (next_lsn ledger) false a.row) gives
-            ∙ ap (λ id. commit_of id (next_lsn ledger) false (Some (Replaced space.0 tuple))) me
-            ∙ ap (λ first. commit_of writable_node first false (Some (Replaced space.0 tuple))) number
-            ∙ ap (λ s. commit_of writable_node lsn false (Some (Replaced s tuple))) same) in
-            let last : lsn ≡ (lsn + 1) - 1 = omega arith in
-            let journal = ap (λ more. ledger.journal ++ more) commits in
-            record {
-              told = ap (λ t. Tuples t) all ∙ sym (ap (λ a. a.reply) gives);
-              after = record {
-                keeps = record {
-                  parts = parts ∙ is.keeps.parts;
-                  keeps = subst (StoresTuples (stored_list new.kept.items))
-                      (sym (state_after-append ledger.base.state ledger.journal (transaction ∷ [])) ∙ ap (state_after ledger.base.state) journal)
-                      (keeps_put (stored_list slow.kept.items) (stored_list new.kept.items) (ledger_state ledger) key bytes tuple is.keeps.keeps keyed fit coded
-                      (kept ∙ ap (insert_entry (slice_cmp nat_cmp) (stored_list slow.kept.items) bytes) copied));
-                };
-                clock = clock ∙ ap (slice_set slow.clock writable_node) last ∙ ap (λ c. clock_after_one c transaction) is.clock
-                    ∙ sym (clock_after-append ledger.base.clock ledger.journal (transaction ∷ []))
-                    ∙ ap (clock_after ledger.base.clock) journal;
-                ids = ids ∙ is.ids;
-              };
-            }
+    -- the spaces have the tuple
+    pub slow_replaces : (new : Slow) (tuples : List (List ℕ)) (lsn : ℕ) → tuples ≡ tuple ∷ [] → new.ids ≡ slow.ids
+        → KeepsBy (schema_of before) (λ q. get_by (nat_cmp q) new.spaces) (with_tuple before space.0 replaces.key keyed.tuple)
+        → IsNext slow.clock writable_node lsn → new.clock ≡ slice_set slow.clock writable_node lsn → Answers new ledger name asked (Tuples tuples)
+    slow_replaces new tuples lsn one ids keeps next clock =
+        let number : next_lsn ledger ≡ lsn = sym lsn_is ∙ sym next.follows in
+        let me : ledger.base.ids.me ≡ writable_node = ap (λ ids. ids.me) (sym is.ids) ∙ here in
+        let gives = answer_by false (ap (nat_lt max_lsn) number ∙ le-ltb max_lsn lsn next.allowed) in
+        let transaction : Tx = record { replica = writable_node; first = lsn; rows = Replaced space.0 tuple ∷ [] } in
+        let commits : transaction ∷ [] ≡ commits_of ledger name (ask.Request asked) (Tuples tuples) =
+        sym (ap (λ a. commit_of ledger.base.ids.me (next_lsn ledger) false a.row) gives
+        ∙ ap (λ id. commit_of id (next_lsn ledger) false (Some (Replaced space.0 tuple))) me
+        ∙ ap (λ first. commit_of writable_node first false (Some (Replaced space.0 tuple))) number) in
+        let last : lsn ≡ (lsn + 1) - 1 = omega arith in
+        let journal = ap (λ more. ledger.journal ++ more) commits in
+        record {
+          told = ap (λ t. Tuples t) one ∙ sym (ap (λ a. a.reply) gives);
+          after = record {
+            keeps = subst (λ (s : State). KeepsBy (schema_of s) (λ q. get_by (nat_cmp q) new.spaces) s)
+                (sym (state_after-append ledger.base.state ledger.journal (transaction ∷ [])) ∙ ap (state_after ledger.base.state) journal)
+                (keeps_after before space.0 tuple keyed replaces (λ q. get_by (nat_cmp q) new.spaces) keeps);
+            clock = clock ∙ ap (slice_set slow.clock writable_node) last ∙ ap (λ c. clock_after_one c transaction) is.clock
+                ∙ sym (clock_after-append ledger.base.clock ledger.journal (transaction ∷ []))
+                ∙ ap (clock_after ledger.base.clock) journal;
+            ids = ids ∙ is.ids;
+          };
+        }

@@ -1,16 +1,14 @@
 -- What each request is answered on a state, and the state after what it writes.
 use Rattle.std.specs.Prelude.{ℕ, List, [], ◌∷◌, Option, Some, None}
-use Rattle.std.specs.FinMap.{get}
 use Rattle.mx_request.specs.declared.request.Request.{Request}
 use Rattle.mx_request.specs.declared.request.Request.TheVariants as request
-use Rattle.mx_model.specs.State.{State}
+use Rattle.mx_schema.specs.State.{State}
 use Rattle.mx_row.specs.declared.row.Row.{Row}
 use Rattle.mx_model.specs.declared.reply.Reply.TheVariants.{Empty, Id}
 use Rattle.mx_model.specs.statements.Statement.{Statement, Operation, Select, Replace, statement_of}
 use Rattle.mx_model.specs.statements.Answer.{Answer, reply_alone, not_built}
 use Rattle.mx_model.specs.statements.Change.{state_after_change, change_of}
-use Rattle.mx_model.specs.statements.Lookup.{in_space}
-use Rattle.mx_model.specs.statements.Select.{iterator_of, select_answer}
+use Rattle.mx_model.specs.statements.Select.{iterator_of, select_answer_in}
 use Rattle.mx_model.specs.statements.Replace.{replace_answer_in}
 
 -- a request that is no statement
@@ -23,7 +21,7 @@ answer_without_space other = not_built other
 -- a request that does this in a space
 abbrev pub answer_in_space : State → Request → (space : ℕ) → Operation → Answer
 answer_in_space before asked space (Select index limit offset iterator key) =
-    in_space space (get before space) (select_answer space index limit offset (iterator_of iterator) key)
+    select_answer_in before space index limit offset (iterator_of iterator) key
 answer_in_space before asked space (Replace tuple) = replace_answer_in before space tuple
 answer_in_space before asked space _ = not_built asked
 
@@ -35,7 +33,7 @@ unfoldable pub answer_to : State → Request → Answer
 answer_to before asked = answer_by_statement before asked (statement_of asked)
 
 unfoldable pub state_after_row : State → Row → State
-state_after_row before row = state_after_change before (change_of row)
+state_after_row before row = state_after_change before (change_of before row)
 
 abbrev pub state_after_rows : State → List Row → State
 state_after_rows before [] = before

@@ -9,7 +9,8 @@ use Rattle.mx_outside.specs.Disks.{File, Files}
 use Rattle.mx_model.specs.declared.ids.Ids.{Ids}
 use Rattle.mx_model.specs.declared.damage.Damage.{Damage}
 use Rattle.mx_model.specs.declared.damage.DamageKind.TheVariants.{Head as HeadDamage, Gap, Row as RowDamage}
-use Rattle.mx_model.specs.State.{State, first_state}
+use Rattle.mx_schema.specs.Bootstrap.{first_state}
+use Rattle.mx_schema.specs.State.{State}
 use Rattle.mx_row.specs.declared.row.Row.{Row}
 use Rattle.mx_row.specs.declared.row.Row.TheVariants.{Replaced}
 use Rattle.mx_model.specs.Answers.{state_after_rows}

@@ -13,7 +13,7 @@ use Rattle.mx_request.specs.declared.request.Request.TheVariants as request
 use Rattle.mx_model.specs.declared.ids.Ids.{Ids}
 use Rattle.mx_row.specs.declared.row.Row.{Row}
 use Rattle.mx_row.specs.declared.tx.Tx.{Tx}
-use Rattle.mx_model.specs.State.{State}
+use Rattle.mx_schema.specs.State.{State}
 use Rattle.mx_model.specs.declared.reply.Reply.{Reply}
 use Rattle.mx_model.specs.declared.reply.Reply.TheVariants.{Empty, Refused}
 use Rattle.mx_model.specs.Answers.{answer_to}

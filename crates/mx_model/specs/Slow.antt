@@ -1,25 +1,27 @@
 -- What the plain slow program keeps.
-use Rattle.std.specs.Prelude.{◌≡◌, ◌⊎◌, false, List, map}
+use Rattle.std.specs.Prelude.{◌≡◌, ◌⊎◌, ℕ, Option, Some, None, false}
+use Rattle.std.specs.BTreeMap.{get_by}
+use Rattle.std.specs.Ordering.{nat_cmp}
 use Rattle.mx_base.specs.declared.ids.TxnName.{TxnName}
 use Rattle.mx_request.specs.declared.request.Ask.TheVariants as ask
 use Rattle.mx_request.specs.declared.request.Request.{Request}
-use Rattle.mx_model.specs.declared.keyed.Keyed.{Keyed}
+use Rattle.mx_schema.specs.declared.schema.Schema.{Schema}
+use Rattle.mx_schema.specs.Catalogues.{schema_of}
+use Rattle.mx_schema.specs.State.{State, Tuples, tuples_in}
+use Rattle.mx_schema.specs.Stored.{StoresNone, StoresSpace, stored_list}
 use Rattle.mx_model.specs.declared.reply.Reply.{Reply}
 use Rattle.mx_model.specs.declared.slow.Slow.{Slow}
-use Rattle.mx_model.specs.State.{State, test_parts}
+use Rattle.mx_model.specs.declared.slow.SlowSpace.{SlowSpace}
 use Rattle.mx_model.specs.Histories.{Ledger, Asked, answer_in, is_write, ledger_after, ledger_clock, ledger_state, writable_node}
-use Rattle.mx_model.specs.Stored.{StoredTuple, StoresTuples}
 
-abbrev pub stored_view : Keyed → StoredTuple
-stored_view keyed = (keyed.key, keyed.tuple)
+-- what the program has of a space, where it has something
+abbrev pub KeepsSpace : (schema : Option Schema) → Option SlowSpace → Tuples → Type 0
+KeepsSpace schema None tuples = StoresNone schema tuples
+KeepsSpace schema (Some space) tuples = StoresSpace schema space.schema (stored_list space.tuples.items) tuples
 
-abbrev pub stored_list : List Keyed → List StoredTuple
-stored_list kept = map stored_view kept
-
--- the program keeps the tuples of the state
-pub record KeepsTuples (slow : Slow) (state : State) : Type 0 where
-  pub parts : slow.parts ≡ test_parts
-  pub keeps : StoresTuples (stored_list slow.kept.items) state
+-- the program has the tuples of a state and what describes its spaces
+abbrev pub KeepsTuples : Slow → State → Type 0
+KeepsTuples slow state = (space : ℕ) → KeepsSpace (schema_of state space) (get_by (nat_cmp space) slow.spaces) (tuples_in state space)
 
 -- the program keeps what the ledger has: the tuples, the vclock and the node's identifiers
 pub record IsSlow (slow : Slow) (ledger : Ledger) : Type 0 where

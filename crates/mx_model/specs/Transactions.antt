@@ -1,12 +1,11 @@
 -- Transactions: what a journal is a list of.
 use Rattle.std.specs.Prelude.{ℕ, ◌%◌, ◌^◌, Bool, ◌||◌, List, [], ◌∷◌, length, ◌==◌}
 use Rattle.std.specs.List.{list_any, filter}
-use Rattle.mx_model.specs.State.{State}
+use Rattle.mx_schema.specs.State.{State, space_rows, index_rows}
 use Rattle.mx_row.specs.declared.row.Row.{Row}
 use Rattle.mx_row.specs.declared.row.Row.TheVariants.{Replaced}
 use Rattle.mx_row.specs.declared.tx.Tx.{Tx}
 use Rattle.mx_model.specs.Answers.{state_after_rows}
-use Rattle.mx_model.specs.statements.Lookup.{space_rows, index_rows}
 
 -- the state after the transactions of a journal, the first of them first
 abbrev pub state_after : State → List Tx → State

@@ -4,3 +4,4 @@ pub mod Answer
 pub mod Lookup
 pub mod Select
 pub mod Replace
+pub mod Replaces

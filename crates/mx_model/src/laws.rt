@@ -1,10 +1,15 @@
 //! Theorems that other crates may use.
 
-ghost use Rattle.std.specs.Prelude.{◌≡◌, [], Result};
+ghost use Rattle.std.specs.Prelude.{◌≡◌, [], None, Result, Some};
+ghost use Rattle.mx_request.specs.declared.request.Request.{Request};
+ghost use Rattle.mx_row.specs.declared.row.Row.{Row};
+ghost use Rattle.mx_schema.specs.State.{State};
 ghost use Rattle.mx_outside.specs.Disks.{Files};
 ghost use Rattle.mx_model.specs.declared.damage.Damage.{Damage};
+ghost use Rattle.mx_model.specs.Answers.{answer_to, state_after_row};
 ghost use Rattle.mx_model.specs.Directories.{AllFollow, IsDirectoryState, Reached, SameOutcome};
 ghost use Rattle.mx_model.specs.Histories.{Base, History, IsLegal, asks_in, asking, history_from, journal_of, remembered};
+ghost use Rattle.mx_model.specs.statements.Change.{change_of, state_after_change};
 
 /// A theorem, which does nothing when it is called: the asks of a legal history determine its steps and
 /// replies, but for the requests that were answered out of memory; it is as if these hadn't been asked.
@@ -25,4 +30,12 @@ pub fn commits_are_sound()
 pub fn a_directory_stands_once()
     ensures { (files : Files) (one other : Result Reached Damage) → IsDirectoryState files one
         → IsDirectoryState files other → SameOutcome one other }
+{}
+
+/// A theorem, which does nothing when it is called: what a statement writes to the journal makes of the
+/// state just what the statement's answer says that it changes, and what writes nothing changes nothing.
+pub fn rows_make_their_changes()
+    ensures row { (before : State) (asked : Request) (row : Row) → (answer_to before asked).row ≡ Some row
+        → ((answer_to before asked).change ≡ Some (change_of before row)) × (state_after_row before row ≡ state_after_change before (change_of before row)) }
+    ensures none { (before : State) (asked : Request) → (answer_to before asked).row ≡ None → (answer_to before asked).change ≡ None }
 {}

@@ -21,7 +21,7 @@ pub fn is_write(kind: u8) -> bool
 /// Moves a vclock on to the next lsn of the node that may be written; `None` where its lsns are used up.
 pub fn next_lsn(clock: &mut Vclock) -> Option<u64>
     ensures { MatchOption result
-        (max_lsn < suc (slice_index clock.old writable_node))
+        ((max_lsn < suc (slice_index clock.old writable_node)) × (clock.new ≡ clock.old))
         (λ lsn. IsNext clock.old writable_node lsn × (clock.new ≡ slice_set clock.old writable_node lsn)) }
 {
     let lsn = clock.get(WRITABLE_NODE).saturating_add(1);

@@ -1,63 +1,77 @@
-//! The plain slow program: it keeps its tuples in one list, and scans all of it.
+//! The plain slow program: it keeps the tuples of a space in one list, and scans all of it.
 
-ghost use Rattle.std.specs.Prelude.{◌≡◌, ◌≢◌, ◌⊎◌, ◌<◌, ◌≤◌, ◌∷◌, [], Ok, true, false, map, take, length, IfOk, IfSome, OnOk, OnErr, MatchOption, MatchResult};
-ghost use Rattle.std.specs.List.{All, filter, slice_get, sum_by};
-ghost use Rattle.std.specs.BTreeMap.{insert_entry};
-ghost use Rattle.std.specs.FinMap.{get};
-ghost use Rattle.std.specs.Ordering.{nat_cmp, is_gt, is_lt};
+ghost use Rattle.std.specs.Prelude.{◌≡◌, ◌≢◌, ◌<◌, ◌≤◌, ◌∷◌, ℕ, List, [], Ok, Err, Option, Some, true, false, take, length, IfOk, IfSome, OnOk, OnErr, MatchOption, MatchResult};
+ghost use Rattle.std.specs.List.{All, slice_get};
+ghost use Rattle.std.specs.BTreeMap.{get_by, insert_entry};
+ghost use Rattle.std.specs.FinMap.{empty, entries};
+ghost use Rattle.std.specs.Ordering.{nat_cmp, is_lt};
 ghost use Rattle.std.specs.Cmp.Lexicographic.{slice_cmp};
 ghost use Rattle.mx_base.specs.declared.ids.TxnName.{TxnName};
 ghost use Rattle.mx_request.specs.declared.request.Request.TheVariants.{Replace};
-ghost use Rattle.mx_key.specs.Comparable.{holds};
-ghost use Rattle.mx_key.specs.Ranges.{descends};
-ghost use Rattle.mx_model.specs.declared.pick.SelectStop.TheVariants.{TooLong, NoMemory};
-ghost use Rattle.mx_model.specs.statements.Select.{select_answer};
-ghost use Rattle.mx_model.specs.statements.Lookup.{in_space};
-ghost use Rattle.mx_model.specs.Picks.{directed, window, total_bytes, max_result_size};
-ghost use Rattle.mx_model.specs.Histories.{Ledger, is_write, ledger_of, writable_node};
-ghost use Rattle.mx_model.specs.Slow.{Answers, IsSlow, KeepsTuples, Takes, stored_list, stored_view};
-ghost use Rattle.mx_model.specs.State as plain;
-ghost use Rattle.mx_model.specs.State.{first_state};
+ghost use Rattle.mx_key.specs.declared.fault.NoKey.{NoKey};
+ghost use Rattle.mx_key.specs.Comparable.{comparable_of, edges_of};
+ghost use Rattle.mx_key.specs.Faults.{key_fault_of};
+ghost use Rattle.mx_key.specs.Keys.{Key, AreFit};
+ghost use Rattle.mx_key.specs.Ranges.{range_of};
+ghost use Rattle.mx_schema.specs.declared.schema.Schema.{Schema};
+ghost use Rattle.mx_schema.specs.Catalogues.{index_with};
+ghost use Rattle.mx_schema.specs.Picks.{directed, indexed_with, tuples_by_index};
+ghost use Rattle.mx_schema.specs.Selecting.{found_in};
+ghost use Rattle.mx_schema.specs.State as plain;
+ghost use Rattle.mx_schema.specs.State.{source_of, tuples_in, with_tuple};
+ghost use Rattle.mx_schema.specs.Stored.{Holds, StoresTuples, stored_list};
+ghost use Rattle.mx_model.specs.statements.Answer.{Read, refusal_after};
+ghost use Rattle.mx_model.specs.statements.Replace.{replace_answer_in};
+ghost use Rattle.mx_model.specs.statements.Replaces.{Replaces};
+ghost use Rattle.mx_model.specs.statements.Select.{select_answer_in};
+ghost use Rattle.mx_model.specs.Histories.{Base, Ledger, is_write, ledger_of, writable_node};
+ghost use Rattle.mx_model.specs.Slow.{Answers, IsSlow, KeepsTuples, Takes};
+ghost use Rattle.mx_model.specs.SlowSteps.{Finds, Gathers, IsMoved, KeepsBy, MovesTable};
 
 use crate::ids::Ids;
-use crate::keyed::{Keyed, key_tuple, no_key};
 use crate::node::{WRITABLE_NODE, is_write, next_lsn};
-use crate::pick::{MAX_RESULT_SIZE, Pick, SelectStop};
 use crate::reply::Reply;
-use crate::statements::lookup::{TEST_SPACE, index_missing, not_built};
-use crate::statements::replace::{MAX_TUPLE_SIZE, fault_refusal};
+use crate::statements::lookup::{index_missing, not_built};
+use crate::statements::replace::{fault_refusal, unwritable};
 use crate::statements::select::{iterator_of, misfit_refusal};
 use mx_base::{IndexId, Refusal, ReplicaId, SpaceId, TxnName};
-use mx_key::{KeyDef, KeyRange, Part, PartKind, misfit, range};
+use mx_key::{KeyFault, KeyRange, NoKey, misfit, range};
 use mx_msgpack::{Bytes, Tuples};
 use mx_request::Request;
+use mx_schema::{
+    INDEX_ROWS, IndexDef, Keyed, MAX_RESULT_SIZE, Pick, SHOWN_INDEX_ROWS, SHOWN_SPACE_ROWS,
+    SPACE_ROWS, Schema, SelectStop, State, Table, index_tuple, key_tuple,
+};
+use mx_tuple::MAX_TUPLE_SIZE;
 use mx_vclock::Vclock;
 use std::alloc::{AllocError, Global};
+use std::collections::BTreeMap;
 
-/// A database that keeps its tuples in one list, by their keys, on one node.
+/// A database that keeps the tuples of each space in one list, by their primary keys, on one node.
 #[derive(Debug, Drop)]
 pub struct Slow {
     alloc: Global,
-    parts: KeyDef,
-    kept: Vec<Keyed>,
+    spaces: BTreeMap<u32, SlowSpace>,
     clock: Vclock,
     ids: Ids,
 }
 
+/// A space: what describes it, and its tuples in the order of their primary keys' bytes.
+#[derive(Debug, Drop)]
+pub struct SlowSpace {
+    schema: Schema,
+    tuples: Vec<Keyed>,
+}
+
 impl Slow {
-    /// A database without tuples that has come to a vclock, on the node with these identifiers.
-    pub fn new(alloc: Global, clock: Vclock, ids: Ids) -> Result<Slow, AllocError>
-        ensures { IfOk result (λ slow. IsSlow slow (ledger_of (record { state = first_state; clock = clock; ids = ids }) [])) }
+    /// A database that goes on from a state that has come to a vclock, on the node with these identifiers.
+    pub fn new(alloc: Global, state: State, clock: Vclock, ids: Ids) -> Result<Slow, AllocError>
+        ensures { (base : Base) → Holds state base.state → clock ≡ base.clock → ids ≡ base.ids → IfOk result (λ slow. IsSlow slow (ledger_of base [])) }
     {
-        let mut parts = KeyDef::new(alloc);
-        parts.push(Part {
-            field: 0,
-            kind: PartKind::Unsigned,
-        })?;
+        let spaces = move_tables(alloc, state.into_tables())?;
         Ok(Slow {
             alloc,
-            parts,
-            kept: Vec::new(alloc),
+            spaces,
             clock,
             ids,
         })
@@ -115,25 +129,35 @@ impl Slow {
         self.ids.me == WRITABLE_NODE || !is_write(request.kind())
     }
 
-    #[tactic(auto, unfolding(crate::specs::statements::Lookup::in_space))]
     fn select(&self, space: SpaceId, index: IndexId, pick: &Pick<'_>) -> Result<Reply, AllocError>
         ensures { (state : plain.State) → KeepsTuples self.now state → IfOk result (λ reply. reply
-            ≡ (in_space space.0 (get state space.0) (select_answer space.0 index.0 pick.now.limit pick.now.offset pick.now.iterator pick.now.key.now)).reply) }
+            ≡ (select_answer_in state space.0 index.0 pick.now.limit pick.now.offset pick.now.iterator pick.now.key.now).reply) }
     {
-        if space.0 != TEST_SPACE {
+        let Some(found) = self.spaces.get(&space.0) else {
             return Ok(Reply::Refused(Refusal::SpaceMissing { space }));
+        };
+        let Some(def) = found.schema.index(index) else {
+            let refusal = index_missing(self.alloc, index, &found.schema.def.name)?;
+            return Ok(Reply::Refused(refusal));
+        };
+        if let Some(misfit) = misfit(&def.key, pick.key) {
+            return Ok(Reply::Refused(misfit_refusal(def, misfit)));
         }
-        if index.0 != 0 {
-            return Ok(Reply::Refused(index_missing(self.alloc, index)?));
-        }
-        if let Some(misfit) = misfit(&self.parts, pick.key) {
-            return Ok(Reply::Refused(misfit_refusal(misfit)));
-        }
-        let range = range(self.alloc, &self.parts, pick.iterator, pick.key)?;
-        match gather(self.alloc, &self.kept, &range, pick) {
+        let range = range(self.alloc, &def.key, pick.iterator, pick.key)?;
+        match gather_by_index(self.alloc, def, self.tuples_of(space), &range, pick) {
             Ok(tuples) => Ok(Reply::Tuples(tuples)),
             Err(SelectStop::TooLong) => Ok(Reply::Refused(Refusal::ResultTooLong)),
             Err(SelectStop::NoMemory) => Err(AllocError),
+        }
+    }
+
+    /// The tuples that a space shows: its own, or the rows of another one.
+    fn tuples_of(&self, space: SpaceId) -> &[Keyed]
+        ensures { (state : plain.State) → KeepsTuples self.now state → StoresTuples (stored_list result.now) (tuples_in state (source_of space.0)) }
+    {
+        match self.spaces.get(&source_of(space)) {
+            Some(found) => found.tuples.as_slice(),
+            None => &[],
         }
     }
 
@@ -143,16 +167,9 @@ impl Slow {
             (λ reply. Answers self.new ledger name (Replace space tuple.now) reply)
             (λ _. IsSlow self.new ledger) }
     {
-        if space.0 != TEST_SPACE {
-            return Ok(Reply::Refused(Refusal::SpaceMissing { space }));
-        }
-        if tuple.len() > MAX_TUPLE_SIZE {
-            let bytes = tuple.len() as u64;
-            return Ok(Reply::Refused(Refusal::TupleTooLong { bytes }));
-        }
-        let keyed = match key_tuple(self.alloc, &self.parts, tuple) {
+        let keyed = match self.check_replace(space, tuple)? {
             Ok(keyed) => keyed,
-            Err(fault) => return Ok(Reply::Refused(fault_refusal(no_key(fault)?))),
+            Err(refusal) => return Ok(Reply::Refused(refusal)),
         };
         let mut clock = self.clock;
         let Some(_) = next_lsn(&mut clock) else {
@@ -160,12 +177,106 @@ impl Slow {
         };
         let mut tuples = Tuples::new(self.alloc);
         tuples.push(tuple)?;
-        put(&mut self.kept, keyed)?;
+        put_into(&mut self.spaces, space, keyed)?;
         self.clock = clock;
         Ok(Reply::Tuples(tuples))
     }
+
+    /// A copy of the tuple with its primary key, or why a REPLACE of it is refused.
+    fn check_replace(
+        &self,
+        space: SpaceId,
+        tuple: &[u8],
+    ) -> Result<Result<Keyed, Refusal>, AllocError>
+        ensures { (state : plain.State) → KeepsTuples self.now state → IfOk result (λ checked. MatchResult checked
+            (λ keyed. Replaces state space.0 tuple.now keyed)
+            (λ refusal. (reads : List Read) × (replace_answer_in state space.0 tuple.now ≡ refusal_after reads refusal))) }
+    {
+        let Some(found) = self.spaces.get(&space.0) else {
+            return Ok(Err(Refusal::SpaceMissing { space }));
+        };
+        if let Some(refusal) = unwritable(space, tuple) {
+            return Ok(Err(refusal));
+        }
+        let Some(def) = found.schema.index(IndexId(0)) else {
+            let refusal = index_missing(self.alloc, IndexId(0), &found.schema.def.name)?;
+            return Ok(Err(refusal));
+        };
+        if tuple.len() > MAX_TUPLE_SIZE {
+            let bytes = tuple.len() as u64;
+            return Ok(Err(Refusal::TupleTooLong { bytes }));
+        }
+        match key_tuple(self.alloc, &def.key, tuple) {
+            Ok(keyed) => Ok(Ok(keyed)),
+            Err(fault) => Ok(Err(fault_refusal(no_key(fault)?))),
+        }
+    }
 }
 
+fn move_tables(
+    alloc: Global,
+    mut left: BTreeMap<u32, Table>,
+) -> Result<BTreeMap<u32, SlowSpace>, AllocError>
+    ensures { IfOk result (λ spaces. (space : ℕ) → IsMoved (get_by (nat_cmp space) left) (get_by (nat_cmp space) spaces)) }
+{
+    let mut spaces = BTreeMap::new(alloc);
+    while let Some((space, table)) = left.pop_first() {
+        spaces.insert(space, move_table(alloc, table)?)?;
+    }
+    Ok(spaces)
+}
+
+fn move_table(alloc: Global, table: Table) -> Result<SlowSpace, AllocError>
+    ensures { IfOk result (λ space. MovesTable table space) }
+{
+    let (schema, mut left) = table.into_parts();
+    let mut tuples = Vec::new(alloc);
+    while let Some((key, tuple)) = left.pop_first() {
+        tuples.push(Keyed { key, tuple })?;
+    }
+    Ok(SlowSpace { schema, tuples })
+}
+
+/// The space whose rows a space shows: its own, or those of another one.
+fn source_of(space: SpaceId) -> u32
+    ensures { result ≡ source_of space.0 }
+{
+    match space.0 {
+        SHOWN_SPACE_ROWS => SPACE_ROWS,
+        SHOWN_INDEX_ROWS => INDEX_ROWS,
+        own => own,
+    }
+}
+
+fn no_key(fault: KeyFault) -> Result<NoKey, AllocError>
+    ensures { IfOk result (λ why. fault ≡ key_fault_of why) }
+{
+    match fault {
+        KeyFault::Missing { field } => Ok(NoKey::Missing { field }),
+        KeyFault::Wrong { field, expected } => Ok(NoKey::Wrong { field, expected }),
+        KeyFault::NoMemory => Err(AllocError),
+    }
+}
+
+/// Puts a tuple into a space, where that is there.
+fn put_into(
+    spaces: &mut BTreeMap<u32, SlowSpace>,
+    space: SpaceId,
+    keyed: Keyed,
+) -> Result<(), AllocError>
+    ensures ok { (schemas : ℕ → Option Schema) (state : plain.State) (schema : Schema) (key : Key) → KeepsBy schemas (λ q. get_by (nat_cmp q) spaces.old) state
+        → schemas space.0 ≡ Some schema → IfSome (index_with 0 schema.indexes) (λ def. length key ≡ length def.key) → AreFit key → keyed.key ≡ comparable_of key
+        → OnOk result (KeepsBy schemas (λ q. get_by (nat_cmp q) spaces.new) (with_tuple state space.0 key keyed.tuple)) }
+    ensures err { (schemas : ℕ → Option Schema) (state : plain.State) → KeepsBy schemas (λ q. get_by (nat_cmp q) spaces.old) state
+        → OnErr result (KeepsBy schemas (λ q. get_by (nat_cmp q) spaces.new) state) }
+{
+    let Some(found) = spaces.get_mut(&space.0) else {
+        return Ok(());
+    };
+    put(&mut found.tuples, keyed)
+}
+
+/// Puts a tuple into a list, in the place of the one that has its key.
 fn put(kept: &mut Vec<Keyed>, keyed: Keyed) -> Result<(), AllocError>
     ensures { MatchResult result
         (λ _. stored_list kept.new.items ≡ insert_entry (slice_cmp nat_cmp) (stored_list kept.old.items) keyed.key keyed.tuple)
@@ -196,18 +307,44 @@ fn place_of(kept: &[Keyed], key: &Bytes) -> usize
     place
 }
 
+/// Copies what is picked of tuples by an index, whose range this is.
+fn gather_by_index(
+    alloc: Global,
+    def: &IndexDef,
+    kept: &[Keyed],
+    range: &KeyRange,
+    pick: &Pick<'_>,
+) -> Result<Tuples, SelectStop>
+    ensures { (all : plain.Tuples) (key : Key) → StoresTuples (stored_list kept.now) all → AreFit key → range.now ≡ edges_of (range_of pick.now.iterator key)
+        → Finds (entries (tuples_by_index def.now all)) pick.now key result }
+{
+    if def.id.0 == 0 {
+        return gather(alloc, kept, range, pick);
+    }
+    let indexed = index_tuples(alloc, def, kept)?;
+    gather(alloc, indexed.as_slice(), range, pick)
+}
+
+/// Copies of tuples under their keys in an index.
+fn index_tuples(alloc: Global, def: &IndexDef, kept: &[Keyed]) -> Result<Vec<Keyed>, AllocError>
+    ensures { (all : plain.Tuples) → StoresTuples (stored_list kept.now) all
+        → IfOk result (λ indexed. StoresTuples (stored_list indexed.items) (indexed_with def.now empty (entries all))) }
+{
+    let mut indexed = Vec::new(alloc);
+    for one in kept {
+        let keyed = index_tuple(alloc, def, one.key.as_slice(), one.tuple.as_slice())?;
+        put(&mut indexed, keyed)?;
+    }
+    Ok(indexed)
+}
+
 fn gather(
     alloc: Global,
     kept: &[Keyed],
     range: &KeyRange,
     pick: &Pick<'_>,
 ) -> Result<Tuples, SelectStop>
-    ensures { MatchResult result
-        (λ tuples. (tuples ≡ map (λ entry. entry.1) (window pick.now.offset pick.now.limit
-        (directed (descends pick.now.iterator) (filter (λ entry. holds range.now entry.0) (stored_list kept.now)))))
-        × (total_bytes tuples ≤ max_result_size))
-        (λ stop. ((stop ≡ TooLong) × (max_result_size < total_bytes (map (λ entry. entry.1) (window pick.now.offset pick.now.limit
-        (directed (descends pick.now.iterator) (filter (λ entry. holds range.now entry.0) (stored_list kept.now))))))) ⊎ (stop ≡ NoMemory)) }
+    ensures { Gathers (found_in (stored_list kept.now) range.now pick.now.iterator pick.now.offset pick.now.limit) result }
 {
     let down = pick.iterator.descends();
     let mut tuples = Tuples::new(alloc);

@@ -23,11 +23,15 @@ use Rattle.mx_row.specs.declared.row.Row.TheVariants.{Replaced}
 use Rattle.std.specs.declared.alloc.AllocError.{AllocError}
 use Rattle.mx_base.specs.declared.refusal.Refusal.{Refusal}
 use Rattle.mx_base.specs.declared.refusal.Refusal.TheVariants.{OutOfMemory}
-use Rattle.mx_model.specs.State.{test_space}
-use Rattle.mx_model.specs.Stored.{Holds}
-use Rattle.mx_model.specs.Answers.{state_after_row, state_after_rows}
+use Rattle.mx_schema.specs.declared.keyed.Keyed.{Keyed}
+use Rattle.mx_schema.specs.Catalogues.{schema_of}
+use Rattle.mx_schema.specs.State.{with_tuple}
+use Rattle.mx_schema.specs.Stored.{Holds, HoldsBy}
+use Rattle.mx_model.specs.statements.Replaces.{Replaces}
+use Rattle.mx_model.proofs.PutLaws.{holds_after}
+use Rattle.mx_model.specs.Answers.{state_after_rows}
 use Rattle.mx_model.specs.statements.Answer.{Read, refusal_after}
-use Rattle.mx_model.specs.statements.Replace.{replace_answer_in, replaced}
+use Rattle.mx_model.specs.statements.Replace.{replace_answer_in}
 use Rattle.mx_row.specs.Clocks.{clock_after_one, follows}
 use Rattle.mx_model.specs.Directories as files
 use Rattle.mx_model.specs.Directories.{after_transaction, after_block, after_blocks, block_reached, damaged_row, takes_row, takes_rows, ids_or, ids_in, head_fits, after_head}
@@ -107,12 +111,12 @@ and_false false = refl
 abbrev one_row : (replica lsn space : ℕ) → List ℕ → Tx
 one_row replica lsn space tuple = record { replica = replica; first = lsn; rows = Replaced space tuple ∷ [] }
 
-module _ (old new : Recovered) (before : files.Reached) (stands : StandsFor old before) (replica lsn : ℕ) (tuple copy : List ℕ)
+module _ (old new : Recovered) (before : files.Reached) (stands : StandsFor old before) (replica lsn space : ℕ) (tuple : List ℕ) (keyed : Keyed)
     (least : 1 ≤ replica) (few : replica < 32) (next : IsNext old.clock replica lsn) (clock : new.clock ≡ slice_set old.clock replica lsn)
-    (ids : new.ids ≡ old.ids) (put : replace_answer_in before.state test_space tuple ≡ replaced test_space tuple) (copied : copy ≡ tuple)
-    (holds : Holds new.state (state_after_row before.state (Replaced test_space copy))) where
+    (ids : new.ids ≡ old.ids) (put : Replaces before.state space tuple keyed)
+    (holds : HoldsBy (schema_of before.state) new.state (with_tuple before.state space put.key keyed.tuple)) where
   abbrev tx : Tx
-  tx = one_row replica lsn test_space tuple
+  tx = one_row replica lsn space tuple
 
   most : (lsn + 1) - 1 ≤ max_lsn
   most = omega (arith, next.allowed)
@@ -124,13 +128,13 @@ module _ (old new : Recovered) (before : files.Reached) (stands : StandsFor old 
       and_from _ _ (eq-eqb _ _ first) (le-leb _ _ most)
 
   takes : takes_rows before.state tx.rows ≡ true
-  takes = ap (λ answer. is_some answer.row && true) put
+  takes = ap (λ answer. is_some answer.row && true) put.answer
 
   stands_after : StandsFor new (record before { state = state_after_rows before.state tx.rows; clock = clock_after_one before.clock tx })
   stands_after =
       let last : lsn ≡ (lsn + 1) - 1 = omega arith in record {
         ids = ids ∙ stands.ids;
-        holds = subst (λ t. Holds new.state (state_after_row before.state (Replaced test_space t))) copied holds;
+        holds = holds_after before.state space tuple keyed put new.state holds;
         clock = clock ∙ ap (λ (c : List ℕ). slice_set c replica lsn) stands.clock ∙ ap (slice_set before.clock replica) last;
         sound = record {
           whole = length-set before.clock replica ((lsn + 1) - 1) ∙ stands.sound.whole;
@@ -140,14 +144,9 @@ module _ (old new : Recovered) (before : files.Reached) (stands : StandsFor old 
         whose = stands.whose;
       }
 
-  abbrev Taken : ℕ → Type 0
-  Taken space = MatchOption (after_transaction (one_row replica lsn space tuple) before) (true ≡ false) (λ after. (true ≡ true) × StandsFor new after)
-
   -- it follows, and memory has its tuple under its key
-  pub taken_row : (space : ℕ) → space ≡ test_space → Taken space
-  taken_row space is =
-      subst Taken (sym is)
-      (one_taken (StandsFor new) (after_transaction tx before) _ (cond-true _ _ _ (and_from _ _ does_follow takes)) stands_after)
+  pub taken_row : MatchOption (after_transaction tx before) (true ≡ false) (λ after. (true ≡ true) × StandsFor new after)
+  taken_row = one_taken (StandsFor new) (after_transaction tx before) _ (cond-true _ _ _ (and_from _ _ does_follow takes)) stands_after
 
 -- a row that the state doesn't take
 module _ (new : Recovered) (before : files.Reached) (replica lsn space : ℕ) (tuple : List ℕ) where

@@ -17,9 +17,10 @@ ghost use Rattle.mx_recover.specs.Recovered.{StandsFor};
 use crate::fault::RecoverFault;
 use mx_base::{Refusal, SpaceId};
 use mx_files::journal_name;
-use mx_model::{Damage, DamageKind, Ids, State, bootstrap};
+use mx_model::{Damage, DamageKind, Ids, bootstrap, check_replace_of_array};
 use mx_msgpack::Bytes;
 use mx_row::{TxRef, read_tx};
+use mx_schema::State;
 use mx_vclock::Vclock;
 use mx_xlog::{Block, Head, read_block, read_header};
 use std::alloc::{AllocError, Global};
@@ -135,11 +136,11 @@ impl Recovered {
             return Ok(false);
         }
         let space = SpaceId(tx.space);
-        let keyed = match self.state.check_replace_of_array(alloc, space, tx.tuple) {
+        let keyed = match check_replace_of_array(&self.state, alloc, space, tx.tuple) {
             Ok(keyed) => keyed,
             Err(refusal) => return refused(&refusal),
         };
-        self.state.replace(keyed)?;
+        self.state.put(space, keyed)?;
         Ok(true)
     }
 }

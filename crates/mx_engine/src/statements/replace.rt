@@ -2,13 +2,11 @@
 
 ghost use Rattle.mx_base.specs.declared.ids.SpaceId.{SpaceId};
 ghost use Rattle.mx_msgpack.specs.Items.{IsArray};
-ghost use Rattle.std.specs.Prelude.{◌≡◌, ℕ, List, true, ◌∷◌, [], Ok, IfOk, OnOk, MatchResult};
-ghost use Rattle.mx_key.specs.Comparable.{comparable_of};
-ghost use Rattle.mx_key.specs.Keys.{Key, AreFit};
+ghost use Rattle.std.specs.Prelude.{◌≡◌, ℕ, List, true, ◌∷◌, [], IfOk, OnOk, MatchResult};
 ghost use Rattle.mx_request.specs.declared.request.Request.TheVariants.{Replace};
-ghost use Rattle.mx_model.specs.State as plain;
-ghost use Rattle.mx_model.specs.State.{key_in, test_parts};
-ghost use Rattle.mx_model.specs.Stored.{Holds};
+ghost use Rattle.mx_schema.specs.State as plain;
+ghost use Rattle.mx_schema.specs.Stored.{Holds};
+ghost use Rattle.mx_model.specs.statements.Replaces.{Replaces};
 ghost use Rattle.mx_engine.specs.Steps as steps;
 ghost use Rattle.mx_engine.specs.Steps.{SameNode, Stores, AnswersRequest, IsPut};
 ghost use Rattle.mx_engine.specs.Views.{reply_of};
@@ -16,9 +14,10 @@ ghost use Rattle.mx_engine.specs.Views.{reply_of};
 use crate::answer::Answered;
 use crate::engine::Engine;
 use mx_base::{Refusal, SpaceId};
-use mx_model::{Keyed, TEST_SPACE, WRITABLE_NODE, next_lsn};
+use mx_model::{WRITABLE_NODE, check_replace, check_replace_of_array, next_lsn};
 use mx_msgpack::{Bytes, Tuples};
 use mx_row::{Row, Rows, Tx};
+use mx_schema::Keyed;
 use std::alloc::{AllocError, Global};
 
 impl Engine {
@@ -32,8 +31,8 @@ impl Engine {
         ensures answers { (state : plain.State) → Holds self.old.state state → AnswersRequest self.old self.new state (Replace space tuple.now) (reply_of result found.new) }
         ensures keeps { SameNode self.old self.new }
     {
-        let keyed = self.state.check_replace(self.alloc, space, tuple)?;
-        self.put(keyed, found)
+        let keyed = check_replace(&self.state, self.alloc, space, tuple)?;
+        self.put(space, keyed, found)
     }
 
     /// As `replace`, of a tuple that is known to be an array.
@@ -48,13 +47,13 @@ impl Engine {
         ensures answers { (state : plain.State) → Holds self.old.state state → AnswersRequest self.old self.new state (Replace space tuple.now) (reply_of result found.new) }
         ensures keeps { SameNode self.old self.new }
     {
-        let keyed = self.state.check_replace_of_array(self.alloc, space, tuple)?;
-        self.put(keyed, found)
+        let keyed = check_replace_of_array(&self.state, self.alloc, space, tuple)?;
+        self.put(space, keyed, found)
     }
 
-    /// Puts a tuple in the place of the one that has its key, and shows it.
-    fn put(&mut self, keyed: Keyed, found: &mut Tuples) -> Result<Answered, Refusal>
-        ensures answers { (state : plain.State) (space : SpaceId) (tuple : List ℕ) (key : Key) → IsPut self.old state space tuple keyed key
+    /// Puts a tuple into its space in the place of the one that has its key, and shows it.
+    fn put(&mut self, space: SpaceId, keyed: Keyed, found: &mut Tuples) -> Result<Answered, Refusal>
+        ensures answers { (state : plain.State) (tuple : List ℕ) → IsPut self.old state space tuple keyed
             → AnswersRequest self.old self.new state (Replace space tuple) (reply_of result found.new) }
         ensures keeps { SameNode self.old self.new }
     {
@@ -62,7 +61,7 @@ impl Engine {
         let Some(lsn) = next_lsn(&mut clock) else {
             return Err(Refusal::LsnsUsedUp);
         };
-        match self.commit(lsn, keyed, found) {
+        match self.commit(lsn, space, keyed, found) {
             Ok(()) => {
                 self.clock = clock;
                 Ok(Answered::Tuples)
@@ -71,21 +70,26 @@ impl Engine {
         }
     }
 
-    /// Commits a tuple, and shows it.
-    fn commit(&mut self, lsn: u64, keyed: Keyed, shown: &mut Tuples) -> Result<(), AllocError>
+    /// Commits a tuple of a space, and shows it.
+    fn commit(
+        &mut self,
+        lsn: u64,
+        space: SpaceId,
+        keyed: Keyed,
+        shown: &mut Tuples,
+    ) -> Result<(), AllocError>
         ensures shown { OnOk result (shown.new ≡ keyed.tuple ∷ []) }
-        ensures stores { (state : plain.State) (key : Key) → Holds self.old.state state → key_in test_parts keyed.tuple ≡ Ok key → AreFit key → keyed.key ≡ comparable_of key
-            → MatchResult result
-            (λ _. Stores self.old self.new state (steps.transaction_of lsn keyed.tuple ∷ []))
+        ensures stores { (state : plain.State) (tuple : List ℕ) → Holds self.old.state state → Replaces state space.0 tuple keyed → MatchResult result
+            (λ _. Stores self.old self.new state (steps.transaction_of lsn space.0 keyed.tuple ∷ []))
             (λ _. Stores self.old self.new state []) }
         ensures keeps { SameNode self.old self.new }
         ensures clock { self.new.clock ≡ self.old.clock }
     {
-        let transaction = transaction_of(self.alloc, lsn, keyed.tuple.as_slice())?;
+        let transaction = transaction_of(self.alloc, lsn, space, keyed.tuple.as_slice())?;
         shown.clear();
         shown.push(keyed.tuple.as_slice())?;
         self.pending.push(transaction)?;
-        if let Err(fault) = self.state.replace(keyed) {
+        if let Err(fault) = self.state.put(space, keyed) {
             self.pending.pop();
             return Err(fault);
         }
@@ -93,12 +97,12 @@ impl Engine {
     }
 }
 
-fn transaction_of(alloc: Global, lsn: u64, tuple: &[u8]) -> Result<Tx, AllocError>
-    ensures { IfOk result (λ transaction. transaction ≡ steps.transaction_of lsn tuple.now) }
+fn transaction_of(alloc: Global, lsn: u64, space: SpaceId, tuple: &[u8]) -> Result<Tx, AllocError>
+    ensures { IfOk result (λ transaction. transaction ≡ steps.transaction_of lsn space.0 tuple.now) }
 {
     let mut rows = Rows::new(alloc);
     rows.push(Row::Replaced {
-        space: TEST_SPACE,
+        space: space.0,
         tuple: Bytes::from_slice(alloc, tuple)?,
     })?;
     Ok(Tx {

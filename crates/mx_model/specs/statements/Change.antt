@@ -1,11 +1,15 @@
 -- What a statement changes of a state: what stands under one primary key of a space.
-use Rattle.std.specs.Prelude.{ℕ, List, Option, Some, None}
-use Rattle.std.specs.FinMap.{get, insert, remove}
+use Rattle.std.specs.Prelude.{ℕ, List, [], Option, Some, None}
+use Rattle.std.specs.FinMap.{insert, remove}
+use Rattle.mx_key.specs.declared.part.Part.{Part}
 use Rattle.mx_key.specs.Keys.{Key}
 use Rattle.mx_row.specs.declared.row.Row.{Row}
 use Rattle.mx_row.specs.declared.row.Row.TheVariants.{Replaced}
-use Rattle.mx_model.specs.State as state
-use Rattle.mx_model.specs.State.{State, primary_key}
+use Rattle.mx_schema.specs.declared.index_def.IndexDef.{IndexDef}
+use Rattle.mx_schema.specs.declared.schema.Schema.{Schema}
+use Rattle.mx_schema.specs.Catalogues.{index_with, schema_of}
+use Rattle.mx_schema.specs.State as state
+use Rattle.mx_schema.specs.State.{State, key_in, key_or_none, tuples_in}
 
 -- the tuple that stands under a primary key of a space afterwards, or none
 pub record Change : Type 0 where
@@ -13,22 +17,29 @@ pub record Change : Type 0 where
   pub key : Key
   pub tuple : Option (List ℕ)
 
--- a tuple in the place of the one that has its key
-abbrev pub put_change : (space : ℕ) → (tuple : List ℕ) → Change
-put_change space tuple = record { space = space; key = primary_key tuple; tuple = Some tuple }
+abbrev pub parts_of : Option IndexDef → List Part
+parts_of None = []
+parts_of (Some def) = def.key
+
+abbrev pub primary_parts_of : Option Schema → List Part
+primary_parts_of None = []
+primary_parts_of (Some schema) = parts_of (index_with 0 schema.indexes)
+
+-- the parts of a space's primary index
+abbrev pub primary_parts : State → (space : ℕ) → List Part
+primary_parts before space = primary_parts_of (schema_of before space)
+
+-- a tuple in the place of the one that has its primary key
+abbrev pub put_change : State → (space : ℕ) → (tuple : List ℕ) → Change
+put_change before space tuple = record { space = space; key = key_or_none (key_in (primary_parts before space) tuple); tuple = Some tuple }
 
 abbrev pub tuples_with : state.Tuples → Key → Option (List ℕ) → state.Tuples
 tuples_with tuples key None = remove tuples key
 tuples_with tuples key (Some tuple) = insert tuples key tuple
 
--- the state with a change of a space whose tuples these are; as before where there is no such space
-abbrev pub change_in : State → Change → Option state.Tuples → State
-change_in before change None = before
-change_in before change (Some tuples) = insert before change.space (tuples_with tuples change.key change.tuple)
-
 abbrev pub state_after_change : State → Change → State
-state_after_change before change = change_in before change (get before change.space)
+state_after_change before change = insert before change.space (tuples_with (tuples_in before change.space) change.key change.tuple)
 
--- what a journal's row changes
-abbrev pub change_of : Row → Change
-change_of (Replaced space tuple) = put_change space tuple
+-- what a journal's row changes of a state
+abbrev pub change_of : State → Row → Change
+change_of before (Replaced space tuple) = put_change before space tuple

@@ -1,20 +1,23 @@
 //! What a SELECT's numbers mean, and why its key is refused.
 
-ghost use Rattle.std.specs.Prelude.{◌≡◌};
-ghost use Rattle.mx_model.specs.Selecting as selecting;
+ghost use Rattle.std.specs.Prelude.{◌≡◌, ◌<◌, ◌^◌, ℕ, List, Err, length};
+ghost use Rattle.mx_key.specs.Parts.{key_of_array};
 ghost use Rattle.mx_model.specs.statements.Select as spec;
 
-use crate::pick::SelectStop;
 use crate::statements::lookup::type_of;
 use mx_base::Refusal;
 use mx_key::{IterKind, Misfit};
+use mx_schema::IndexDef;
 
-/// The refusal of a key that doesn't fit the one index.
-pub fn misfit_refusal(misfit: Misfit) -> Refusal
-    ensures { result ≡ spec.misfit_refusal misfit }
+/// The refusal of a key that doesn't fit an index.
+pub fn misfit_refusal(def: &IndexDef, misfit: Misfit) -> Refusal
+    ensures { (key : List ℕ) → key_of_array def.now.key key ≡ Err misfit → result ≡ spec.misfit_refusal (length def.now.key) misfit }
 {
     match misfit {
-        Misfit::TooLong { parts } => Refusal::KeyPartCount { parts, index: 1 },
+        Misfit::TooLong { parts } => Refusal::KeyPartCount {
+            parts,
+            index: part_count(def),
+        },
         Misfit::WrongPart { part, expected } => Refusal::KeyPartType {
             part,
             expected: type_of(expected),
@@ -22,14 +25,10 @@ pub fn misfit_refusal(misfit: Misfit) -> Refusal
     }
 }
 
-/// The refusal of a SELECT that gives no tuples.
-pub fn stop_refusal(stop: SelectStop) -> Refusal
-    ensures { result ≡ selecting.stop_refusal stop }
+fn part_count(def: &IndexDef) -> u32
+    ensures { length def.now.key < 2 ^ 32 → result ≡ length def.now.key }
 {
-    match stop {
-        SelectStop::TooLong => Refusal::ResultTooLong,
-        SelectStop::NoMemory => Refusal::OutOfMemory,
-    }
+    u32::try_from(def.key.len()).unwrap_or(u32::MAX)
 }
 
 /// The iterator of a SELECT's number.

@@ -1,8 +1,8 @@
 use Rattle.std.proofs.Common.{rules, ◌≡◌, ◌++◌, ◌∷◌, [], ◌<◌, true, false, length, inl, refl}
 use Rattle.mx_key.specs.Comparable.{holds}
-use Rattle.mx_model.specs.Picks.{directed}
-use Rattle.mx_model.specs.Slow.{stored_list, stored_view}
-use Rattle.mx_model.proofs.WindowLaws.{next_seen, went_outside, went_past, went_on, went_too_far, took_bytes}
+use Rattle.mx_schema.specs.Picks.{directed}
+use Rattle.mx_schema.specs.Stored.{stored_list, stored_view}
+use Rattle.mx_schema.proofs.WindowLaws.{next_seen, went_outside, went_past, went_on, went_too_far, took_bytes}
 use Rattle.mx_model.proofs.slow.gather.Goals as goal
 
 pub loop-left-preserved-then-not-holds : goal.loop-left-preserved-then-not-holds

@@ -1,9 +1,9 @@
 use Rattle.std.proofs.Common.{◌≡◌, ◌≤◌, ◌++◌, length, filter}
 use Rattle.mx_key.specs.Comparable.{holds}
 use Rattle.mx_key.specs.Ranges.{descends}
-use Rattle.mx_model.specs.Picks.{directed, window, total_bytes, max_result_size}
-use Rattle.mx_model.specs.Slow.{stored_list}
-use Rattle.mx_model.proofs.WindowLaws.{tuples_of}
+use Rattle.mx_schema.specs.Picks.{directed, window, total_bytes, max_result_size}
+use Rattle.mx_schema.specs.Stored.{stored_list}
+use Rattle.mx_schema.proofs.WindowLaws.{tuples_of}
 use Rattle.mx_model.proofs.slow.gather.Given as goal
 
 -- what was taken and what remains are the whole together

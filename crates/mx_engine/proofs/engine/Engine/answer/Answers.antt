@@ -1,5 +1,6 @@
 use Rattle.std.proofs.Common.{rules, ◌≡◌, inl, sym, ap, ◌∙◌, subst}
 use Rattle.mx_base.specs.declared.refusal.Refusal.TheVariants.{UnknownRequestType}
+use Rattle.mx_key.specs.Parts.{key_of_array}
 use Rattle.mx_model.specs.declared.reply.Reply.TheVariants.{Empty, Id, Refused}
 use Rattle.mx_model.specs.Answers.{answer_to}
 use Rattle.mx_model.specs.statements.Answer.{reply_alone, not_built}
@@ -12,7 +13,8 @@ pub returns-in-Select-clause-answers : goal.returns-in-Select-clause-answers
 returns-in-Select-clause-answers c = λ state holds.
     let s = c.in-Select in
     answers_selected c.args.self.now state c.args.request.now (reply_of c.select.result c.select.new.found) s.space s.index s.limit s.offset s.iterator s.key
-    c.as_slice.result.now c.iterator_of.result c.requires holds s.is c.as_slice.ensures c.iterator_of.ensures (c.select.ensures state holds)
+    c.array_or_empty.result.now c.iterator_of.result c.requires holds s.is (λ parts. c.array_or_empty.ensures.key parts ∙ ap (key_of_array parts) c.as_slice.ensures)
+    c.iterator_of.ensures (c.select.ensures state holds)
 
 pub returns-in-Replace-clause-answers : goal.returns-in-Replace-clause-answers
 returns-in-Replace-clause-answers c = λ state holds.

@@ -11,17 +11,17 @@ use Rattle.mx_engine.specs.Views.{reply_of}
 use Rattle.mx_engine.proofs.EngineLaws.{answers_selected, answers_asked, answers_not_built, answers_told}
 use Rattle.mx_engine.proofs.engine.Engine.answer_in_place.Goals as goal
 
-pub select_by_array-requires : goal.select_by_array-requires
-select_by_array-requires c =
+pub select-requires : goal.select-requires
+select-requires c =
     let s = c.in-Select in
     inner_is_array s.key.now (subst IsAskable (ap request_view s.is) c.requires.askable).5
 
 pub returns-in-Select-clause-answers : goal.returns-in-Select-clause-answers
 returns-in-Select-clause-answers c = λ state holds.
     let s = c.in-Select in
-    answers_selected c.args.self.now state (request_view c.args.request.now) (reply_of c.select_by_array.result c.select_by_array.new.found)
-    s.space s.index s.limit s.offset s.iterator s.key.now s.key.now c.iterator_of.result c.requires.accepted holds (ap request_view s.is) refl
-    c.iterator_of.ensures (c.select_by_array.ensures state holds)
+    answers_selected c.args.self.now state (request_view c.args.request.now) (reply_of c.select.result c.select.new.found)
+    s.space s.index s.limit s.offset s.iterator s.key.now s.key.now c.iterator_of.result c.requires.accepted holds (ap request_view s.is) (λ parts. refl)
+    c.iterator_of.ensures (c.select.ensures state holds)
 
 pub replace_array-requires-clause-accepted : goal.replace_array-requires-clause-accepted
 replace_array-requires-clause-accepted c = ap (λ asked. accepts c.args.self.now.ids asked) (sym (ap request_view c.in-Replace.is)) ∙ c.requires.accepted

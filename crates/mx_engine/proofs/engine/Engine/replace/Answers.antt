@@ -9,6 +9,4 @@ returns-in_err-keyed-clause-answers c = λ state holds.
 
 pub returns-clause-answers : goal.returns-clause-answers
 returns-clause-answers c = λ state holds.
-    let (there, put, (key, keyed, fit, coded, copied)) = c.in_ok-keyed.ensures state holds in
-    c.put.ensures.answers state c.args.space c.args.tuple.now key
-    (record { accepted = c.requires; holds = holds; there = there; put = put; key_is = keyed; fit = fit; bytes = coded; copied = copied })
+    c.put.ensures.answers state c.args.tuple.now (record { accepted = c.requires; holds = holds; replaces = c.in_ok-keyed.ensures state holds })

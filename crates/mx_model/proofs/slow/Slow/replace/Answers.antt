@@ -1,30 +1,31 @@
-use Rattle.std.proofs.Common.{refl, ap, ◌∙◌, ◌++◌, ◌∷◌, []}
-use Rattle.mx_model.proofs.SlowLaws.{slow_misses, slow_refuses_length, slow_refuses_fault, slow_used_up, slow_replaces}
+use Rattle.std.proofs.Common.{[], ◌∷◌, ◌++◌, refl, ap, ◌∙◌}
+use Rattle.mx_schema.specs.Catalogues.{schema_of}
+use Rattle.mx_model.specs.declared.slow.Slow.{Slow}
+use Rattle.mx_model.specs.Histories.{ledger_state}
+use Rattle.mx_model.proofs.PutLaws.{key_is_whole}
+use Rattle.mx_model.proofs.SlowLaws.{slow_refuses, slow_used_up, slow_replaces}
 use Rattle.mx_model.proofs.slow.Slow.replace.Goals as goal
-
-pub returns-then-space-ne-TEST_SPACE : goal.returns-then-space-ne-TEST_SPACE
-returns-then-space-ne-TEST_SPACE c = λ ledger name is.
-    slow_misses c.args.self.now ledger name is c.args.space c.args.tuple.now c.requires c.if-space-ne-TEST_SPACE.true
-
-pub returns-then-tuple-gt-MAX_TUPLE_SIZE : goal.returns-then-tuple-gt-MAX_TUPLE_SIZE
-returns-then-tuple-gt-MAX_TUPLE_SIZE c = λ ledger name is.
-    slow_refuses_length c.args.self.now ledger name is c.args.space c.args.tuple.now c.requires c.if-space-ne-TEST_SPACE.false c.if-tuple-gt-MAX_TUPLE_SIZE.true
 
 pub returns-in-Err : goal.returns-in-Err
 returns-in-Err c = λ ledger name is.
-    slow_refuses_fault c.args.self.now ledger name is c.args.space c.args.tuple.now c.requires c.if-space-ne-TEST_SPACE.false c.if-tuple-gt-MAX_TUPLE_SIZE.false
-    c.in-Err.fault c.in_ok-no_key-in-Err.field-0 c.fault_refusal.result c.in_ok-no_key-in-Err.ensures c.fault_refusal.ensures (c.in-Err.ensures is.keeps.parts)
+    slow_refuses c.args.self.now ledger name is c.args.space c.args.tuple.now c.requires c.in-Err.refusal
+    (rw c.in-Err.is at (c.in_ok-keyed.ensures (ledger_state ledger) is.keeps))
 
 pub returns-in_default : goal.returns-in_default
 returns-in_default c = λ ledger name is.
-    let (key, keyed, fit, coded, copied) = c.in-Ok.ensures is.keeps.parts in
-    slow_used_up c.args.self.now ledger name is c.args.space c.args.tuple.now c.requires c.if-space-ne-TEST_SPACE.false c.if-tuple-gt-MAX_TUPLE_SIZE.false
-    key keyed c.in_default.ensures
+    slow_used_up c.args.self.now ledger name is c.args.space c.args.tuple.now c.requires c.in-Ok.keyed
+    (rw c.in-Ok.is at (c.in_ok-keyed.ensures (ledger_state ledger) is.keeps)) c.in_default.ensures.0
 
 pub returns : goal.returns
 returns c = λ ledger name is.
-    let (key, keyed, fit, coded, copied) = c.in-Ok.ensures is.keeps.parts in
-    slow_replaces c.args.self.now ledger name is c.args.space c.args.tuple.now c.requires c.if-space-ne-TEST_SPACE.false c.if-tuple-gt-MAX_TUPLE_SIZE.false
-    key keyed _ c.in-Ok.keyed.key c.in-Ok.keyed.tuple c.args.tuple.now c.push.new.self c.in-Some.field-0 fit coded copied refl
-    (c.in_ok-push.ensures ∙ ap (λ front. front ++ c.args.tuple.now ∷ []) c.new-tuples.ensures) refl refl c.in_ok-put.ensures
+    let slow = c.args.self.now in
+    let tuple = c.args.tuple.now in
+    let keyed = c.in-Ok.keyed in
+    let before = ledger_state ledger in
+    let replaces = rw c.in-Ok.is at (c.in_ok-keyed.ensures before is.keeps) in
+    let new : Slow = record { alloc = slow.alloc; spaces = c.put_into.new.spaces; clock = c.next_lsn.new.clock; ids = slow.ids } in
+    slow_replaces slow ledger name is c.args.space tuple c.requires keyed replaces new c.push.new.self c.in-Some.field-0
+    (c.in_ok-push.ensures ∙ ap (λ front. front ++ tuple ∷ []) c.new-tuples.ensures) refl
+    (c.in_ok-put_into.ensures.ok (schema_of before) before replaces.schema replaces.key is.keeps replaces.described
+    (key_is_whole before c.args.space.0 tuple keyed replaces) replaces.fit replaces.bytes)
     c.in-Some.ensures.0 c.in-Some.ensures.1

@@ -1,6 +1,6 @@
-use Rattle.std.proofs.Common.{◌≡◌, refl, sym, ap, ◌∙◌, subst}
-use Rattle.mx_model.specs.State.{key_in, test_parts}
-use Rattle.mx_model.specs.statements.Replace.{replace_answer_in, replaced}
+use Rattle.std.proofs.Common.{refl, sym, ◌∙◌}
+use Rattle.mx_schema.specs.Catalogues.{schema_of}
+use Rattle.mx_model.proofs.PutLaws.{key_is_whole}
 use Rattle.mx_recover.proofs.ReplayLaws.{taken_row, refused_row, refused_told, told_refusal, was_ok}
 use Rattle.mx_recover.proofs.replay.Recovered.take_tx.Goals as goal
 
@@ -15,7 +15,8 @@ pub returns : goal.returns
 returns c = λ before stands.
     let tx = c.args.tx.now in
     let followed = was_ok _ _ c.follow.result (sym c.is_err.ensures.value ∙ c.if-is_err.false) c.follow.ensures in
-    let (there, put, (key, keyed, fit, coded, copied)) = c.in-Ok.ensures before.state stands.holds in
-    taken_row c.args.self.now _ before stands tx.replica tx.lsn tx.tuple.now c.in-Ok.keyed.tuple c.requires.replica.0 c.requires.replica.1
-    followed.0 followed.1 refl (subst (λ space. replace_answer_in before.state space tx.tuple.now ≡ replaced space tx.tuple.now) there put) copied
-    (c.in_ok-replace.ensures.ok before.state key stands.holds (ap (key_in test_parts) copied ∙ keyed) fit coded) tx.space there
+    let put = c.in-Ok.ensures before.state stands.holds in
+    taken_row c.args.self.now _ before stands tx.replica tx.lsn tx.space tx.tuple.now c.in-Ok.keyed c.requires.replica.0 c.requires.replica.1
+    followed.0 followed.1 refl put
+    (c.in_ok-put.ensures.ok (schema_of before.state) before.state put.schema put.key stands.holds put.described
+    (key_is_whole before.state tx.space tx.tuple.now c.in-Ok.keyed put) put.fit put.bytes)

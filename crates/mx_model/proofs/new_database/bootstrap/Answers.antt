@@ -1,0 +1,23 @@
+use Rattle.std.proofs.Common.{◌≡◌, List, [], ◌∷◌, sym, subst}
+use Rattle.std.specs.FinMap.{empty, get}
+use Rattle.mx_key.specs.declared.part.Part.{Part}
+use Rattle.mx_schema.specs.Bootstrap.{first_state, part_of_numbers, part_of_texts, settings}
+use Rattle.mx_schema.specs.Catalogues.{schema_of}
+use Rattle.mx_schema.specs.State.{space_rows, index_rows}
+use Rattle.mx_schema.specs.Stored.{IsKeyedBy}
+use Rattle.mx_schema.proofs.StateLaws.{holds_described}
+use Rattle.mx_schema.proofs.FirstStateLaws.{settings_keyed, space_rows_keyed, index_rows_keyed}
+use Rattle.mx_model.proofs.new_database.bootstrap.Goals as goal
+
+pub returns : goal.returns
+unfolding first_state
+returns c =
+    let schemas = schema_of first_state in
+    let described = holds_described (get c.in_ok-catalogue.catalogue) schemas c.in_ok-state.state empty c.in_ok-catalogue.ensures c.in_ok-state.ensures in
+    let texts : c.in_ok-text.text ≡ part_of_texts 0 ∷ [] = rw c.part.ensures at c.in_ok-text.ensures in
+    let numbers : c.in_ok-number.number ≡ part_of_numbers 0 ∷ [] = rw c.part-2.ensures at c.in_ok-number.ensures in
+    let pairs : c.in_ok-numbers.numbers ≡ part_of_numbers 0 ∷ part_of_numbers 1 ∷ [] = rw (c.part-3.ensures, c.part-4.ensures) at c.in_ok-numbers.ensures in
+    let first = c.in_ok-put_rows.ensures schemas empty described (subst (λ (parts : List Part). IsKeyedBy parts (schemas settings)) (sym texts) settings_keyed) in
+    let second = c.in_ok-put_rows-2.ensures schemas _ first (subst (λ (parts : List Part). IsKeyedBy parts (schemas space_rows)) (sym numbers) space_rows_keyed) in
+    let third = c.in_ok-put_rows-3.ensures schemas _ second (subst (λ (parts : List Part). IsKeyedBy parts (schemas index_rows)) (sym pairs) index_rows_keyed) in
+    rw (texts, numbers, pairs, c.first_setting_rows.ensures, c.first_space_rows.ensures, c.first_index_rows.ensures) at third

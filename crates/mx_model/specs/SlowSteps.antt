@@ -1,0 +1,41 @@
+-- Only private functions and proofs need these: what the plain slow program makes of a state's tables, and what it gathers.
+use Rattle.std.specs.Prelude.{◌≡◌, ◌⊎◌, ◌<◌, ◌≤◌, ⊤, ℕ, List, map, Option, Some, None, Result, MatchResult}
+use Rattle.mx_key.specs.Keys.{Key}
+use Rattle.mx_schema.specs.declared.pick.Pick.{Pick}
+use Rattle.mx_schema.specs.declared.pick.SelectStop.{SelectStop}
+use Rattle.mx_schema.specs.declared.pick.SelectStop.TheVariants.{TooLong, NoMemory}
+use Rattle.mx_schema.specs.declared.schema.Schema.{Schema}
+use Rattle.mx_schema.specs.declared.state.Table.{Table}
+use Rattle.mx_schema.specs.Picks.{Indexed, total_bytes, max_result_size}
+use Rattle.mx_schema.specs.Scans.{picked_of}
+use Rattle.mx_schema.specs.Selecting.{IsStopped}
+use Rattle.mx_schema.specs.State.{State, tuples_in}
+use Rattle.mx_schema.specs.Stored.{StoredTuple, stored_list}
+use Rattle.mx_model.specs.declared.slow.SlowSpace.{SlowSpace}
+use Rattle.mx_model.specs.Slow.{KeepsSpace}
+
+-- there are these spaces with the tuples of a state, where spaces are described so
+abbrev pub KeepsBy : (schemas : ℕ → Option Schema) → (spaces : ℕ → Option SlowSpace) → State → Type 0
+KeepsBy schemas spaces state = (space : ℕ) → KeepsSpace (schemas space) (spaces space) (tuples_in state space)
+
+-- a space has what a table has
+abbrev pub MovesTable : Table → SlowSpace → Type 0
+MovesTable table space = (space.schema ≡ table.schema) × (stored_list space.tuples.items ≡ table.tuples.entries)
+
+abbrev pub IsMoved : Option Table → Option SlowSpace → Type 0
+IsMoved None None = ⊤
+IsMoved None (Some space) = ⊥
+IsMoved (Some table) None = ⊥
+IsMoved (Some table) (Some space) = MovesTable table space
+
+-- these are the tuples of these entries, or why they weren't gathered
+abbrev pub Gathers : List StoredTuple → Result (List (List ℕ)) SelectStop → Type 0
+Gathers found result = MatchResult result
+    (λ tuples. (tuples ≡ map (λ entry. entry.1) found) × (total_bytes tuples ≤ max_result_size))
+    (λ stop. IsStopped stop found)
+
+-- these are the tuples that are picked of an index's entries by this key, or why there are none
+abbrev pub Finds : List Indexed → Pick → Key → Result (List (List ℕ)) SelectStop → Type 0
+Finds all wanted key result = MatchResult result
+    (λ tuples. (tuples ≡ (picked_of all wanted key).tuples) × (total_bytes tuples ≤ max_result_size))
+    (λ stop. ((stop ≡ TooLong) × (max_result_size < total_bytes (picked_of all wanted key).tuples)) ⊎ (stop ≡ NoMemory))
