@@ -2,7 +2,9 @@
 
 use crate::arguments::Arguments;
 use crate::fault::{Fault, Stop};
-use crate::{base, frame, key, msgpack, reply, request, row, tuple, vclock, xlog};
+use crate::{
+    base, frame, hash, key, msgpack, reply, request, row, schema, tuple, update, vclock, xlog,
+};
 use std::alloc::{AllocError, Global};
 
 /// The answer to the call in a line of this number, or what is wrong with it, as a whole line.
@@ -38,6 +40,9 @@ fn called(name: &str, arguments: &mut Arguments<'_>) -> Result<String, AllocErro
         "row" => row::answer(call, arguments),
         "request" => request::answer(call, arguments),
         "reply" => reply::answer(call, arguments),
+        "schema" => schema::answer(call, arguments),
+        "update" => update::answer(call, arguments),
+        "hash" => hash::answer(call, arguments),
         _ => no_call(arguments),
     }
 }

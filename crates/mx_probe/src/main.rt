@@ -7,12 +7,15 @@ mod base;
 mod display;
 mod fault;
 mod frame;
+mod hash;
 mod key;
 mod msgpack;
 mod reply;
 mod request;
 mod row;
+mod schema;
 mod tuple;
+mod update;
 mod vclock;
 mod xlog;
 
