@@ -36,6 +36,7 @@ from iproto import (  # noqa: E402
 )
 
 LEFT_WIDTH = 50
+RIGHT_WIDTH = 50
 
 
 class Said:
@@ -69,6 +70,8 @@ def conversation():
         asks(1, 8, "SELECT", space=513, key=[1]),
         asks(1, 9, "SELECT", space=512),
         asks(1, 10, "SELECT", space=512, key=[1, 2]),
+        asks(1, 11, "SELECT", space=281, iterator="ALL", key=[]),
+        asks(1, 12, "SELECT", space=281, index=2, key=["test"]),
         Said(1, "1   closes the connection", kind=CLOSE),
         Said(2, "2.4 a PING with c1, which is no MessagePack", packet({TYPE: 64, SYNC: 4}, Spelled(b"\xc1"))),
         asks(2, 5, "PING"),
@@ -88,19 +91,23 @@ def answers_in(connection, content, greeted):
         yield f"{connection}   greeting {instance}", content[:GREETING_BYTES]
         at = GREETING_BYTES
     for one in packets_in(content[at:]):
-        yield line_of(connection, read_reply(one)), one
+        first, *others = lines_of(connection, read_reply(one))
+        yield first, one
+        yield from ((other, b"") for other in others)
 
 
-def line_of(connection, reply):
-    """A reply as a line."""
+def lines_of(connection, reply):
+    """A reply as lines: one, or one more for each tuple where they are too many for that."""
     head = f"{connection}.{reply.sync}"
     if reply.error is not None:
-        return f"{head} error {reply.error}: {reply.body[ERROR]}"
+        return [f"{head} error {reply.error}: {reply.body[ERROR]}"]
     if DATA in reply.body:
-        tuples = reply.body[DATA]
-        return f"{head} OK, {len(tuples)} tuple{'' if len(tuples) == 1 else 's'}: {', '.join(map(repr, tuples))}".rstrip(": ")
+        tuples = list(map(repr, reply.body[DATA]))
+        counted = f"{head} OK, {len(tuples)} tuple{'' if len(tuples) == 1 else 's'}"
+        line = f"{counted}: {', '.join(tuples)}".rstrip(": ")
+        return [line] if len(line) <= RIGHT_WIDTH else [counted, *(f"    {one}" for one in tuples)]
     names = {key: name for name, key in KEYS.items()}
-    return ", ".join([f"{head} OK", *(f"{names[key]} {value}" for key, value in reply.body.items())])
+    return [", ".join([f"{head} OK", *(f"{names[key]} {value}" for key, value in reply.body.items())])]
 
 
 class Server:

@@ -253,6 +253,10 @@ def client_shows_a_conversation():
         "1.8 error 36: Space 513 does not exist",
         "1.9 error 69: Missing key 0x20",
         "1.10 error 19: Key of 2 parts, index of 1",
+        "1.11 OK, 7 tuples",
+        "    [272, 1, '_schema', 'memtx', 0, {}, []]",
+        "    [512, 1, 'test', 'memtx', 0, {}, []]",
+        "1.12 OK, 1 tuple",
         "2.4 error 20: Packet is not MessagePack",
         "2   the server closes the connection",
     ):

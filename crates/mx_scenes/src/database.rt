@@ -2,7 +2,7 @@
 
 use mx_base::{ConnId, IndexId, Refusal, SpaceId, StreamId, TxnName, code_of, text_of};
 use mx_engine::{Answer, Engine};
-use mx_model::{Ids, Reply, Slow, TEST_SPACE, bootstrap};
+use mx_model::{Ids, Reply, Slow, bootstrap};
 use mx_msgpack::{Bytes, Tuples};
 use mx_request::Request;
 use mx_vclock::Vclock;
@@ -13,6 +13,9 @@ pub(crate) const NAME: TxnName = TxnName {
     conn: ConnId(1),
     stream: StreamId(0),
 };
+
+/// The space that a new database has for its users.
+pub(crate) const TEST_SPACE: u32 = 512;
 
 // The numbers of iterators.
 pub(crate) const EQ: u8 = 0;
@@ -39,6 +42,8 @@ pub(crate) enum Asked<'a> {
     Pick(u8, &'a [u8], u32, u32),
     /// The space, the index and the key.
     Select(u32, u32, &'a [u8]),
+    /// The space, the index, the iterator and the key.
+    Scan(u32, u32, u8, &'a [u8]),
     /// The space and the tuple.
     Replace(u32, &'a [u8]),
     /// The tuple.
@@ -65,6 +70,7 @@ impl<'a> Asked<'a> {
     fn content(self) -> &'a [u8] {
         match self {
             Asked::Pick(_, key, _, _) | Asked::Select(_, _, key) => key,
+            Asked::Scan(_, _, _, key) => key,
             Asked::Update(key) | Asked::Delete(_, key) => key,
             Asked::Replace(_, tuple) | Asked::Insert(tuple) | Asked::Upsert(tuple) => tuple,
             _ => &[],
@@ -97,6 +103,14 @@ fn request_with(content: Bytes, operations: Bytes, asked: Asked<'_>) -> Request 
             limit: 10,
             offset: 0,
             iterator: EQ,
+            key: content,
+        },
+        Asked::Scan(space, index, iterator, _) => Request::Select {
+            space: SpaceId(space),
+            index: IndexId(index),
+            limit: u32::MAX,
+            offset: 0,
+            iterator,
             key: content,
         },
         Asked::Replace(space, _) => Request::Replace {
@@ -228,7 +242,7 @@ impl Database {
         clock: &str,
         me: u8,
     ) -> Result<Database, AllocError> {
-        let slow = Slow::new(alloc, clock_of(rt, clock), ids_of(me))?;
+        let slow = Slow::new(alloc, bootstrap(alloc)?, clock_of(rt, clock), ids_of(me))?;
         Ok(Database::Slow(slow))
     }
 

@@ -170,7 +170,8 @@ fn damage_is_told_with_its_place(rt: HostRuntime) -> Result<(), Fail> {
 
 /// The block of a REPLACE of [1, bytes], up to those bytes, of which there are 1,048,569. Such a tuple
 /// has 7 bytes more, which is as many as a tuple may have.
-const LONGEST: &[u8] = b"\xd5\xba\x0b\xab\xce\x00\x10\x00\x0d\0\xce\x95\x25\xf3\x10\xa3\0\0\0\
+const MAX_TUPLE_BLOCK: &[u8] =
+    b"\xd5\xba\x0b\xab\xce\x00\x10\x00\x0d\0\xce\x95\x25\xf3\x10\xa3\0\0\0\
     \x83\x00\x03\x02\x01\x03\x01\x82\x10\xcd\x02\x00\x21\x92\x01\xc6\x00\x0f\xff\xf9";
 
 /// The same of one byte more.
@@ -192,6 +193,6 @@ fn check_long(
 #[test]
 fn a_tuple_of_a_journal_may_have_a_mebibyte(rt: HostRuntime) -> Result<(), Fail> {
     let damaged = "Damaged 00000000000000000000.xlog 118 row";
-    check_long(&rt, rt.alloc(), LONGEST, 1_048_569, "Ok")?;
+    check_long(&rt, rt.alloc(), MAX_TUPLE_BLOCK, 1_048_569, "Ok")?;
     check_long(&rt, rt.alloc(), TOO_LONG, 1_048_570, damaged)
 }

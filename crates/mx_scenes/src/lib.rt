@@ -23,6 +23,8 @@ mod replace;
 #[cfg(test)]
 mod requests;
 #[cfg(test)]
+mod schema;
+#[cfg(test)]
 mod select;
 #[cfg(test)]
 mod statuses;

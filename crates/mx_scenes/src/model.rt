@@ -1,10 +1,19 @@
-//! The laws of the model, which are calls without arguments.
+//! The laws of the model and of the schema, which are calls without arguments.
 
-use mx_model::{a_directory_stands_once, commits_are_sound, replies_are_determined};
+use mx_model::{
+    a_directory_stands_once, commits_are_sound, replies_are_determined, rows_make_their_changes,
+};
+use mx_schema::{
+    a_catalogue_is_that_of_its_state, a_new_database_has_its_catalogue, rows_make_one_catalogue,
+};
 
 #[test]
 fn laws_hold(_rt: HostRuntime) {
     a_directory_stands_once();
     commits_are_sound();
     replies_are_determined();
+    rows_make_their_changes();
+    a_new_database_has_its_catalogue();
+    rows_make_one_catalogue();
+    a_catalogue_is_that_of_its_state();
 }

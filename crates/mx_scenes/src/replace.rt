@@ -8,8 +8,10 @@ use crate::harness::{
     check_exchanges, check_refusals, directory_with, joined, new_directory, run_on,
 };
 use mx_base::SpaceId;
-use mx_model::{MAX_TUPLE_SIZE, State, bootstrap};
+use mx_model::{bootstrap, check_replace};
 use mx_msgpack::Bytes;
+use mx_schema::State;
+use mx_tuple::MAX_TUPLE_SIZE;
 use std::alloc::{AllocError, Global};
 use std::process::Abort;
 use std::test::Fail;
@@ -21,10 +23,10 @@ pub(crate) fn put(
     state: &mut State,
     tuple: &[u8],
 ) -> Result<(), AllocError> {
-    let checked = state.check_replace(alloc, SpaceId(512), tuple);
+    let checked = check_replace(state, alloc, SpaceId(512), tuple);
     let keyed = checked.expect(rt, "no key");
     assert_eq!(rt; keyed.tuple.as_slice(), tuple);
-    state.replace(keyed)
+    state.put(SpaceId(512), keyed)
 }
 
 /// The state of a new database into which these tuples were put.
@@ -132,7 +134,7 @@ fn check_fault(
     tuple: &[u8],
     told: Told<'_>,
 ) -> Result<(), AllocError> {
-    let refused = state.check_replace(alloc, SpaceId(512), tuple).err();
+    let refused = check_replace(state, alloc, SpaceId(512), tuple).err();
     let refusal = refused.expect(rt, "the tuple has a key");
     check_refusal(rt, alloc, &refusal, told)
 }
@@ -161,7 +163,7 @@ fn tuple_with(alloc: Global, prefix: &[u8], after: usize) -> Result<Bytes, Alloc
 }
 
 /// A tuple of exactly 1,048,576 bytes: a key below 128, and 1,048,569 bytes, which is 0xffff9.
-pub(crate) fn longest_tuple(alloc: Global, key: u8) -> Result<Bytes, AllocError> {
+pub(crate) fn tuple_of_maximum_size(alloc: Global, key: u8) -> Result<Bytes, AllocError> {
     tuple_with(alloc, &[0x92, key, 0xc6, 0x00, 0x0f, 0xff, 0xf9], 1_048_569)
 }
 
@@ -174,7 +176,7 @@ fn too_long(alloc: Global) -> Result<Bytes, AllocError> {
 fn put_long(rt: &impl Abort, alloc: Global, database: &mut Database) -> Result<(), AllocError> {
     let with_key = tuple_with(alloc, b"\x92\x01\xc6\0\x0f\xff\xfa", 1_048_570)?;
     let without_key = too_long(alloc)?;
-    let longest = longest_tuple(alloc, 1)?;
+    let longest = tuple_of_maximum_size(alloc, 1)?;
     let missing = Told::Refused(36, b"Space 511 does not exist");
     let steps = [
         (Asked::Replace(512, with_key.as_slice()), TOO_LONG),

@@ -7,11 +7,13 @@ use crate::database::{
 use crate::harness::{
     Exchange, PUT, check_refusals, found, joined, new_directory, packet, reply, talk,
 };
-use crate::replace::{longest_tuple, put, state_of};
+use crate::replace::{put, state_of, tuple_of_maximum_size};
+use mx_base::{IndexId, SpaceId};
 use mx_fake::MemoryDir;
-use mx_key::{IterKind, KeyRange, comparable};
-use mx_model::{Pick, Reply, SelectStop, State, bootstrap, iterator_of, misfit_refusal};
+use mx_key::{IterKind, KeyRange, comparable, misfit};
+use mx_model::{Reply, bootstrap, iterator_of, misfit_refusal};
 use mx_msgpack::{Bytes, Tuples, Value, Values};
+use mx_schema::{IndexDef, Pick, SelectFault, State, Table, array_or_empty};
 use std::alloc::{AllocError, Global};
 use std::process::Abort;
 use std::test::Fail;
@@ -90,7 +92,7 @@ const FOUR_BYTES: &[u8] = b"\x91\xcf\0\0\0\x01\0\0\0\0";
 
 const HALF: &[u8] = b"\x91\xcf\x80\0\0\0\0\0\0\0";
 
-const MOST: &[u8] = b"\x91\xcf\xff\xff\xff\xff\xff\xff\xff\xff";
+const MAX_KEY: &[u8] = b"\x91\xcf\xff\xff\xff\xff\xff\xff\xff\xff";
 
 // The names of all tuples, upwards and downwards, and of all keys of the tables.
 const UP: &[u8] = b"abcdefghijkl";
@@ -174,11 +176,11 @@ const AT_ENDS: &[Picked] = &[
     (EQ, ZERO, 0, 9, b"a", Some(b"a")),
     (GE, ZERO, 0, 3, b"abc", Some(b"ab1c")),
     (GT, ZERO, 0, 2, b"bc", Some(b"b1c")),
-    (GT, MOST, 0, 9, b"", Some(b"9")),
-    (GE, MOST, 0, 9, b"l", Some(b"l9")),
-    (REQ, MOST, 0, 9, b"l", Some(b"l")),
-    (LE, MOST, 0, 3, b"lkj", Some(b"j4k5l")),
-    (LT, MOST, 0, 1, b"k", Some(b"k5")),
+    (GT, MAX_KEY, 0, 9, b"", Some(b"9")),
+    (GE, MAX_KEY, 0, 9, b"l", Some(b"l9")),
+    (REQ, MAX_KEY, 0, 9, b"l", Some(b"l")),
+    (LE, MAX_KEY, 0, 3, b"lkj", Some(b"j4k5l")),
+    (LT, MAX_KEY, 0, 1, b"k", Some(b"k5")),
     (GE, HALF, 0, 9, b"kl", Some(b"k5l9")),
     (GT, HALF, 0, 9, b"l", Some(b"5l9")),
     (LT, HALF, 0, 2, b"ji", Some(b"ij4")),
@@ -242,14 +244,15 @@ fn check_pick(
     let (iterator, key, offset, limit, names, read) = *picked;
     let pick = Pick {
         iterator: iterator_of(iterator),
-        key,
+        key: array_or_empty(key),
         offset,
         limit,
     };
-    assert!(rt; state.misfit(key).is_none(), "at {pick:?}");
+    let (table, def) = test_index(rt, state);
+    assert!(rt; misfit(&def.key, key).is_none(), "at {pick:?}");
     let mut tuples = Tuples::new(alloc);
     let keys = state
-        .select(alloc, &pick, &mut tuples)
+        .select(alloc, SpaceId(512), table, def, &pick, &mut tuples)
         .expect(rt, "no tuples");
     check_tuples(rt, alloc, &pick, &tuples, names)?;
     check_read(rt, alloc, &pick, &keys, read)
@@ -498,6 +501,13 @@ fn read_only_nodes_refuse_the_same(rt: HostRuntime) -> Result<(), Fail> {
     Ok(play_at(&rt, rt.alloc(), "{}", 2, REFUSED)?)
 }
 
+/// The space `test` of a state, and its index.
+fn test_index<'a>(rt: &impl Abort, state: &'a State) -> (&'a Table, &'a IndexDef) {
+    let table = state.table(SpaceId(512)).expect(rt, "no space");
+    let def = table.schema().index(IndexId(0)).expect(rt, "no index");
+    (table, def)
+}
+
 /// Compares why a key doesn't fit with what a SELECT of it is told.
 fn check_misfit(
     rt: &impl Abort,
@@ -506,8 +516,9 @@ fn check_misfit(
     key: &[u8],
     told: Told<'_>,
 ) -> Result<(), AllocError> {
-    let misfit = state.misfit(key).expect(rt, "the key fits");
-    check_refusal(rt, alloc, &misfit_refusal(misfit), told)
+    let (_, def) = test_index(rt, state);
+    let misfit = misfit(&def.key, key).expect(rt, "the key fits");
+    check_refusal(rt, alloc, &misfit_refusal(def, misfit), told)
 }
 
 #[test]
@@ -522,9 +533,12 @@ fn state_tells_misfits(rt: HostRuntime) -> Result<(), Fail> {
     Ok(())
 }
 
-/// What is picked of sixteen tuples of 1,048,576 bytes and one of 2 bytes after them: an iterator, a
-/// key, an offset and a limit; how many tuples there are, or none where they are too long together.
-const OF_LONG_TUPLES: &[(u8, &[u8], u32, u32, Option<usize>)] = &[
+/// An iterator, a key, an offset and a limit; and how many tuples are picked, or none where they are too
+/// long together.
+type LongPick = (u8, &'static [u8], u32, u32, Option<usize>);
+
+/// What is picked of sixteen tuples of 1,048,576 bytes and one of 2 bytes after them.
+const OF_LONG_TUPLES: &[LongPick] = &[
     (GE, NO_KEY, 0, 16, Some(16)),
     (GE, NO_KEY, 0, 17, None),
     (LE, b"\x91\x20", 0, 99, None),
@@ -551,7 +565,7 @@ fn count_in(rt: &impl Abort, alloc: Global, reply: &Reply) -> Result<Option<usiz
 /// Puts the long tuples and the small one, and compares the replies.
 fn put_long(rt: &impl Abort, alloc: Global, database: &mut Database) -> Result<(), AllocError> {
     for key in 0..16 {
-        let tuple = longest_tuple(alloc, key)?;
+        let tuple = tuple_of_maximum_size(alloc, key)?;
         let asked = Asked::Replace(512, tuple.as_slice());
         expect(rt, alloc, database, asked, Told::Tuples(tuple.as_slice()))?;
     }
@@ -584,17 +598,26 @@ fn engine_bounds_results(rt: HostRuntime) -> Result<(), Fail> {
     Ok(ask_long(&rt, rt.alloc(), &mut database)?)
 }
 
-/// How many tuples a state picks, or none where they are too long together.
+/// How many tuples of the space `test` a state picks, or none where they are too long together.
 fn count_picked(
+    rt: &impl Abort,
     alloc: Global,
     state: &State,
-    pick: &Pick<'_>,
+    row: &LongPick,
 ) -> Result<Option<usize>, AllocError> {
+    let (iterator, key, offset, limit, _) = *row;
+    let pick = Pick {
+        iterator: iterator_of(iterator),
+        key: array_or_empty(key),
+        offset,
+        limit,
+    };
+    let (table, def) = test_index(rt, state);
     let mut tuples = Tuples::new(alloc);
-    match state.select(alloc, pick, &mut tuples) {
+    match state.select(alloc, SpaceId(512), table, def, &pick, &mut tuples) {
         Ok(_) => Ok(Some(tuples.len())),
-        Err(SelectStop::TooLong) => Ok(None),
-        Err(SelectStop::NoMemory) => Err(AllocError),
+        Err(SelectFault::TooLong) => Ok(None),
+        Err(SelectFault::Misfit(_)) | Err(SelectFault::NoMemory) => Err(AllocError),
     }
 }
 
@@ -602,7 +625,7 @@ fn count_picked(
 fn long_state(rt: &impl Abort, alloc: Global) -> Result<State, AllocError> {
     let mut state = bootstrap(alloc)?;
     for key in 0..16 {
-        let tuple = longest_tuple(alloc, key)?;
+        let tuple = tuple_of_maximum_size(alloc, key)?;
         put(rt, alloc, &mut state, tuple.as_slice())?;
     }
     put(rt, alloc, &mut state, SMALL)?;
@@ -613,15 +636,9 @@ fn long_state(rt: &impl Abort, alloc: Global) -> Result<State, AllocError> {
 fn state_bounds_results(rt: HostRuntime) -> Result<(), Fail> {
     let alloc = rt.alloc();
     let state = long_state(&rt, alloc)?;
-    for (iterator, key, offset, limit, count) in OF_LONG_TUPLES {
-        let pick = Pick {
-            iterator: iterator_of(*iterator),
-            key,
-            offset: *offset,
-            limit: *limit,
-        };
-        let counted = count_picked(alloc, &state, &pick)?;
-        assert_eq!(rt; counted, *count, "at {pick:?}");
+    for row in OF_LONG_TUPLES {
+        let counted = count_picked(&rt, alloc, &state, row)?;
+        assert_eq!(rt; counted, row.4, "at {row:?}");
     }
     Ok(())
 }
