@@ -39,8 +39,8 @@ use mx_key::{KeyFault, KeyRange, NoKey, misfit, range};
 use mx_msgpack::{Bytes, Tuples};
 use mx_request::Request;
 use mx_schema::{
-    INDEX_ROWS, IndexDef, Keyed, MAX_RESULT_SIZE, Pick, SHOWN_INDEX_ROWS, SHOWN_SPACE_ROWS,
-    SPACE_ROWS, Schema, SelectStop, State, Table, index_tuple, key_tuple,
+    IndexDef, Keyed, MAX_RESULT_SIZE, Pick, Schema, SelectStop, State, Table, index_tuple,
+    key_tuple, source_of,
 };
 use mx_tuple::MAX_TUPLE_SIZE;
 use mx_vclock::Vclock;
@@ -155,7 +155,7 @@ impl Slow {
     fn tuples_of(&self, space: SpaceId) -> &[Keyed]
         ensures { (state : plain.State) → KeepsTuples self.now state → StoresTuples (stored_list result.now) (tuples_in state (source_of space.0)) }
     {
-        match self.spaces.get(&source_of(space)) {
+        match self.spaces.get(&source_of(space).0) {
             Some(found) => found.tuples.as_slice(),
             None => &[],
         }
@@ -235,17 +235,6 @@ fn move_table(alloc: Global, table: Table) -> Result<SlowSpace, AllocError>
         tuples.push(Keyed { key, tuple })?;
     }
     Ok(SlowSpace { schema, tuples })
-}
-
-/// The space whose rows a space shows: its own, or those of another one.
-fn source_of(space: SpaceId) -> u32
-    ensures { result ≡ source_of space.0 }
-{
-    match space.0 {
-        SHOWN_SPACE_ROWS => SPACE_ROWS,
-        SHOWN_INDEX_ROWS => INDEX_ROWS,
-        own => own,
-    }
 }
 
 fn no_key(fault: KeyFault) -> Result<NoKey, AllocError>

@@ -10,6 +10,7 @@ mod items;
 mod laws;
 mod lookup;
 mod maps;
+mod projections;
 mod readers;
 mod size;
 mod tuples;
@@ -30,6 +31,7 @@ pub use laws::{
 };
 pub use lookup::values_at;
 pub use maps::{PairRef, PairsRef, first_pair};
+pub use projections::{array_in, bool_in, int_in, map_in, text_in};
 pub use readers::{number_at, unsigned_32_at, unsigned_at, unsigned_in};
 pub use size::{MAX_LENGTH, skip};
 pub use tuples::Tuples;

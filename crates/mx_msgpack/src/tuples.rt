@@ -1,7 +1,8 @@
 //! Tuples in a row, which a contract sees as a list of lists of numbers.
 
-ghost use Rattle.std.specs.Prelude.{◌≡◌, [], ◌∷◌, ◌++◌, length, IsTrue, MatchResult, ◌↔◌};
-ghost use Rattle.std.specs.List.{concat};
+ghost use Rattle.std.specs.Prelude.{◌≡◌, [], ◌∷◌, ◌++◌, length, map, IfOk, IsTrue, MatchResult, ◌↔◌};
+ghost use Rattle.std.specs.List.{concat, sum};
+ghost use Rattle.mx_msgpack.specs.Pieces.{pieces};
 
 use std::alloc::{AllocError, Global};
 use std::marker::Model;
@@ -64,6 +65,13 @@ impl Tuples {
         self.bytes.as_slice()
     }
 
+    /// The tuples in place, in order.
+    pub fn slices(&self, alloc: Global) -> Result<Vec<&[u8]>, AllocError>
+        ensures { IfOk result (λ slices. map (λ slice. slice.now) slices.items ≡ self.now) }
+    {
+        cut(alloc, self.sizes.as_slice(), self.bytes.as_slice())
+    }
+
     /// How many tuples there are.
     pub fn len(&self) -> usize
         ensures { result ≡ length self.now }
@@ -77,4 +85,19 @@ impl Tuples {
     {
         self.len() == 0
     }
+}
+
+/// The bytes in pieces of these sizes, in place.
+fn cut<'a>(alloc: Global, sizes: &[usize], bytes: &'a [u8]) -> Result<Vec<&'a [u8]>, AllocError>
+    requires { sum sizes.now ≡ length bytes.now }
+    ensures { IfOk result (λ slices. map (λ slice. slice.now) slices.items ≡ pieces sizes.now bytes.now) }
+{
+    let mut slices = Vec::with_capacity(alloc, sizes.len())?;
+    let mut rest = bytes;
+    for size in sizes {
+        let (slice, behind) = rest.split_at(*size);
+        slices.push(slice)?;
+        rest = behind;
+    }
+    Ok(slices)
 }

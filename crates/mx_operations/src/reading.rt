@@ -1,7 +1,7 @@
 //! Reading an operation: an operator, a field number, and the operator's arguments.
 
 ghost use Rattle.std.specs.Prelude.{◌≡◌, ◌≤◌};
-ghost use Rattle.std.specs.Option.{option_and_then, option_copied, option_map};
+ghost use Rattle.std.specs.Option.{option_and_then, option_map};
 ghost use Rattle.mx_msgpack.specs.Items.{values_from};
 ghost use Rattle.mx_msgpack.specs.Projections.{as_int, as_text, first_as};
 ghost use Rattle.mx_msgpack.specs.Readers.{unsigned_in};
@@ -13,7 +13,7 @@ ghost use Rattle.mx_operations.specs.Views.{operation_view};
 use crate::fault::ShapeFault;
 use crate::operation::Operation;
 use crate::operator::{Operator, operator_of};
-use mx_msgpack::{Items, ValueRef, array_of, parted, read_ref, unsigned_in};
+use mx_msgpack::{Items, array_of, int_in, parted, text_in, unsigned_in};
 
 /// The operation that these bytes spell.
 ///
@@ -131,24 +131,6 @@ fn letter_in(value: &[u8]) -> Option<u8>
 {
     match text_in(value)? {
         [letter] => Some(*letter),
-        _ => None,
-    }
-}
-
-fn text_in(value: &[u8]) -> Option<&[u8]>
-    ensures { option_copied result ≡ first_as as_text value.now }
-{
-    match read_ref(value) {
-        Ok((ValueRef::Str(text), _)) => Some(text),
-        _ => None,
-    }
-}
-
-fn int_in(value: &[u8]) -> Option<i128>
-    ensures { result ≡ first_as as_int value.now }
-{
-    match read_ref(value) {
-        Ok((ValueRef::Int(number), _)) => Some(number),
         _ => None,
     }
 }

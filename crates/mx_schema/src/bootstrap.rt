@@ -7,7 +7,7 @@ ghost use Rattle.mx_schema.specs.RowParts.{is_among};
 ghost use Rattle.mx_schema.specs.Bootstrap.{first_indexes, first_settings, first_spaces, rows_of};
 ghost use Rattle.mx_schema.specs.SchemaChecks.{IsOneOf};
 
-use crate::projections::is_text;
+use crate::names::is_text;
 use mx_msgpack::{Bytes, ReadBad, Tuples, read_value, write_value};
 use std::alloc::{AllocError, Global};
 

@@ -5,9 +5,9 @@ ghost use Rattle.std.specs.Option.{option_copied, option_map};
 ghost use Rattle.mx_msgpack.specs.Items.{values_from};
 ghost use Rattle.mx_schema.specs.SpaceRows.{entries_among, entry_in, field_kind_in, field_kind_of, format_in, nullable_in};
 
-use crate::projections::{array_in, bool_in, is_text, map_in, text_in};
+use crate::names::is_text;
 use crate::text_map::values_of;
-use mx_msgpack::{Bytes, Items, parted};
+use mx_msgpack::{Bytes, Items, array_in, bool_in, map_in, parted, text_in};
 use mx_tuple::{FieldKind, FormatEntries, FormatEntry};
 use std::alloc::{AllocError, Global};
 

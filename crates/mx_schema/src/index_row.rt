@@ -7,9 +7,10 @@ ghost use Rattle.mx_schema.specs.RowParts.{kind_in, options_in};
 
 use crate::index_def::{IndexDef, IndexKind, IndexRow};
 use crate::part_row::parts_in;
-use crate::projections::{bool_in, map_in, name_in, number_up_to, text_in};
+use crate::names::{name_in, number_up_to};
 use crate::text_map::values_of;
 use mx_base::{IndexId, Name, SpaceId};
+use mx_msgpack::{bool_in, map_in, text_in};
 use mx_tuple::Tuple;
 use std::alloc::{AllocError, Global};
 

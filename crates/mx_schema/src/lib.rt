@@ -3,17 +3,17 @@
 
 mod bootstrap;
 mod catalogue;
+mod catalogue_rows;
 mod checks;
 mod fault;
 mod format_row;
-mod from_rows;
 mod index_def;
 mod index_row;
 mod keyed;
 mod laws;
+mod names;
 mod part_row;
 mod pick;
-mod projections;
 mod schema;
 mod selection;
 mod settings;
@@ -25,8 +25,8 @@ mod text_map;
 
 pub use bootstrap::{first_index_rows, first_setting_rows, first_space_rows};
 pub use catalogue::Catalogue;
+pub use catalogue_rows::{from_row_slices, from_rows};
 pub use fault::SchemaFault;
-pub use from_rows::from_row_slices;
 pub use index_def::{IndexDef, IndexDefs, IndexKind, IndexRow};
 pub use index_row::index_of_row;
 pub use keyed::{Keyed, array_or_empty, index_tuple, key_array, key_tuple};
@@ -39,4 +39,4 @@ pub use settings::is_leader;
 pub use space_def::SpaceDef;
 pub use space_row::space_of_row;
 pub use spaces::{CLUSTER, INDEX_ROWS, SETTINGS, SHOWN_INDEX_ROWS, SHOWN_SPACE_ROWS, SPACE_ROWS};
-pub use state::{State, Table};
+pub use state::{State, Table, source_of};

@@ -8,10 +8,10 @@ ghost use Rattle.mx_schema.specs.IndexRows.{part_in_array, part_in_map, part_kin
 ghost use Rattle.mx_schema.specs.SpaceRows.{is_set};
 ghost use Rattle.mx_schema.specs.TextMaps.{text_pairs_from};
 
-use crate::projections::{array_in, bool_in, is_text, number_up_to, text_in};
+use crate::names::{is_text, number_up_to};
 use crate::text_map::values_of;
 use mx_key::{KeyDef, Part, PartKind};
-use mx_msgpack::{Items, PairsRef, ValueRef, parted, read_ref};
+use mx_msgpack::{Items, PairsRef, ValueRef, array_in, bool_in, parted, read_ref, text_in};
 use std::alloc::{AllocError, Global};
 
 /// The most parts that an index may have.

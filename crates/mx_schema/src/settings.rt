@@ -5,8 +5,8 @@ ghost use Rattle.std.specs.Option.{option_copied};
 ghost use Rattle.mx_msgpack.specs.Items.{items_of};
 ghost use Rattle.mx_schema.specs.Settings.{first_text, is_leader};
 
-use crate::projections::{is_text, text_in};
-use mx_msgpack::{array_of, parted};
+use crate::names::is_text;
+use mx_msgpack::{array_of, parted, text_in};
 
 /// Whether a tuple is the setting that says which node may be written.
 pub fn is_leader(tuple: &[u8]) -> bool

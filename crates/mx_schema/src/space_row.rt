@@ -8,11 +8,11 @@ ghost use Rattle.mx_schema.specs.TextMaps.{text_pairs_in};
 
 use crate::format_row::format_in;
 use crate::part_row::is_set;
-use crate::projections::{is_text, map_in, name_in, number_up_to, text_in};
+use crate::names::{is_text, name_in, number_up_to};
 use crate::space_def::SpaceDef;
 use crate::text_map::values_of;
 use mx_base::{Name, SpaceId};
-use mx_msgpack::unsigned_in;
+use mx_msgpack::{map_in, text_in, unsigned_in};
 use mx_tuple::{Format, Tuple};
 use std::alloc::{AllocError, Global};
 

@@ -155,7 +155,7 @@ impl State {
 }
 
 /// The space whose tuples a space has: its own, or those whose rows it shows.
-fn source_of(space: SpaceId) -> SpaceId
+pub fn source_of(space: SpaceId) -> SpaceId
     ensures { result.0 ≡ source_of space.0 }
 {
     match space.0 {

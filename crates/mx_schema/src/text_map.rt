@@ -5,8 +5,8 @@ ghost use Rattle.std.specs.Option.{option_copied};
 ghost use Rattle.mx_schema.specs.Lookups.{noted_text};
 ghost use Rattle.mx_schema.specs.TextMaps.{text_pairs_from, value_of_key};
 
-use crate::projections::{is_text, text_in};
-use mx_msgpack::{PairsRef, parted};
+use crate::names::is_text;
+use mx_msgpack::{PairsRef, parted, text_in};
 
 /// A pair of a map.
 #[derive(Clone, Copy)]

@@ -7,7 +7,7 @@ ghost use Rattle.mx_update.specs.Updates.{field_number, field_text};
 ghost use Rattle.mx_update.specs.Views.{field_view};
 
 use crate::number::Number;
-use mx_msgpack::{Bytes, ValueRef, read_ref};
+use mx_msgpack::{Bytes, ValueRef, read_ref, text_in};
 
 /// A field: as it was sent, by its spelling, or as it was computed.
 #[derive(Drop)]
@@ -22,10 +22,7 @@ pub(crate) fn text_of<'a>(field: &'a Field<'_>) -> Option<&'a [u8]>
     ensures { option_copied result ≡ field_text (field_view field.now) }
 {
     match field {
-        Field::Sent(spelling) => match read_ref(spelling) {
-            Ok((ValueRef::Str(text), _)) => Some(text),
-            _ => None,
-        },
+        Field::Sent(spelling) => text_in(spelling),
         Field::Number(_) => None,
         Field::Text(text) => Some(text.as_slice()),
     }

@@ -3,7 +3,7 @@ use Rattle.std.proofs.lemmas.List.{get_or-map, length-map}
 use Rattle.std.proofs.lemmas.Result.{err_from_is_err_and}
 use Rattle.mx_schema.specs.SchemaChecks.{JudgesSpace, RowsMake, with_space}
 use Rattle.mx_schema.proofs.MakeLaws.{ends_refused, one_more}
-use Rattle.mx_schema.proofs.from_rows.add_spaces.Goals as goal
+use Rattle.mx_schema.proofs.catalogue_rows.add_spaces.Goals as goal
 
 pub returns-in_err-add_space : goal.returns-in_err-add_space
 returns-in_err-add_space c =

@@ -3,7 +3,7 @@ use Rattle.std.proofs.lemmas.List.{get_or-map, length-map}
 use Rattle.std.proofs.lemmas.Result.{err_from_is_err_and}
 use Rattle.mx_schema.specs.SchemaChecks.{JudgesIndex, RowsMake, with_index_row}
 use Rattle.mx_schema.proofs.MakeLaws.{ends_refused, one_more}
-use Rattle.mx_schema.proofs.from_rows.add_indexes.Goals as goal
+use Rattle.mx_schema.proofs.catalogue_rows.add_indexes.Goals as goal
 
 pub returns-in_err-add_index : goal.returns-in_err-add_index
 returns-in_err-add_index c =

@@ -1,7 +1,7 @@
 use Rattle.std.proofs.Common.{◌+◌, drop, map, Result}
 use Rattle.mx_schema.specs.Catalogues.{Catalogue}
 use Rattle.mx_schema.specs.SchemaChecks.{JudgesIndex, RowFault, RowsMake, with_index_row}
-use Rattle.mx_schema.proofs.from_rows.add_indexes.Given as goal
+use Rattle.mx_schema.proofs.catalogue_rows.add_indexes.Given as goal
 
 -- what the remaining rows make of the catalogue so far, all make
 abbrev pub invariant-loop-place : goal.invariant-loop-place

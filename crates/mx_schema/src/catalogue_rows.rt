@@ -20,6 +20,7 @@ use crate::index_row::index_of_row;
 use crate::space_def::SpaceDef;
 use crate::space_row::space_of_row;
 use mx_base::Refusal;
+use mx_msgpack::Tuples;
 use mx_tuple::{Tuple, TupleBad, from_bytes};
 use std::alloc::{AllocError, Global};
 
@@ -45,6 +46,24 @@ pub fn from_row_slices(
     add_spaces(alloc, spaces, &mut catalogue)?;
     add_indexes(alloc, spaces.len(), indexes, &mut catalogue)?;
     Ok(catalogue)
+}
+
+/// As `from_row_slices`, of rows that stand together.
+///
+/// # Errors
+/// As of `from_row_slices`.
+pub fn from_rows(
+    alloc: Global,
+    spaces: &Tuples,
+    indexes: &Tuples,
+) -> Result<Catalogue, SchemaFault>
+    ensures { MatchResult result
+        (λ catalogue. IsMade spaces.now indexes.now (Ok catalogue))
+        (λ why. ((found : RowFault) × (why ≡ fault.Row found.place found.refusal) × IsMade spaces.now indexes.now (Err found)) ⊎ (why ≡ fault.NoMemory)) }
+{
+    let spaces = spaces.slices(alloc)?;
+    let indexes = indexes.slices(alloc)?;
+    from_row_slices(alloc, &spaces, &indexes)
 }
 
 fn add_spaces(alloc: Global, rows: &[&[u8]], catalogue: &mut Catalogue) -> Result<(), SchemaFault>

@@ -1,9 +1,9 @@
 use Rattle.std.proofs.Common.{inl, inr}
-use Rattle.mx_schema.proofs.from_rows.add_index.Goals as goal
+use Rattle.mx_schema.proofs.catalogue_rows.add_space.Goals as goal
 
 pub returns-in-Err : goal.returns-in-Err
 returns-in-Err c =
     elim c.refused.ensures [
-      | inl is ↦ inl (c.in-Err.refusal, rw c.in-Err.is at c.in_ok-index.ensures, is)
+      | inl is ↦ inl (c.in-Err.refusal, rw c.in-Err.is at c.in_ok-def.ensures, is)
       | inr none ↦ inr none
     ]

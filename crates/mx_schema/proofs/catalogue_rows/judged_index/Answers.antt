@@ -1,7 +1,7 @@
 use Rattle.std.proofs.Common.{None, Some, arith}
 use Rattle.mx_schema.proofs.MakeLaws.{first_index, no_index_row}
 use Rattle.mx_schema.proofs.OwnLaws.{no_index}
-use Rattle.mx_schema.proofs.from_rows.judged_index.Goals as goal
+use Rattle.mx_schema.proofs.catalogue_rows.judged_index.Goals as goal
 
 pub returns-in_default : goal.returns-in_default
 returns-in_default c =

@@ -1,6 +1,6 @@
 use Rattle.std.proofs.Common.{◌∙◌, arith, sym}
 use Rattle.mx_schema.proofs.OwnLaws.{other_space}
-use Rattle.mx_schema.proofs.from_rows.is_own_space.Goals as goal
+use Rattle.mx_schema.proofs.catalogue_rows.is_own_space.Goals as goal
 
 pub returns-then-not-names_first_space : goal.returns-then-not-names_first_space
 returns-then-not-names_first_space c =
