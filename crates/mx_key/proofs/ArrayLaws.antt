@@ -1,7 +1,8 @@
 -- What an array gives for an index, by how many items it has.
 use Rattle.std.proofs.Common.{◌≡◌, ℕ, zero, suc, ◌<◌, ◌≤◌, List, [], ◌∷◌, length, Option, Some, Result, Ok, Err, refl, sym, ap, ◌∙◌, ◌⊎◌, inl, inr}
-use Rattle.std.proofs.lemmas.Bool.{lt-ltb, le-ltb}
-use Rattle.std.specs.Option.{option_map}
+use Rattle.std.proofs.lemmas.Bool.{lt-ltb, le-ltb, eq-eqb, ne_eqb}
+use Rattle.std.specs.Prelude.{if◌then◌else◌}
+use Rattle.std.specs.Option.{option_map, unwrap_or}
 use Rattle.mx_msgpack.specs.Items.{array_of, after_value, values_from}
 use Rattle.mx_key.specs.declared.part.Part.{Part}
 use Rattle.mx_key.specs.declared.fault.Misfit.{Misfit}
@@ -13,7 +14,7 @@ use Rattle.mx_key.specs.declared.edge.Edge.TheVariants.{Open}
 use Rattle.mx_key.specs.Keys.{Key, KeyPart, Boolean, Integer, Text, Binary}
 use Rattle.mx_key.specs.Ranges.{range_of, range_by}
 use Rattle.mx_key.specs.Comparable.{comparable_of, edges_of}
-use Rattle.mx_key.specs.Parts.{key_of_array, key_of_items, parts_of_items}
+use Rattle.mx_key.specs.Parts.{key_of_array, key_of_items, parts_of_items, whole_key, whole_key_of_items}
 
 length-values_from : (count : ℕ) (bytes : List ℕ) → length (values_from count bytes) ≡ count
 length-values_from zero bytes = refl
@@ -66,3 +67,27 @@ pub key_fault : (key items : Result Key Misfit) (fault : RangeFault) → key ≡
     → ((misfit : Misfit) × (fault ≡ faults.Misfit misfit) × (key ≡ Err misfit)) ⊎ (fault ≡ faults.NoMemory)
 key_fault key items fault same (inl (misfit, told, fails)) = inl (misfit, told, same ∙ fails)
 key_fault key items fault same (inr none) = inr none
+
+-- ---- whole keys
+
+-- a whole key is that of its array's items
+pub whole_items : (def : List Part) (key : List ℕ) (count : ℕ) (bytes : List ℕ) → array_of key ≡ Some (count, bytes)
+    → whole_key def key ≡ whole_key_of_items def (values_from count bytes)
+whole_items def key count bytes is = ap (λ found. whole_key_of_items def (unwrap_or (option_map (λ items. values_from items.0 items.1) found) [])) is
+
+-- as many items as there are parts
+pub as_many_items : (def : List Part) (key : List ℕ) (count : ℕ) (bytes : List ℕ) → array_of key ≡ Some (count, bytes) → count ≡ length def
+    → whole_key def key ≡ parts_of_items 0 def (values_from count bytes)
+as_many_items def key count bytes is many =
+    whole_items def key count bytes is
+    ∙ ap (λ b. if b then parts_of_items 0 def (values_from count bytes) else Err (TooLong (length (values_from count bytes))))
+    (eq-eqb (length (values_from count bytes)) (length def) (length-values_from count bytes ∙ many))
+
+-- more of them, or fewer
+pub other_items : (def : List Part) (key : List ℕ) (count : ℕ) (bytes : List ℕ) → array_of key ≡ Some (count, bytes) → (count ≡ length def → ⊥)
+    → whole_key def key ≡ Err (TooLong count)
+other_items def key count bytes is other =
+    whole_items def key count bytes is
+    ∙ ap (λ b. if b then parts_of_items 0 def (values_from count bytes) else Err (TooLong (length (values_from count bytes))))
+    (ne_eqb (length (values_from count bytes)) (length def) (λ same. other (sym (length-values_from count bytes) ∙ same)))
+    ∙ ap (λ n. Err (TooLong n)) (length-values_from count bytes)

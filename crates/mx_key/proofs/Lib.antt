@@ -8,3 +8,5 @@ pub mod ArrayLaws
 pub mod PlaceLaws
 pub mod EscapeLaws
 pub mod DigitLaws
+pub mod SpellingLaws
+pub mod KeyArrayLaws

@@ -22,7 +22,7 @@ comparable_of-append (part ∷ parts) others =
 pub comparable_of-push : (parts : Key) (part : KeyPart) → comparable_of (parts ++ part ∷ []) ≡ comparable_of parts ++ part_bytes part
 comparable_of-push parts part = comparable_of-append parts (part ∷ []) ∙ ap (λ (l : List ℕ). comparable_of parts ++ l) (append-nil (part_bytes part))
 
-AreFit-push : (parts : Key) (part : KeyPart) → AreFit parts → IsFit part → AreFit (parts ++ part ∷ [])
+pub AreFit-push : (parts : Key) (part : KeyPart) → AreFit parts → IsFit part → AreFit (parts ++ part ∷ [])
 AreFit-push [] part fit fits = (fits, tt)
 AreFit-push (first ∷ parts) part fit fits = (fit.0, AreFit-push parts part fit.1 fits)
 
@@ -40,7 +40,7 @@ module _ {E : Type 0} (whole : Result Key E) where
   bind_Ok (Ok key) = refl
   bind_Ok (Err e) = refl
 
-  regroup : (done : Key) (part : KeyPart) (others : Result Key E)
+  pub regroup : (done : Key) (part : KeyPart) (others : Result Key E)
       → ((others >>= λ rest. Ok (part ∷ rest)) >>= λ rest. Ok (done ++ rest)) ≡ (others >>= λ rest. Ok ((done ++ part ∷ []) ++ rest))
   regroup done part (Ok rest) = ap (λ (k : Key). Ok k) (sym (append_assoc done (part ∷ []) rest))
   regroup done part (Err e) = refl

@@ -5,4 +5,5 @@ pub mod Parts
 pub mod Places
 pub mod Ranges
 pub mod Comparable
+pub mod Arrays
 pub mod PartViews

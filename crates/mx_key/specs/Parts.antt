@@ -1,7 +1,7 @@
 -- The key that a tuple's fields make, and the one that a request gives.
-use Rattle.std.specs.Prelude.{ℕ, suc, List, [], ◌∷◌, length, Option, Some, None, Result, Ok, Err, nat_lt, if◌then◌else◌}
+use Rattle.std.specs.Prelude.{ℕ, suc, List, [], ◌∷◌, length, Option, Some, None, Result, Ok, Err, nat_lt, ◌==◌, if◌then◌else◌}
 use Rattle.std.specs.List.{slice_get}
-use Rattle.std.specs.Option.{ok_or}
+use Rattle.std.specs.Option.{ok_or, unwrap_or}
 use Rattle.mx_msgpack.specs.declared.bad.Bad.{Bad}
 use Rattle.mx_msgpack.specs.declared.value_type.ValueType.{ValueType}
 use Rattle.mx_msgpack.specs.declared.value_type.ValueType.TheVariants as type
@@ -79,6 +79,14 @@ parts_of_items place (part ∷ parts) (item ∷ items) = do
 abbrev pub key_of_items : List Part → Option (List (List ℕ)) → Result Key Misfit
 key_of_items def None = Ok []
 key_of_items def (Some items) = if nat_lt (length def) (length items) then Err (TooLong (length items)) else parts_of_items 0 def items
+
+-- the key that items are, one for each part
+abbrev pub whole_key_of_items : List Part → List (List ℕ) → Result Key Misfit
+whole_key_of_items def items = if length items == length def then parts_of_items 0 def items else Err (TooLong (length items))
+
+-- the whole key that an array is for an index of these parts; bytes that aren't one array have no items
+abbrev pub whole_key : List Part → List ℕ → Result Key Misfit
+whole_key def bytes = whole_key_of_items def (unwrap_or (items_of bytes) [])
 
 -- The key that an array is for an index of these parts: it has no more parts than the index, and each of its part's type.
 -- Bytes that aren't one array are the empty key.

@@ -95,15 +95,15 @@ pub fn key_of_tuple(alloc: Global, def: &KeyDef, tuple: &[u8]) -> Result<Bytes, 
 
 /// The bytes of an array's items from this field on.
 #[derive(Clone, Copy)]
-struct Place<'a> {
-    field: u32,
-    bytes: &'a [u8],
+pub(crate) struct Place<'a> {
+    pub(crate) field: u32,
+    pub(crate) bytes: &'a [u8],
 }
 
 /// The bytes of the items from a field on, which may lie before the place; `None` where there is no such
 /// field.
 #[inline]
-fn bytes_from<'a>(items: Items<'a>, place: Place<'a>, field: u32) -> Option<&'a [u8]>
+pub(crate) fn bytes_from<'a>(items: Items<'a>, place: Place<'a>, field: u32) -> Option<&'a [u8]>
     requires { place.bytes.now ≡ after_values place.field items.bytes.now }
     ensures { MatchOption result
         (items.entry.count ≤ field)

@@ -1,6 +1,7 @@
 //! Keys: their parts, their order as bytes, and the ranges that iterators scan.
 #![tactic(auto)]
 
+mod arrays;
 mod edge;
 mod encoding;
 mod fault;
@@ -14,6 +15,7 @@ mod part_ref;
 mod ranges;
 mod writing;
 
+pub use arrays::key_array_of_tuple;
 pub use edge::{Edge, KeyRange};
 pub use encoding::comparable;
 pub use fault::{KeyFault, Misfit, NoKey, RangeFault};
@@ -21,6 +23,6 @@ pub use fields::FieldSlices;
 pub use iterator::IterKind;
 pub use key_def::KeyDef;
 pub use keys::{key_of, key_of_tuple};
-pub use laws::{a_range_holds_its_keys, bytes_are_ordered_as_keys};
+pub use laws::{a_key_is_read_from_its_array, a_range_holds_its_keys, bytes_are_ordered_as_keys};
 pub use part::{Part, PartKind};
-pub use ranges::{misfit, range, range_of_key};
+pub use ranges::{misfit, range, range_of_key, whole_key};

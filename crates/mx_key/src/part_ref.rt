@@ -4,6 +4,7 @@ ghost use Rattle.std.specs.Prelude.{◌≡◌, Some, IfSome};
 ghost use Rattle.std.specs.Option.{option_map};
 ghost use Rattle.mx_msgpack.specs.Items.{after_value, first_value};
 ghost use Rattle.mx_msgpack.specs.View.{view};
+ghost use Rattle.mx_key.specs.Arrays.{IsShort};
 ghost use Rattle.mx_key.specs.Keys.{IsFit};
 ghost use Rattle.mx_key.specs.Parts.{part_in, part_of_type, part_shown};
 ghost use Rattle.mx_key.specs.declared.part_ref.PartRef.{PartRef};
@@ -38,6 +39,7 @@ pub fn part_at(kind: PartKind, bytes: &[u8]) -> Option<(PartRef<'_>, &[u8])>
     ensures exact { option_map (λ x. part_view x.0) result ≡ part_in kind (first_value bytes.now) }
     ensures after { IfSome result (λ x. x.1.now ≡ after_value bytes.now) }
     ensures fit { IfSome result (λ x. IsFit (part_view x.0)) }
+    ensures short { IfSome result (λ x. IsShort (part_view x.0)) }
 {
     let Ok((value, size)) = read_ref(bytes) else {
         return None;

@@ -9,7 +9,7 @@ ghost use Rattle.mx_msgpack.specs.Items.{IsArray, values_from};
 ghost use Rattle.mx_key.specs.declared.fault.Misfit.{Misfit};
 ghost use Rattle.mx_key.specs.declared.fault.RangeFault.TheVariants as faults;
 ghost use Rattle.mx_key.specs.Comparable.{bound_of, comparable_of, edges_of};
-ghost use Rattle.mx_key.specs.Parts.{key_of_array, parts_of_items};
+ghost use Rattle.mx_key.specs.Parts.{key_of_array, parts_of_items, whole_key};
 ghost use Rattle.mx_key.specs.Keys.{Key, AreFit};
 ghost use Rattle.mx_key.specs.Ranges.{range_by, range_of};
 
@@ -97,6 +97,26 @@ pub fn range_of_key(
     let mut bytes = Bytes::new(alloc);
     write_items(parts, items, &mut bytes)?;
     Ok(range_from(alloc, iterator, bytes)?)
+}
+
+/// The comparable bytes of a key with all parts of an index, which is an array.
+///
+/// # Errors
+/// `Misfit` where it has another number of parts, or its first part that is of another type.
+pub fn whole_key(alloc: Global, def: &KeyDef, key: &[u8]) -> Result<Bytes, RangeFault>
+    requires array { IsArray key.now }
+    ensures { MatchResult result
+        (λ bytes. (whole : Key) × (whole_key def.now key.now ≡ Ok whole) × AreFit whole × (bytes ≡ comparable_of whole))
+        (λ fault. ((misfit : Misfit) × (fault ≡ faults.Misfit misfit) × (whole_key def.now key.now ≡ Err misfit)) ⊎ (fault ≡ faults.NoMemory)) }
+{
+    let items = known_array(key);
+    let parts = def.as_slice();
+    if items.count as usize != parts.len() {
+        return Err(RangeFault::Misfit(Misfit::TooLong { parts: items.count }));
+    }
+    let mut bytes = Bytes::new(alloc);
+    write_items(parts, items, &mut bytes)?;
+    Ok(bytes)
 }
 
 /// By the comparable bytes of a key.
