@@ -19,3 +19,4 @@ pub mod KeyedLaws
 pub mod KeptLaws
 pub mod RowsOfStateLaws
 pub mod OwnLaws
+pub mod TakenLaws

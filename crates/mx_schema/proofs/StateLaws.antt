@@ -8,7 +8,7 @@ use Rattle.std.specs.BTreeMap.{get_by, is_at}
 use Rattle.std.specs.List.{AllByRecursion}
 use Rattle.std.specs.Option.{unwrap_or}
 use Rattle.std.specs.Ordering.{eq_by_cmp}
-use Rattle.std.specs.FinMap.{empty, entries, get, insert, get-empty, get-insert}
+use Rattle.std.specs.FinMap.{empty, entries, get, insert, remove, get-empty, get-insert}
 use Rattle.std.proofs.lemmas.Cmp.{nat_cmp_total}
 use Rattle.std.proofs.lemmas.Bool.{eqb-true}
 use Rattle.std.proofs.lemmas.Bool.Decides.{nat_tests}
@@ -19,16 +19,17 @@ use Rattle.mx_schema.specs.declared.schema.Schema.{Schema}
 use Rattle.mx_schema.specs.declared.state.State as coded
 use Rattle.mx_schema.specs.declared.state.Table.{Table}
 use Rattle.mx_schema.specs.declared.space_def.SpaceDef.{SpaceDef}
-use Rattle.mx_schema.specs.Catalogues.{index_defs, index_with, schema_of}
+use Rattle.mx_schema.specs.Catalogues.{StandByKey, index_defs, index_with, schema_of}
 use Rattle.mx_schema.specs.SpaceRows.{space_in}
 use Rattle.mx_schema.specs.Picks.{Indexed}
 use Rattle.mx_schema.specs.State as state
-use Rattle.mx_schema.specs.State.{State, key_in, tuples_in, with_tuple, space_rows, index_rows}
-use Rattle.mx_schema.specs.Stored.{AreWhole, IsKeyedBy, HoldsBy, HoldsSpace, StoresTuples}
+use Rattle.mx_schema.specs.State.{State, key_in, tuples_in, with_tuple, without_tuple, space_rows, index_rows}
+use Rattle.mx_schema.specs.Stored.{IsKeyedBy, HoldsBy, HoldsSpace, StandByPrimary, StoresTuples}
 use Rattle.mx_key.specs.declared.part.Part.{Part}
 use Rattle.mx_tuple.specs.Fields.{tuple_of}
 use Rattle.mx_schema.proofs.WholeKeyLaws.{key_length}
-use Rattle.mx_schema.proofs.StoredLaws.{keys_put, no_keys, stores_none}
+use Rattle.mx_schema.proofs.StoredLaws.{each_none, each_put, stores_none}
+use Rattle.mx_schema.proofs.TakenLaws.{each_left, none_left}
 
 -- two spaces tie where their numbers are the same
 pub spaces_tie : (a b : ℕ) → eq_by_cmp nat_cmp a b ≡ (a == b)
@@ -37,76 +38,83 @@ spaces_tie a b = grind (arith, nat_tests)
 at_same : (a b : ℕ) → is_at (nat_cmp a) b ≡ (b == a)
 at_same a b = grind (arith, nat_tests)
 
--- after a tuple is put into a space, that space has it, and the others are as before
-pub tuples_after : (before : State) (space : ℕ) (key : Key) (tuple : List ℕ) (q : ℕ)
-    → tuples_in (with_tuple before space key tuple) q ≡ (if q == space then insert (tuples_in before space) key tuple else tuples_in before q)
-tuples_after before space key tuple q =
-    let all = insert (tuples_in before space) key tuple in
+-- after a space is given other tuples, it has them, and the others are as before
+pub tuples_set : (before : State) (space : ℕ) (all : state.Tuples) (q : ℕ) → tuples_in (insert before space all) q ≡ (if q == space then all else tuples_in before q)
+tuples_set before space all q =
     ap (λ o. unwrap_or o empty) (get-insert nat_cmp_total before space all q ∙ ap (λ b. cond b (Some all) (get before q)) (spaces_tie q space))
     ∙ by_test (q == space)
   where
-    by_test : (b : Bool) → unwrap_or (cond b (Some (insert (tuples_in before space) key tuple)) (get before q)) empty
-        ≡ (if b then insert (tuples_in before space) key tuple else tuples_in before q)
+    by_test : (b : Bool) → unwrap_or (cond b (Some all) (get before q)) empty ≡ (if b then all else tuples_in before q)
     by_test true = refl
     by_test false = refl
+
+-- after a tuple is put into a space, that space has it
+pub tuples_after : (before : State) (space : ℕ) (key : Key) (tuple : List ℕ) (q : ℕ)
+    → tuples_in (with_tuple before space key tuple) q ≡ (if q == space then insert (tuples_in before space) key tuple else tuples_in before q)
+tuples_after before space key tuple q = tuples_set before space (insert (tuples_in before space) key tuple) q
 
 pub no_tuples : (q : ℕ) → tuples_in empty q ≡ empty
 no_tuples q = ap (λ o. unwrap_or o empty) (get-empty nat_cmp q)
 
 -- ---- what memory has
 
-whole_after : (schema : Schema) (tuples : state.Tuples) (key : Key) (tuple : List ℕ) → IfSome (index_with 0 schema.indexes) (λ def. length key ≡ length def.key)
-    → AreWhole schema tuples → AreWhole schema (insert tuples key tuple)
-whole_after schema tuples key tuple long whole = by_index (index_with 0 schema.indexes) long whole
+-- a tuple more stands under its key too
+pub stands_after : (schema : Schema) (tuples : state.Tuples) (key : Key) (tuple : List ℕ) → IfSome (index_with 0 schema.indexes) (λ def. key_in def.key tuple ≡ Ok key)
+    → StandByPrimary schema tuples → StandByPrimary schema (insert tuples key tuple)
+stands_after schema tuples key tuple keyed stands = by_index (index_with 0 schema.indexes) keyed stands
   where
-    by_index : (def : Option IndexDef) → IfSome def (λ def. length key ≡ length def.key)
-        → IfSome def (λ def. AllByRecursion (λ (entry : Indexed). length entry.0 ≡ length def.key) (entries tuples))
-        → IfSome def (λ def. AllByRecursion (λ (entry : Indexed). length entry.0 ≡ length def.key) (entries (insert tuples key tuple)))
-    by_index None long whole = tt
-    by_index (Some def) long whole = keys_put (λ k. length k ≡ length def.key) tuples key tuple long whole
+    by_index : (def : Option IndexDef) → IfSome def (λ def. key_in def.key tuple ≡ Ok key) → IfSome def (λ def. StandByKey def.key tuples)
+        → IfSome def (λ def. StandByKey def.key (insert tuples key tuple))
+    by_index None keyed stands = tt
+    by_index (Some def) keyed stands = each_put (λ entry. key_in def.key entry.1 ≡ Ok entry.0) tuples key tuple keyed stands
 
 -- a space with a tuple more, where this is what is kept then
 space_put : (schema : Option Schema) (described : Schema) (table after : Table) (tuples : state.Tuples) (key : Key) (tuple : List ℕ)
-    → schema ≡ Some described → IfSome (index_with 0 described.indexes) (λ def. length key ≡ length def.key) → after.schema ≡ table.schema
+    → schema ≡ Some described → IfSome (index_with 0 described.indexes) (λ def. key_in def.key tuple ≡ Ok key) → after.schema ≡ table.schema
     → ((keeps : StoresTuples table.tuples.entries tuples) → StoresTuples after.tuples.entries (insert tuples key tuple))
     → HoldsSpace schema (Some table) tuples → HoldsSpace schema (Some after) (insert tuples key tuple)
-space_put schema described table after tuples key tuple is long same keeps holds =
+space_put schema described table after tuples key tuple is keyed same keeps holds =
     let one : described ≡ table.schema = same_some described table.schema (sym is ∙ holds.is) in
-    let long_of : IfSome (index_with 0 table.schema.indexes) (λ def. length key ≡ length def.key) =
-    subst (λ (s : Schema). IfSome (index_with 0 s.indexes) (λ def. length key ≡ length def.key)) one long in
+    let keyed_there : IfSome (index_with 0 table.schema.indexes) (λ def. key_in def.key tuple ≡ Ok key) =
+    subst (λ (s : Schema). IfSome (index_with 0 s.indexes) (λ def. key_in def.key tuple ≡ Ok key)) one keyed in
     record {
       is = holds.is ∙ ap (λ s. Some s) (sym same);
       keeps = keeps holds.keeps;
-      whole = subst (λ (s : Schema). AreWhole s (insert tuples key tuple)) (sym same) (whole_after table.schema tuples key tuple long_of holds.whole);
+      stands = subst (λ (s : Schema). StandByPrimary s (insert tuples key tuple)) (sym same) (stands_after table.schema tuples key tuple keyed_there holds.stands);
     }
 
+-- one table has other tuples, and the other tables are as before
+holds_changed : (schemas : ℕ → Option Schema) (before : State) (space : ℕ) (all : state.Tuples) (old new : coded.State) (table after : Table)
+    → get_by (nat_cmp space) old.tables ≡ Some table
+    → (HoldsSpace (schemas space) (Some table) (tuples_in before space) → HoldsSpace (schemas space) (Some after) all)
+    → ((q : ℕ) → get_by (nat_cmp q) new.tables ≡ cond (is_at (nat_cmp space) q) (Some after) (get_by (nat_cmp q) old.tables))
+    → HoldsBy schemas old before → HoldsBy schemas new (insert before space all)
+holds_changed schemas before space all old new table after there changes updates holds q = by_test (q == space) refl
+  where
+    by_test : (b : Bool) → (q == space) ≡ b → HoldsSpace (schemas q) (get_by (nat_cmp q) new.tables) (tuples_in (insert before space all) q)
+    by_test true e =
+        let one : q ≡ space = eqb-true q space e in
+        let found : get_by (nat_cmp q) new.tables ≡ Some after = updates q ∙ ap (λ b. cond b (Some after) (get_by (nat_cmp q) old.tables)) (at_same space q ∙ e) in
+        let tuples : tuples_in (insert before space all) q ≡ all = tuples_set before space all q ∙ ap (λ b. if b then all else tuples_in before q) e in
+        let was : HoldsSpace (schemas space) (Some table) (tuples_in before space) = subst (λ o. HoldsSpace (schemas space) o (tuples_in before space)) there (holds space) in
+        subst (λ o. HoldsSpace (schemas q) o (tuples_in (insert before space all) q)) (sym found)
+        (subst (λ t. HoldsSpace (schemas q) (Some after) t) (sym tuples) (subst (λ s. HoldsSpace (schemas s) (Some after) all) (sym one) (changes was)))
+    by_test false e =
+        let found : get_by (nat_cmp q) new.tables ≡ get_by (nat_cmp q) old.tables = updates q ∙ ap (λ b. cond b (Some after) (get_by (nat_cmp q) old.tables)) (at_same space q ∙ e) in
+        let tuples : tuples_in (insert before space all) q ≡ tuples_in before q = tuples_set before space all q ∙ ap (λ b. if b then all else tuples_in before q) e in
+        subst (λ o. HoldsSpace (schemas q) o (tuples_in (insert before space all) q)) (sym found)
+        (subst (λ t. HoldsSpace (schemas q) (get_by (nat_cmp q) old.tables) t) (sym tuples) (holds q))
+
 module _ (schemas : ℕ → Option Schema) (before : State) (space : ℕ) (schema : Schema) (key : Key) (tuple : List ℕ) (is : schemas space ≡ Some schema)
-    (long : IfSome (index_with 0 schema.indexes) (λ def. length key ≡ length def.key)) where
+    (keyed : IfSome (index_with 0 schema.indexes) (λ def. key_in def.key tuple ≡ Ok key)) where
   -- one table has a tuple more
   pub holds_put : (old new : coded.State) (table after : Table) → get_by (nat_cmp space) old.tables ≡ Some table → after.schema ≡ table.schema
       → ((tuples : state.Tuples) → StoresTuples table.tuples.entries tuples → StoresTuples after.tuples.entries (insert tuples key tuple))
       → ((q : ℕ) → get_by (nat_cmp q) new.tables ≡ cond (is_at (nat_cmp space) q) (Some after) (get_by (nat_cmp q) old.tables))
       → HoldsBy schemas old before → HoldsBy schemas new (with_tuple before space key tuple)
-  holds_put old new table after there same keeps updates holds q = by_test (q == space) refl
-    where
-      by_test : (b : Bool) → (q == space) ≡ b → HoldsSpace (schemas q) (get_by (nat_cmp q) new.tables) (tuples_in (with_tuple before space key tuple) q)
-      by_test true e =
-          let one : q ≡ space = eqb-true q space e in
-          let found : get_by (nat_cmp q) new.tables ≡ Some after = updates q ∙ ap (λ b. cond b (Some after) (get_by (nat_cmp q) old.tables)) (at_same space q ∙ e) in
-          let tuples : tuples_in (with_tuple before space key tuple) q ≡ insert (tuples_in before space) key tuple =
-          tuples_after before space key tuple q ∙ ap (λ b. if b then insert (tuples_in before space) key tuple else tuples_in before q) e in
-          let was : HoldsSpace (schemas space) (Some table) (tuples_in before space) = subst (λ o. HoldsSpace (schemas space) o (tuples_in before space)) there (holds space) in
-          let now : HoldsSpace (schemas space) (Some after) (insert (tuples_in before space) key tuple) =
-          space_put (schemas space) schema table after (tuples_in before space) key tuple is long same (keeps (tuples_in before space)) was in
-          subst (λ o. HoldsSpace (schemas q) o (tuples_in (with_tuple before space key tuple) q)) (sym found)
-          (subst (λ t. HoldsSpace (schemas q) (Some after) t) (sym tuples)
-          (subst (λ s. HoldsSpace (schemas s) (Some after) (insert (tuples_in before space) key tuple)) (sym one) now))
-      by_test false e =
-          let found : get_by (nat_cmp q) new.tables ≡ get_by (nat_cmp q) old.tables = updates q ∙ ap (λ b. cond b (Some after) (get_by (nat_cmp q) old.tables)) (at_same space q ∙ e) in
-          let tuples : tuples_in (with_tuple before space key tuple) q ≡ tuples_in before q =
-          tuples_after before space key tuple q ∙ ap (λ b. if b then insert (tuples_in before space) key tuple else tuples_in before q) e in
-          subst (λ o. HoldsSpace (schemas q) o (tuples_in (with_tuple before space key tuple) q)) (sym found)
-          (subst (λ t. HoldsSpace (schemas q) (get_by (nat_cmp q) old.tables) t) (sym tuples) (holds q))
+  holds_put old new table after there same keeps updates holds =
+      holds_changed schemas before space (insert (tuples_in before space) key tuple) old new table after there
+      (space_put (schemas space) schema table after (tuples_in before space) key tuple is keyed same (keeps (tuples_in before space))) updates holds
 
   -- there is no such space in memory, which can't be
   pub none_there : (old : coded.State) → get_by (nat_cmp space) old.tables ≡ None → HoldsBy schemas old before → ⊥
@@ -115,6 +123,51 @@ module _ (schemas : ℕ → Option Schema) (before : State) (space : ℕ) (schem
       let no : schemas space ≡ None = was.none in
       let both : Some schema ≡ None = sym is ∙ no in
       absurd cc
+
+-- one table has a tuple less
+stands_left : (schema : Schema) (tuples : state.Tuples) (key : Key) → StandByPrimary schema tuples → StandByPrimary schema (remove tuples key)
+stands_left schema tuples key stands = by_index (index_with 0 schema.indexes) stands
+  where
+    by_index : (def : Option IndexDef) → IfSome def (λ def. StandByKey def.key tuples) → IfSome def (λ def. StandByKey def.key (remove tuples key))
+    by_index None stands = tt
+    by_index (Some def) stands = each_left key (λ entry. key_in def.key entry.1 ≡ Ok entry.0) tuples stands
+
+space_left : (schema : Option Schema) (table after : Table) (tuples : state.Tuples) (key : Key) → after.schema ≡ table.schema
+    → (StoresTuples table.tuples.entries tuples → StoresTuples after.tuples.entries (remove tuples key))
+    → HoldsSpace schema (Some table) tuples → HoldsSpace schema (Some after) (remove tuples key)
+space_left schema table after tuples key same keeps holds = record {
+  is = holds.is ∙ ap (λ s. Some s) (sym same);
+  keeps = keeps holds.keeps;
+  stands = subst (λ (s : Schema). StandByPrimary s (remove tuples key)) (sym same) (stands_left table.schema tuples key holds.stands);
+}
+
+pub holds_left : (schemas : ℕ → Option Schema) (before : State) (space : ℕ) (key : Key) (old new : coded.State) (table after : Table)
+    → get_by (nat_cmp space) old.tables ≡ Some table → after.schema ≡ table.schema
+    → ((tuples : state.Tuples) → StoresTuples table.tuples.entries tuples → StoresTuples after.tuples.entries (remove tuples key))
+    → ((q : ℕ) → get_by (nat_cmp q) new.tables ≡ cond (is_at (nat_cmp space) q) (Some after) (get_by (nat_cmp q) old.tables))
+    → HoldsBy schemas old before → HoldsBy schemas new (without_tuple before space key)
+holds_left schemas before space key old new table after there same keeps updates holds =
+    holds_changed schemas before space (remove (tuples_in before space) key) old new table after there
+    (space_left (schemas space) table after (tuples_in before space) key same (keeps (tuples_in before space))) updates holds
+
+-- no table has it
+pub nothing_left : (schemas : ℕ → Option Schema) (before : State) (space : ℕ) (key : Key) (memory : coded.State) → get_by (nat_cmp space) memory.tables ≡ None
+    → HoldsBy schemas memory before → HoldsBy schemas memory (without_tuple before space key)
+nothing_left schemas before space key memory none holds q = by_test (q == space) refl
+  where
+    by_test : (b : Bool) → (q == space) ≡ b → HoldsSpace (schemas q) (get_by (nat_cmp q) memory.tables) (tuples_in (without_tuple before space key) q)
+    by_test true e =
+        let one : q ≡ space = eqb-true q space e in
+        let was : HoldsSpace (schemas space) None (tuples_in before space) = subst (λ o. HoldsSpace (schemas space) o (tuples_in before space)) none (holds space) in
+        let tuples : tuples_in (without_tuple before space key) q ≡ tuples_in before space =
+        tuples_set before space (remove (tuples_in before space) key) q ∙ ap (λ b. if b then remove (tuples_in before space) key else tuples_in before q) e
+        ∙ none_left key (tuples_in before space) was.no_tuples ∙ sym was.no_tuples in
+        subst (λ t. HoldsSpace (schemas q) (get_by (nat_cmp q) memory.tables) t) (sym tuples)
+        (subst (λ s. HoldsSpace (schemas s) (get_by (nat_cmp s) memory.tables) (tuples_in before space)) (sym one) (holds space))
+    by_test false e =
+        let tuples : tuples_in (without_tuple before space key) q ≡ tuples_in before q =
+        tuples_set before space (remove (tuples_in before space) key) q ∙ ap (λ b. if b then remove (tuples_in before space) key else tuples_in before q) e in
+        subst (λ t. HoldsSpace (schemas q) (get_by (nat_cmp q) memory.tables) t) (sym tuples) (holds q)
 
 -- what memory has of each space stays where the tables are the same but for records of one
 pub holds_same : (schemas : ℕ → Option Schema) (before : State) (old new : coded.State) (space : ℕ) (table after : Table) → get_by (nat_cmp space) old.tables ≡ Some table
@@ -133,7 +186,7 @@ holds_same schemas before old new space table after there same kept updates hold
         (record {
           is = was.is ∙ ap (λ s. Some s) (sym same);
           keeps = subst (λ kept. StoresTuples kept (tuples_in before q)) (sym kept) was.keeps;
-          whole = subst (λ (s : Schema). AreWhole s (tuples_in before q)) (sym same) was.whole;
+          stands = subst (λ (s : Schema). StandByPrimary s (tuples_in before q)) (sym same) was.stands;
         })
     by_test false e =
         let found : get_by (nat_cmp q) new.tables ≡ get_by (nat_cmp q) old.tables = updates q ∙ ap (λ b. cond b (Some after) (get_by (nat_cmp q) old.tables)) (at_same space q ∙ e) in
@@ -166,15 +219,15 @@ part_more whole space q table was now left rest schema same none tables others f
         subst (λ o. PartMade whole o rest) (sym tables) (by_was was (first refl) made ∙ ap (λ s. Some s) (sym same), none, others)
     by_test false tables others first = subst (λ o. PartMade whole o rest) (sym tables) (subst (PartMade whole was) (sym others) made)
 
-no_whole : (schema : Schema) → AreWhole schema empty
-no_whole schema = by_index (index_with 0 schema.indexes)
+none_stand : (schema : Schema) → StandByPrimary schema empty
+none_stand schema = by_index (index_with 0 schema.indexes)
   where
     none : state.Tuples
     none = empty
 
-    by_index : (def : Option IndexDef) → IfSome def (λ def. AllByRecursion (λ (entry : Indexed). length entry.0 ≡ length def.key) (entries none))
+    by_index : (def : Option IndexDef) → IfSome def (λ def. StandByKey def.key none)
     by_index None = tt
-    by_index (Some def) = no_keys (λ k. length k ≡ length def.key)
+    by_index (Some def) = each_none (λ entry. key_in def.key entry.1 ≡ Ok entry.0)
 
 -- all have theirs
 pub all_made : (whole : Option Schema) (table : Option Table) (left : Option Schema) → left ≡ None → PartMade whole table left → HoldsSpace whole table empty
@@ -182,7 +235,7 @@ all_made whole None left over made = record { none = sym made ∙ over; no_tuple
 all_made whole (Some table) left over (is, none, gone) = record {
   is = is;
   keeps = stores_none table.tuples.entries none;
-  whole = no_whole table.schema;
+  stands = none_stand table.schema;
 }
 
 -- ---- the tuples that a space shows
@@ -201,12 +254,18 @@ shown_none schemas memory before space holds there =
     let was : HoldsSpace (schemas space) None (tuples_in before space) = subst (λ o. HoldsSpace (schemas space) o (tuples_in before space)) (sym there) (holds space) in
     was.no_tuples
 
+-- keys by which tuples stand have all parts
+stand_whole : (parts : List Part) (all : List Indexed) → AllByRecursion (λ (entry : Indexed). key_in parts entry.1 ≡ Ok entry.0) all
+    → AllByRecursion (λ (entry : Indexed). length entry.0 ≡ length parts) all
+stand_whole parts [] stands = tt
+stand_whole parts (entry ∷ all) (first, others) = (key_length parts (tuple_of entry.1).fields entry.0 first, stand_whole parts all others)
+
 -- the keys of a space's own tuples have all parts of the index of the number 0
-pub own_whole : (schema : Schema) (tuples : state.Tuples) (def : IndexDef) → AreWhole schema tuples → index_with def.id.0 schema.indexes ≡ Some def → def.id.0 ≡ 0
+pub own_whole : (schema : Schema) (tuples : state.Tuples) (def : IndexDef) → StandByPrimary schema tuples → index_with def.id.0 schema.indexes ≡ Some def → def.id.0 ≡ 0
     → AllByRecursion (λ (entry : Indexed). length entry.0 ≡ length def.key) (entries tuples)
-own_whole schema tuples def whole is first =
-    subst (λ o. IfSome o (λ def. AllByRecursion (λ (entry : Indexed). length entry.0 ≡ length def.key) (entries tuples)))
-    (sym (ap (λ id. index_with id schema.indexes) first) ∙ is) whole
+own_whole schema tuples def stands is first =
+    stand_whole def.key (entries tuples)
+    (subst (λ o. IfSome o (λ def. StandByKey def.key tuples)) (sym (ap (λ id. index_with id schema.indexes) first) ∙ is) stands)
 
 -- ---- what describes spaces
 
@@ -238,12 +297,12 @@ holds_described one other memory before same holds space =
 
 -- ---- rows that are put one after the other
 
--- so the key of a row has as many
-pub row_is_whole : (parts : List Part) (schema : Option Schema) (row : List ℕ) (key : Key) → IsKeyedBy parts schema → key_in parts row ≡ Ok key
-    → (described : Schema) × (schema ≡ Some described) × IfSome (index_with 0 described.indexes) (λ def. length key ≡ length def.key)
-row_is_whole parts None row key keyed has = absurd keyed
-row_is_whole parts (Some schema) row key keyed has = (schema, refl, by_index (index_with 0 schema.indexes) keyed)
+-- so a row that has a key has it in the primary index
+pub row_stands : (parts : List Part) (schema : Option Schema) (row : List ℕ) (key : Key) → IsKeyedBy parts schema → key_in parts row ≡ Ok key
+    → (described : Schema) × (schema ≡ Some described) × IfSome (index_with 0 described.indexes) (λ def. key_in def.key row ≡ Ok key)
+row_stands parts None row key keyed has = absurd keyed
+row_stands parts (Some schema) row key keyed has = (schema, refl, by_index (index_with 0 schema.indexes) keyed)
   where
-    by_index : (def : Option IndexDef) → IfSome def (λ def. def.key ≡ parts) → IfSome def (λ def. length key ≡ length def.key)
+    by_index : (def : Option IndexDef) → IfSome def (λ def. def.key ≡ parts) → IfSome def (λ def. key_in def.key row ≡ Ok key)
     by_index None keyed = tt
-    by_index (Some def) keyed = key_length parts (tuple_of row).fields key has ∙ ap length (sym keyed)
+    by_index (Some def) keyed = ap (λ (parts : List Part). key_in parts row) keyed ∙ has

@@ -7,10 +7,12 @@ use Rattle.std.specs.Ordering.{nat_cmp}
 use Rattle.std.specs.Cmp.Lexicographic.{slice_cmp}
 use Rattle.std.specs.FinMap as finite
 use Rattle.std.proofs.lemmas.List.{nil_from_length}
-use Rattle.std.specs.FinMap.Entries.{put}
+use Rattle.std.specs.FinMap.Entries.{by_order, put}
+use Rattle.std.specs.declared.cmp.Ordering.{Ordering}
+use Rattle.std.specs.declared.cmp.Ordering.TheVariants.{Less, Equal, Greater}
 use Rattle.mx_key.specs.Keys.{Key, AreFit, key_cmp}
 use Rattle.mx_key.specs.Comparable.{comparable_of}
-use Rattle.mx_key.proofs.KeyLaws.{key_cmp_total}
+use Rattle.mx_key.proofs.KeyLaws.{key_cmp-IsAntisymmetric, key_cmp_total}
 use Rattle.mx_key.proofs.EncodingLaws.{bytes_order}
 use Rattle.mx_key.proofs.MakingLaws.{comparable_of-append}
 use Rattle.mx_schema.specs.declared.index_def.IndexDef.{IndexDef}
@@ -19,7 +21,7 @@ use Rattle.mx_schema.specs.Picks.{Indexed, entry_key, indexed_with, tuples_by_in
 use Rattle.mx_schema.specs.Stored.{StoredTuple, stored_tuple, StoresTuples}
 use Rattle.mx_schema.proofs.PickLaws.{kept_with, all_with}
 
-no_entries : finite.entries (finite.empty {X = List ℕ} {R = key_cmp}) ≡ []
+pub no_entries : finite.entries (finite.empty {X = List ℕ} {R = key_cmp}) ≡ []
 no_entries = nil_from_length _ (sym (finite.len-entries finite.empty) ∙ finite.len-empty key_cmp (List ℕ))
 
 -- nothing is kept of no tuples
@@ -28,10 +30,6 @@ stores_none kept none = record {
   same = ap (map stored_tuple) no_entries ∙ sym none;
   fit = subst (AllByRecursion (λ (entry : Indexed). AreFit entry.0)) (sym no_entries) tt;
 }
-
--- a property of keys that no tuples have
-pub no_keys : (P : Key → Type 0) → AllByRecursion (λ (entry : Indexed). P entry.0) (finite.entries (finite.empty {X = List ℕ} {R = key_cmp}))
-no_keys P = subst (AllByRecursion (λ (entry : Indexed). P entry.0)) (sym no_entries) tt
 
 -- a tuple more is kept under its key
 pub stores_put : (kept after : List StoredTuple) (tuples : Tuples) (key : Key) (bytes tuple : List ℕ) → StoresTuples kept tuples
@@ -47,11 +45,24 @@ stores_put kept after tuples key bytes tuple keeps fit is put_in =
       fit = subst (AllByRecursion (λ (entry : Indexed). AreFit entry.0)) (sym new) (all_with AreFit key tuple fit all keeps.fit);
     }
 
--- and its key has a property that the others have
-pub keys_put : (P : Key → Type 0) (tuples : Tuples) (key : Key) (tuple : List ℕ) → P key → AllByRecursion (λ (entry : Indexed). P entry.0) (finite.entries tuples)
-    → AllByRecursion (λ (entry : Indexed). P entry.0) (finite.entries (finite.insert tuples key tuple))
-keys_put P tuples key tuple has others =
-    subst (AllByRecursion (λ (entry : Indexed). P entry.0)) (sym (finite.entries-insert key_cmp_total tuples key tuple)) (all_with P key tuple has (finite.entries tuples) others)
+-- each entry has a property after one more is put that has it
+pub each_put : (P : Indexed → Type 0) (tuples : Tuples) (key : Key) (tuple : List ℕ) → P (key, tuple) → AllByRecursion P (finite.entries tuples)
+    → AllByRecursion P (finite.entries (finite.insert tuples key tuple))
+each_put P tuples key tuple has others = subst (AllByRecursion P) (sym (finite.entries-insert key_cmp_total tuples key tuple)) (all_put (finite.entries tuples) others)
+  where
+    by_case : (entry : Indexed) (all later : List Indexed) (o : Ordering) → key_cmp key entry.0 ≡ o → P entry → AllByRecursion P all → AllByRecursion P later
+        → AllByRecursion P (by_order o ((key, tuple) ∷ entry ∷ all) ((entry.0, tuple) ∷ all) (entry ∷ later))
+    by_case entry all later Less e one others rest = (has, (one, others))
+    by_case entry all later Equal e one others rest = (subst (λ (k : Key). P (k, tuple)) (key_cmp-IsAntisymmetric key entry.0 e) has, others)
+    by_case entry all later Greater e one others rest = (one, rest)
+
+    all_put : (all : List Indexed) → AllByRecursion P all → AllByRecursion P (put key_cmp key tuple all)
+    all_put [] others = (has, tt)
+    all_put (entry ∷ all) others = by_case entry all (put key_cmp key tuple all) (key_cmp key entry.0) refl others.0 others.1 (all_put all others.1)
+
+-- no tuples have it
+pub each_none : (P : Indexed → Type 0) → AllByRecursion P (finite.entries (finite.empty {X = List ℕ} {R = key_cmp}))
+each_none P = subst (AllByRecursion P) (sym no_entries) tt
 
 -- keys that are joined, and their bytes
 pub keys_joined : (one other : Key) → comparable_of (one ++ other) ≡ comparable_of one ++ comparable_of other

@@ -101,7 +101,7 @@ in_prefix_range key other same =
 
 -- ---- the entry of a key
 
-both : (b c : Bool) → T (b && c) → (b ≡ true) × T c
+pub both : (b c : Bool) → T (b && c) → (b ≡ true) × T c
 both true c h = (refl, h)
 both false c h = absurd h
 
@@ -109,7 +109,7 @@ first_of : (b c : Bool) → T (b && c) → T b
 first_of true c h = tt
 first_of false c h = absurd h
 
-lt_is : (o : Ordering) → is_lt o ≡ true → o ≡ Less
+pub lt_is : (o : Ordering) → is_lt o ≡ true → o ≡ Less
 lt_is Less e = refl
 lt_is Equal e = absurd (true≢false (sym e))
 lt_is Greater e = absurd (true≢false (sym e))

@@ -1,6 +1,6 @@
 -- The state of a database: its spaces, each with its tuples by primary key.
 use Rattle.std.specs.Prelude.{ℕ, List, Result, Ok, Err, [], ◌==◌, if◌then◌else◌}
-use Rattle.std.specs.FinMap.{FinMap, empty, get, insert}
+use Rattle.std.specs.FinMap.{FinMap, empty, get, insert, remove}
 use Rattle.std.specs.Option.{unwrap_or}
 use Rattle.std.specs.Ordering.{nat_cmp}
 use Rattle.mx_tuple.specs.Fields.{tuple_of}
@@ -23,6 +23,10 @@ tuples_in state space = unwrap_or (get state space) empty
 -- a space's tuples with one under this key, in the place of the one that is there
 abbrev pub with_tuple : State → (space : ℕ) → Key → (tuple : List ℕ) → State
 with_tuple state space key tuple = insert state space (insert (tuples_in state space) key tuple)
+
+-- a space's tuples without the one under this key
+abbrev pub without_tuple : State → (space : ℕ) → Key → State
+without_tuple state space key = insert state space (remove (tuples_in state space) key)
 
 -- the spaces whose rows describe spaces and indexes, and those that show the same rows
 abbrev pub space_rows : ℕ

@@ -1,5 +1,5 @@
 -- The state that memory holds: each tuple is kept under the comparable bytes of its primary key.
-use Rattle.std.specs.Prelude.{◌≡◌, ℕ, List, map, length, Option, Some, None, IfSome}
+use Rattle.std.specs.Prelude.{◌≡◌, ℕ, List, map, Option, Some, None, IfSome}
 use Rattle.std.specs.BTreeMap.{get_by}
 use Rattle.std.specs.List.{AllByRecursion}
 use Rattle.std.specs.FinMap as finite
@@ -11,7 +11,7 @@ use Rattle.mx_schema.specs.declared.keyed.Keyed.{Keyed}
 use Rattle.mx_schema.specs.declared.schema.Schema.{Schema}
 use Rattle.mx_schema.specs.declared.state.State as coded
 use Rattle.mx_schema.specs.declared.state.Table.{Table}
-use Rattle.mx_schema.specs.Catalogues.{index_with, schema_of}
+use Rattle.mx_schema.specs.Catalogues.{StandByKey, index_with, schema_of}
 use Rattle.mx_schema.specs.State.{State, Tuples, tuples_in}
 use Rattle.mx_schema.specs.Picks.{Indexed}
 
@@ -34,16 +34,15 @@ pub record StoresTuples (kept : List StoredTuple) (tuples : Tuples) : Type 0 whe
   pub same : map stored_tuple (finite.entries tuples) ≡ kept
   pub fit : AllByRecursion (λ (entry : Indexed). AreFit entry.0) (finite.entries tuples)
 
--- the keys have all parts of the primary index
-abbrev pub AreWhole : Schema → Tuples → Type 0
-AreWhole schema tuples =
-    IfSome (index_with 0 schema.indexes) (λ def. AllByRecursion (λ (entry : Indexed). length entry.0 ≡ length def.key) (finite.entries tuples))
+-- each tuple stands under its key in the primary index
+abbrev pub StandByPrimary : Schema → Tuples → Type 0
+StandByPrimary schema tuples = IfSome (index_with 0 schema.indexes) (λ def. StandByKey def.key tuples)
 
 -- a space that is described so, with these tuples
 pub record StoresSpace (schema : Option Schema) (described : Schema) (kept : List StoredTuple) (tuples : Tuples) : Type 0 where
   pub is : schema ≡ Some described
   pub keeps : StoresTuples kept tuples
-  pub whole : AreWhole described tuples
+  pub stands : StandByPrimary described tuples
 
 -- a space that isn't there
 pub record StoresNone (schema : Option Schema) (tuples : Tuples) : Type 0 where

@@ -52,11 +52,7 @@ pub fn from_row_slices(
 ///
 /// # Errors
 /// As of `from_row_slices`.
-pub fn from_rows(
-    alloc: Global,
-    spaces: &Tuples,
-    indexes: &Tuples,
-) -> Result<Catalogue, SchemaFault>
+pub fn from_rows(alloc: Global, spaces: &Tuples, indexes: &Tuples) -> Result<Catalogue, SchemaFault>
     ensures { MatchResult result
         (λ catalogue. IsMade spaces.now indexes.now (Ok catalogue))
         (λ why. ((found : RowFault) × (why ≡ fault.Row found.place found.refusal) × IsMade spaces.now indexes.now (Err found)) ⊎ (why ≡ fault.NoMemory)) }

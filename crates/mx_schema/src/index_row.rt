@@ -6,8 +6,8 @@ ghost use Rattle.mx_schema.specs.IndexRows.{index_kind_of, index_of_fields, is_a
 ghost use Rattle.mx_schema.specs.RowParts.{kind_in, options_in};
 
 use crate::index_def::{IndexDef, IndexKind, IndexRow};
-use crate::part_row::parts_in;
 use crate::names::{name_in, number_up_to};
+use crate::part_row::parts_in;
 use crate::text_map::values_of;
 use mx_base::{IndexId, Name, SpaceId};
 use mx_msgpack::{bool_in, map_in, text_in};

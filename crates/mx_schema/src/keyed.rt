@@ -74,7 +74,7 @@ pub fn index_tuple(
 }
 
 /// The comparable bytes of a tuple's key; none where it has no key.
-fn parts_or_none(alloc: Global, parts: &KeyDef, tuple: &[u8]) -> Result<Bytes, AllocError>
+pub fn parts_or_none(alloc: Global, parts: &KeyDef, tuple: &[u8]) -> Result<Bytes, AllocError>
     ensures { IfOk result (λ bytes. (bytes ≡ comparable_of (key_or_none (key_in parts.now tuple.now))) × AreFit (key_or_none (key_in parts.now tuple.now))) }
 {
     match key_of_tuple(alloc, parts, array_or_empty(tuple)) {

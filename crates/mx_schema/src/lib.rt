@@ -29,7 +29,7 @@ pub use catalogue_rows::{from_row_slices, from_rows};
 pub use fault::SchemaFault;
 pub use index_def::{IndexDef, IndexDefs, IndexKind, IndexRow};
 pub use index_row::index_of_row;
-pub use keyed::{Keyed, array_or_empty, index_tuple, key_array, key_tuple};
+pub use keyed::{Keyed, array_or_empty, index_tuple, key_array, key_tuple, parts_or_none};
 pub use laws::{
     a_catalogue_is_that_of_its_state, a_new_database_has_its_catalogue, rows_make_one_catalogue,
 };

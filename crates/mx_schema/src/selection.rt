@@ -11,7 +11,7 @@ ghost use Rattle.std.specs.Range.Bound.{IsForward};
 ghost use Rattle.mx_msgpack.specs.Items.{IsArray};
 ghost use Rattle.mx_key.specs.declared.edge.Edge.TheVariants as edges;
 ghost use Rattle.mx_key.specs.declared.iterator.IterKind.TheVariants as iterators;
-ghost use Rattle.mx_key.specs.Comparable.{bound_of, edges_of};
+ghost use Rattle.mx_key.specs.Comparable.{bound_of, comparable_of, edges_of};
 ghost use Rattle.mx_key.specs.Keys.{Key, AreFit};
 ghost use Rattle.mx_key.specs.Parts.{key_of_array};
 ghost use Rattle.mx_key.specs.Ranges.{range_of};
@@ -49,6 +49,25 @@ pub(crate) fn select_from(
     let is_whole = is_whole_key(is_own, indexed.is_none(), def, wanted.key);
     let kept = first_map(&indexed, tuples);
     as_fault(select_range(alloc, kept, range, is_whole, wanted, found))
+}
+
+/// A copy of the tuple that has the key of these comparable bytes in an index of these tuples by their
+/// primary keys.
+pub(crate) fn holder_among(
+    alloc: Global,
+    tuples: &BTreeMap<Bytes, Bytes>,
+    def: &IndexDef,
+    key: &Bytes,
+) -> Result<Option<Bytes>, AllocError>
+    ensures { (all : plain.Tuples) (wanted : Key) → StoresTuples tuples.now.entries all → AreFit wanted → key.now ≡ comparable_of wanted
+        → IfOk result (λ found. found ≡ finite.get (tuples_by_index def.now all) wanted) }
+{
+    let indexed = other_index(alloc, def, tuples)?;
+    let kept = first_map(&indexed, tuples);
+    let Some(tuple) = kept.get(key) else {
+        return Ok(None);
+    };
+    Ok(Some(Bytes::from_slice(alloc, tuple.as_slice())?))
 }
 
 /// The tuples under their keys in an index of another number than 0.

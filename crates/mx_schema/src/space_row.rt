@@ -7,8 +7,8 @@ ghost use Rattle.mx_schema.specs.SpaceRows.{are_flags, is_absent_or_zero, is_tex
 ghost use Rattle.mx_schema.specs.TextMaps.{text_pairs_in};
 
 use crate::format_row::format_in;
-use crate::part_row::is_set;
 use crate::names::{is_text, name_in, number_up_to};
+use crate::part_row::is_set;
 use crate::space_def::SpaceDef;
 use crate::text_map::values_of;
 use mx_base::{Name, SpaceId};

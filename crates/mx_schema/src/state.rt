@@ -10,10 +10,10 @@ ghost use Rattle.mx_key.specs.Comparable.{comparable_of};
 ghost use Rattle.mx_key.specs.Keys.{Key, AreFit};
 ghost use Rattle.mx_schema.specs.declared.schema.Schema.{Schema};
 ghost use Rattle.mx_schema.specs.Catalogues.{index_with, schema_of};
-ghost use Rattle.mx_schema.specs.Picks.{entries_of};
+ghost use Rattle.mx_schema.specs.Picks.{entries_of, tuples_by_index};
 ghost use Rattle.mx_schema.specs.Scans.{SelectsByKey};
 ghost use Rattle.mx_schema.specs.State as plain;
-ghost use Rattle.mx_schema.specs.State.{source_of, tuples_in, with_tuple};
+ghost use Rattle.mx_schema.specs.State.{key_in, source_of, tuples_in, with_tuple, without_tuple};
 ghost use Rattle.mx_schema.specs.Stored.{Holds, HoldsBy, HoldsSpace, StoresTuples};
 
 use crate::catalogue::Catalogue;
@@ -21,7 +21,7 @@ use crate::index_def::IndexDef;
 use crate::keyed::Keyed;
 use crate::pick::{Pick, SelectFault};
 use crate::schema::Schema;
-use crate::selection::select_from;
+use crate::selection::{holder_among, select_from};
 use crate::spaces::{INDEX_ROWS, SHOWN_INDEX_ROWS, SHOWN_SPACE_ROWS, SPACE_ROWS};
 use mx_base::SpaceId;
 use mx_key::KeyRange;
@@ -48,6 +48,15 @@ impl Table {
         ensures { result.now ≡ self.now.schema }
     {
         &self.schema
+    }
+
+    /// The tuple whose primary key has these comparable bytes.
+    pub fn tuple(&self, key: &Bytes) -> Option<&[u8]>
+        ensures { (all : plain.Tuples) (wanted : Key) → StoresTuples self.now.tuples.entries all → AreFit wanted → key.now ≡ comparable_of wanted
+            → option_copied result ≡ finite.get all wanted }
+    {
+        let tuple = self.tuples.get(key)?;
+        Some(tuple.as_slice())
     }
 
     /// What describes the space, and its tuples.
@@ -93,7 +102,7 @@ impl State {
     /// Out of memory. Nothing changed then.
     pub fn put(&mut self, space: SpaceId, keyed: Keyed) -> Result<(), AllocError>
         ensures ok { (schemas : ℕ → Option Schema) (state : plain.State) (schema : Schema) (key : Key) → HoldsBy schemas self.old state → schemas space.0 ≡ Some schema
-            → IfSome (index_with 0 schema.indexes) (λ def. length key ≡ length def.key) → AreFit key → keyed.key ≡ comparable_of key
+            → IfSome (index_with 0 schema.indexes) (λ def. key_in def.key keyed.tuple ≡ Ok key) → AreFit key → keyed.key ≡ comparable_of key
             → OnOk result (HoldsBy schemas self.new (with_tuple state space.0 key keyed.tuple)) }
         ensures err { (schemas : ℕ → Option Schema) (state : plain.State) → HoldsBy schemas self.old state → OnErr result (HoldsBy schemas self.new state) }
     {
@@ -102,6 +111,36 @@ impl State {
         };
         table.tuples.insert(keyed.key, keyed.tuple)?;
         Ok(())
+    }
+
+    /// Takes the tuple whose primary key has these comparable bytes out of a space; nothing where there is
+    /// no such space or tuple.
+    pub fn remove(&mut self, space: SpaceId, key: &Bytes)
+        ensures { (schemas : ℕ → Option Schema) (state : plain.State) (wanted : Key) → HoldsBy schemas self.old state → AreFit wanted → key.now ≡ comparable_of wanted
+            → HoldsBy schemas self.new (without_tuple state space.0 wanted) }
+    {
+        let Some(table) = self.tables.get_mut(&space.0) else {
+            return;
+        };
+        table.tuples.remove(key);
+    }
+
+    /// A copy of the tuple that has the key of these comparable bytes in an index of a space: of its own
+    /// tuples, also where it shows those of another.
+    pub fn holder(
+        &self,
+        alloc: Global,
+        space: SpaceId,
+        def: &IndexDef,
+        key: &Bytes,
+    ) -> Result<Option<Bytes>, AllocError>
+        ensures { (state : plain.State) (wanted : Key) → Holds self.now state → AreFit wanted → key.now ≡ comparable_of wanted
+            → IfOk result (λ found. found ≡ finite.get (tuples_by_index def.now (tuples_in state space.0)) wanted) }
+    {
+        let Some(table) = self.tables.get(&space.0) else {
+            return Ok(None);
+        };
+        holder_among(alloc, &table.tuples, def, key)
     }
 
     /// Puts into `found`, in place of what it had, the tuples that an iterator picks of an index of a space

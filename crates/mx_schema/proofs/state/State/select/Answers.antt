@@ -28,5 +28,5 @@ returns c = λ state holds space there.
     → AllByRecursion (λ (entry : Indexed). length entry.0 ≡ length c.args.def.now.key) (entries (tuples_in state source)) = λ yes first.
     let same : own ≡ source = sym (eqb-true c.source_of.result.0 own (sym c.eq-is_own.ensures ∙ yes)) ∙ c.source_of.ensures in
     subst (λ (s : ℕ). AllByRecursion (λ (entry : Indexed). length entry.0 ≡ length c.args.def.now.key) (entries (tuples_in state s))) same
-    (own_whole c.args.table.now.schema (tuples_in state own) c.args.def.now space.whole there first) in
+    (own_whole c.args.table.now.schema (tuples_in state own) c.args.def.now space.stands there first) in
     c.select_from.ensures (tuples_in state source) keeps whole
