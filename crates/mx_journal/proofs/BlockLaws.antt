@@ -22,11 +22,11 @@ use Rattle.mx_xlog.proofs.ReadingLaws.{blocks_of_block}
 pub transaction_data : (transaction : Tx) → IsTransaction transaction → IsData (transaction_text transaction)
 transaction_data transaction is =
     let (row, one, sound) = is.row in
-    let text : transaction_text transaction ≡ row_text transaction.replica transaction.first row =
-    ap (rows_text transaction.replica transaction.first) one ∙ append-nil (row_text transaction.replica transaction.first row) in
-    let l = ap length text ∙ row_length transaction.replica transaction.first row in
-    let id = shortest_length transaction.replica in
-    let lsn = shortest_length transaction.first in
+    let replica = transaction.replica.0 in
+    let first = transaction.first.0 in
+    let text : transaction_text transaction ≡ row_text replica first row = ap (rows_text replica first) one ∙ append-nil (row_text replica first row) in
+    let l = ap length text ∙ row_length replica first row in
+    let lsn = shortest_length first in
     let body = short_body row sound in
     record { some = omega arith; bounded = omega arith }
 

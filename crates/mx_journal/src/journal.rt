@@ -113,7 +113,7 @@ impl Journal {
         ensures pushed { self.new.pushed ≡ pushed }
         ensures others { SameButPushed self.old self.new }
     {
-        let Ok(()) = self.next.follow(tx.replica, tx.first) else {
+        let Ok(()) = self.next.follow(tx.replica.0, tx.first.0) else {
             unreachable!();
         };
         self.pushed = pushed;

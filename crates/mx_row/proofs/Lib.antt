@@ -1,5 +1,8 @@
-pub mod PairLaws
-pub mod RowLaws
 pub mod ClockLaws
+pub mod SizeLaws
+pub mod PairLaws
+pub mod ReadLaws
+pub mod RowLaws
 pub mod GroupLaws
-pub mod PartLaws
+pub mod EntryLaws
+pub mod GrammarLaws

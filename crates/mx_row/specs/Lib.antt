@@ -1,4 +1,5 @@
+pub mod Values
 pub mod Rows
+pub mod Grammar
 pub mod Clocks
 pub mod Views
-pub mod RowParts

@@ -1,8 +1,12 @@
--- What a clause sees of a transaction in place.
+-- What a clause sees of rows and transactions in place.
 use Rattle.std.specs.Prelude.{[], ◌∷◌}
+use Rattle.mx_row.specs.declared.row.Row.{Row}
 use Rattle.mx_row.specs.declared.tx.Tx.{Tx}
-use Rattle.mx_row.specs.declared.row.Row.TheVariants.{Replaced}
-use Rattle.mx_row.specs.declared.reading.TxRef.{TxRef}
+use Rattle.mx_row.specs.declared.row_ref.RowRef.{RowRef}
+use Rattle.mx_row.specs.declared.tx_ref.TxRef.{TxRef}
+
+abbrev pub row_value : RowRef → Row
+row_value row = record { kind = row.kind; space = row.space; index_base = row.index_base; tuple = row.tuple.now; key = row.key.now; ops = row.ops.now }
 
 abbrev pub tx_view : TxRef → Tx
-tx_view row = record { replica = row.replica; first = row.lsn; rows = Replaced row.space row.tuple.now ∷ [] }
+tx_view transaction = record { replica = transaction.replica; first = transaction.lsn; rows = row_value transaction.row ∷ [] }

@@ -1,14 +1,26 @@
 //! Rows of a journal and the transactions that they make up: as bytes both ways, and as vclocks.
 #![tactic(auto)]
 
+mod bodies;
+mod header;
+mod laws;
 mod reading;
 mod row;
+mod row_ref;
+pub mod row_types;
 mod rows;
+mod size;
 mod tx;
+mod tx_ref;
+mod values;
 mod writing;
 
-pub use reading::{TxRef, read_tx};
+pub use laws::{what_is_read_is_spelled, what_is_spelled_is_read, what_is_written_is_spelled};
+pub use reading::read_tx_in_place;
 pub use row::Row;
+pub use row_ref::RowRef;
 pub use rows::Rows;
+pub use size::{MAX_BODY_SIZE, row_size};
 pub use tx::Tx;
+pub use tx_ref::{TxRef, to_owned};
 pub use writing::write_tx;

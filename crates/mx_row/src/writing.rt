@@ -1,27 +1,24 @@
-//! Rows of a journal, written in their shortest spelling.
+//! Transactions of a journal, written in their shortest spelling.
 
-ghost use Rattle.std.specs.Prelude.{◌≡◌, ◌<◌, ◌++◌, ◌∷◌, length, take, MatchResult};
+ghost use Rattle.std.specs.Prelude.{◌≡◌, ◌≤◌, ℕ, ◌++◌, length, map, take, MatchResult};
+ghost use Rattle.std.specs.List.{concat};
 ghost use Rattle.mx_msgpack.specs.Spelling.{shortest_unsigned};
-ghost use Rattle.mx_base.specs.Keys.{type_key, replica_key, lsn_key};
-ghost use Rattle.mx_row.specs.Rows.{IsTransaction, transaction_text, row_text, row_body_text, replace_type};
+ghost use Rattle.mx_base.specs.Keys.{base_key};
+ghost use Rattle.mx_request.specs.Spelling.{entry_text, map_text, unless_default};
+ghost use Rattle.mx_row.specs.Rows.{IsTransaction, delete_pairs, row_header_pairs, row_body_text, row_text, transaction_text, tuple_pairs, update_pairs, upsert_pairs};
 
 use crate::row::Row;
+use crate::row_types;
 use crate::tx::Tx;
-use mx_base::keys;
-use mx_msgpack::{Bytes, write_unsigned};
+use mx_base::{ReplicaId, keys};
+use mx_msgpack::{Bytes, write_map_head, write_unsigned};
 use std::alloc::{AllocError, Global};
-
-/// The leading byte of a map of two pairs.
-const MAP_OF_TWO: u8 = 0x82;
 
 /// The leading byte of a map of three pairs.
 const MAP_OF_THREE: u8 = 0x83;
 
-/// The type of a row that puts a tuple in the place of another one.
-const REPLACE: u8 = 3;
-
-/// The maximum size of a row in bytes without its tuple.
-const MAX_KEYS_SIZE: usize = 23;
+/// The maximum size of a row in bytes without its tuple, key and operations.
+const MAX_KEYS_SIZE: usize = 32;
 
 /// Adds the rows of a transaction.
 ///
@@ -44,7 +41,7 @@ fn write_rows(tx: &Tx, out: &mut Bytes) -> Result<(), AllocError>
     requires { IsTransaction tx.now }
     ensures { MatchResult result (λ _. out.new ≡ out.old ++ transaction_text tx.now) (λ _. take (length out.old) out.new ≡ out.old) }
 {
-    let mut lsn = tx.first;
+    let mut lsn = tx.first.0;
     for row in tx.rows.as_slice() {
         write_row(tx.replica, lsn, row, out)?;
         lsn += 1;
@@ -52,36 +49,35 @@ fn write_rows(tx: &Tx, out: &mut Bytes) -> Result<(), AllocError>
     Ok(())
 }
 
-fn write_row(replica: u8, lsn: u64, row: &Row, out: &mut Bytes) -> Result<(), AllocError>
-    requires { replica < 32 }
-    ensures { MatchResult result (λ _. out.new ≡ out.old ++ row_text replica lsn row.now) (λ _. take (length out.old) out.new ≡ out.old) }
+fn write_row(replica: ReplicaId, lsn: u64, row: &Row, out: &mut Bytes) -> Result<(), AllocError>
+    ensures { MatchResult result (λ _. out.new ≡ out.old ++ row_text replica.0 lsn row.now) (λ _. take (length out.old) out.new ≡ out.old) }
 {
     out.reserve(row_room(row))?;
-    write_head(replica, lsn, out)?;
+    write_head(row.kind, replica, lsn, out)?;
     write_body(row, out)?;
     Ok(())
 }
 
 /// As many bytes as the row takes, or a few more.
 fn row_room(row: &Row) -> usize {
-    match row {
-        Row::Replaced { tuple, .. } => tuple.len().saturating_add(MAX_KEYS_SIZE),
-    }
+    MAX_KEYS_SIZE
+        .saturating_add(row.tuple.len())
+        .saturating_add(row.key.len())
+        .saturating_add(row.ops.len())
 }
 
-fn write_head(replica: u8, lsn: u64, out: &mut Bytes) -> Result<(), AllocError>
-    requires { replica < 32 }
+#[tactic(auto, unfolding(mx_msgpack::specs::Spelling::map_head))]
+fn write_head(kind: u8, replica: ReplicaId, lsn: u64, out: &mut Bytes) -> Result<(), AllocError>
     ensures { MatchResult result
-        (λ _. out.new ≡ out.old
-        ++ ((0x83 ∷ type_key ∷ replace_type ∷ replica_key ∷ shortest_unsigned replica) ++ (lsn_key ∷ shortest_unsigned lsn)))
+        (λ _. out.new ≡ out.old ++ map_text (row_header_pairs kind replica.0 lsn))
         (λ _. take (length out.old) out.new ≡ out.old) }
 {
     out.extend_from_slice(&[
         MAP_OF_THREE,
         keys::TYPE,
-        REPLACE,
+        kind,
         keys::REPLICA,
-        replica,
+        replica.0,
         keys::LSN,
     ])?;
     write_unsigned(lsn, out)?;
@@ -91,13 +87,92 @@ fn write_head(replica: u8, lsn: u64, out: &mut Bytes) -> Result<(), AllocError>
 fn write_body(row: &Row, out: &mut Bytes) -> Result<(), AllocError>
     ensures { MatchResult result (λ _. out.new ≡ out.old ++ row_body_text row.now) (λ _. take (length out.old) out.new ≡ out.old) }
 {
-    match row {
-        Row::Replaced { space, tuple } => {
-            out.extend_from_slice(&[MAP_OF_TWO, keys::SPACE])?;
-            write_unsigned(u64::from(*space), out)?;
-            out.extend_from_slice(&[keys::TUPLE])?;
-            out.extend_from_slice(tuple.as_slice())?;
-            Ok(())
-        }
+    match row.kind {
+        row_types::UPDATE => write_update(row, out),
+        row_types::DELETE => write_delete(row, out),
+        row_types::UPSERT => write_upsert(row, out),
+        _ => write_tuple(row, out),
     }
+}
+
+fn write_tuple(row: &Row, out: &mut Bytes) -> Result<(), AllocError>
+    ensures { MatchResult result
+        (λ _. out.new ≡ out.old ++ map_text (tuple_pairs row.now.space.0 row.now.tuple))
+        (λ _. take (length out.old) out.new ≡ out.old) }
+{
+    write_map_head(2, out)?;
+    write_number(keys::SPACE, row.space.0, out)?;
+    write_array(keys::TUPLE, &row.tuple, out)?;
+    Ok(())
+}
+
+fn write_update(row: &Row, out: &mut Bytes) -> Result<(), AllocError>
+    ensures { MatchResult result
+        (λ _. out.new ≡ out.old ++ map_text (update_pairs row.now.space.0 row.now.index_base row.now.key row.now.ops))
+        (λ _. take (length out.old) out.new ≡ out.old) }
+{
+    write_map_head(3 + base_pairs(row.index_base), out)?;
+    write_number(keys::SPACE, row.space.0, out)?;
+    write_base(row.index_base, out)?;
+    write_array(keys::PARTS, &row.key, out)?;
+    write_array(keys::TUPLE, &row.ops, out)?;
+    Ok(())
+}
+
+fn write_delete(row: &Row, out: &mut Bytes) -> Result<(), AllocError>
+    ensures { MatchResult result
+        (λ _. out.new ≡ out.old ++ map_text (delete_pairs row.now.space.0 row.now.key))
+        (λ _. take (length out.old) out.new ≡ out.old) }
+{
+    write_map_head(2, out)?;
+    write_number(keys::SPACE, row.space.0, out)?;
+    write_array(keys::PARTS, &row.key, out)?;
+    Ok(())
+}
+
+fn write_upsert(row: &Row, out: &mut Bytes) -> Result<(), AllocError>
+    ensures { MatchResult result
+        (λ _. out.new ≡ out.old ++ map_text (upsert_pairs row.now.space.0 row.now.index_base row.now.tuple row.now.ops))
+        (λ _. take (length out.old) out.new ≡ out.old) }
+{
+    write_map_head(3 + base_pairs(row.index_base), out)?;
+    write_number(keys::SPACE, row.space.0, out)?;
+    write_base(row.index_base, out)?;
+    write_array(keys::TUPLE, &row.tuple, out)?;
+    write_array(keys::OPERATIONS, &row.ops, out)?;
+    Ok(())
+}
+
+fn base_pairs(base: u32) -> usize
+    ensures count { result ≡ length (unless_default base_key 0 base) }
+    ensures few { result ≤ 1 }
+{
+    usize::from(base != 0)
+}
+
+fn write_base(base: u32, out: &mut Bytes) -> Result<(), AllocError>
+    ensures { MatchResult result
+        (λ _. out.new ≡ out.old ++ concat (map entry_text (unless_default base_key 0 base)))
+        (λ _. take (length out.old) out.new ≡ out.old) }
+{
+    if base != 0 {
+        write_number(keys::BASE, base, out)?;
+    }
+    Ok(())
+}
+
+fn write_number(key: u8, number: u32, out: &mut Bytes) -> Result<(), AllocError>
+    ensures { MatchResult result (λ _. out.new ≡ out.old ++ entry_text (key, shortest_unsigned number)) (λ _. take (length out.old) out.new ≡ out.old) }
+{
+    out.extend_from_slice(&[key])?;
+    write_unsigned(u64::from(number), out)?;
+    Ok(())
+}
+
+fn write_array(key: u8, array: &Bytes, out: &mut Bytes) -> Result<(), AllocError>
+    ensures { MatchResult result (λ _. out.new ≡ out.old ++ entry_text (key, array.now)) (λ _. take (length out.old) out.new ≡ out.old) }
+{
+    out.extend_from_slice(&[key])?;
+    out.extend_from_slice(array.as_slice())?;
+    Ok(())
 }
