@@ -1,12 +1,14 @@
 //! Why a request is refused: a number and a text.
 
 ghost use Rattle.std.specs.Prelude.{◌≡◌};
+ghost use Rattle.mx_base.specs.declared.refusal.Refusal.TheVariants.{OutOfMemory};
 ghost use Rattle.mx_base.specs.Refusals as refusals;
 
 use crate::ids::{IndexId, Lsn, ReplicaId, SpaceId};
 use crate::kinds::{TypeName, Unsupported};
 use crate::name::Name;
 use mx_vclock::Vclock;
+use std::alloc::AllocError;
 
 /// A refusal. Fields, key parts and operations count from 0.
 #[derive(Debug, Drop)]
@@ -93,6 +95,14 @@ pub struct Reach {
     pub asked: Vclock,
     pub first: Vclock,
     pub last: Vclock,
+}
+
+impl From<AllocError> for Refusal {
+    ghost from_gives = { λ _ e. e ≡ OutOfMemory };
+
+    fn from(_fault: AllocError) -> Refusal {
+        Refusal::OutOfMemory
+    }
 }
 
 /// The refusal's number.

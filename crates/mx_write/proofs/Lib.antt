@@ -1,0 +1,5 @@
+mod StageLaws
+mod TargetLaws
+mod MadeLaws
+mod UniqueLaws
+pub mod RowJudgeLaws

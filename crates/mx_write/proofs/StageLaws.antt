@@ -1,0 +1,130 @@
+-- How a write goes on from stage to stage, and where it ends.
+use Rattle.std.proofs.Common.{◌≡◌, ◌⊎◌, ℕ, inl, inr, List, Option, Some, None, Result, Ok, Err, refl, sym, ap, ◌∙◌, subst}
+use Rattle.mx_base.specs.declared.refusal.Refusal.{Refusal}
+use Rattle.mx_base.specs.declared.refusal.Refusal.TheVariants.{OutOfMemory}
+use Rattle.mx_base.specs.declared.ids.IndexId.{IndexId}
+use Rattle.mx_base.specs.declared.ids.SpaceId.{SpaceId}
+use Rattle.mx_base.specs.declared.refusal.Refusal.TheVariants.{IndexMissing, SpaceMissing}
+use Rattle.mx_schema.specs.declared.index_def.IndexDef.{IndexDef}
+use Rattle.mx_schema.specs.declared.schema.Schema.{Schema}
+use Rattle.mx_schema.specs.Catalogues.{index_with, schema_of}
+use Rattle.mx_schema.specs.State.{State, Tuples, tuples_in}
+use Rattle.mx_schema.specs.Stored.{Holds, StoredTuple, StoresSpace}
+use Rattle.mx_write.specs.declared.made.Made as code
+use Rattle.mx_write.specs.declared.scope.Target.{Target}
+use Rattle.mx_write.specs.Lookup.{the_index, the_space}
+use Rattle.mx_write.specs.Made.{Made}
+use Rattle.mx_write.specs.Writes.{Write}
+use Rattle.mx_write.specs.Judged.{Judged, found_or, judged_as, next_stage, unless, ◌>>=◌}
+use Rattle.mx_write.specs.Makes.{IsRefusedBy, JudgesFound, JudgesMade}
+use Rattle.mx_write.specs.Steps.{IsTarget, Refuses, refusal_of}
+
+module _ {X Y : Type 0} (judged : Judged X) (stage : X → Judged Y) where
+  -- it goes on with what was found
+  pub goes_on : (x : X) → judged.outcome ≡ Ok x → (judged >>= stage).outcome ≡ (stage x).outcome
+  goes_on x is = ap (λ outcome. (next_stage judged.reads outcome stage).outcome) is
+
+  -- it ends where this stage refuses
+  pub refused_here : (why : Refusal) → IsRefusedBy why judged → IsRefusedBy why (judged >>= stage)
+  refused_here why (inl is) = inl (ap (λ outcome. (next_stage judged.reads outcome stage).outcome) is)
+  refused_here why (inr none) = inr none
+
+  -- and where a later one does
+  pub refused_later : (x : X) (why : Refusal) → judged.outcome ≡ Ok x → IsRefusedBy why (stage x) → IsRefusedBy why (judged >>= stage)
+  refused_later x why is (inl refuses) = inl (goes_on x is ∙ refuses)
+  refused_later x why is (inr none) = inr none
+
+  -- an outcome that is no refusal came by way of something that was found
+  pub came_by : (y : Y) → (judged >>= stage).outcome ≡ Ok y → (x : X) × (judged.outcome ≡ Ok x) × ((stage x).outcome ≡ Ok y)
+  came_by y = by_outcome judged.outcome refl
+    where
+      by_outcome : (outcome : Result X Refusal) → judged.outcome ≡ outcome → (next_stage judged.reads outcome stage).outcome ≡ Ok y
+          → (x : X) × (judged.outcome ≡ Ok x) × ((stage x).outcome ≡ Ok y)
+      by_outcome (Err why) is e = absurd cc
+      by_outcome (Ok x) is e = (x, is, e)
+
+-- ---- one stage
+
+pub none_refuses : (fault : Option Refusal) → fault ≡ None → (unless fault).outcome ≡ Ok tt
+none_refuses fault none = ap (λ f. (unless f).outcome) none
+
+pub refuses_so : (fault : Option Refusal) (why : Refusal) → Refuses why fault → IsRefusedBy why (unless fault)
+refuses_so fault why (inl is) = inl (ap (λ f. (unless f).outcome) is)
+refuses_so fault why (inr none) = inr none
+
+pub passed_so : (fault : Option Refusal) (x : Unit {0}) → (unless fault).outcome ≡ Ok x → fault ≡ None
+passed_so None x e = refl
+passed_so (Some why) x e = absurd cc
+
+pub is_found : {X : Type 0} (why : Refusal) (there : Option X) (x : X) → there ≡ Some x → (found_or why there).outcome ≡ Ok x
+is_found why there x is = ap (λ t. (found_or why t).outcome) is
+
+pub is_missing : {X : Type 0} (why : Refusal) (there : Option X) → there ≡ None → (found_or why there).outcome ≡ Err why
+is_missing why there none = ap (λ t. (found_or why t).outcome) none
+
+pub was_found : {X : Type 0} (why : Refusal) (there : Option X) (x : X) → (found_or why there).outcome ≡ Ok x → there ≡ Some x
+was_found why None x e = absurd cc
+was_found why (Some other) x e = cc
+
+-- ---- the space and its index
+
+module _ (before : State) (space : SpaceId) where
+  pub space_there : (schema : Schema) → schema_of before space.0 ≡ Some schema → (the_space before space.0).outcome ≡ Ok schema
+  space_there schema is = is_found (SpaceMissing space) (schema_of before space.0) schema is
+
+  pub space_missing : (why : Refusal) → (schema_of before space.0 ≡ None) × (why ≡ SpaceMissing space) → IsRefusedBy why (the_space before space.0)
+  space_missing why (none, is) = inl (is_missing (SpaceMissing space) (schema_of before space.0) none ∙ ap (λ w. Err w) (sym is))
+
+module _ (space : ℕ) (schema : Schema) (index : IndexId) where
+  pub index_there : (def : IndexDef) → index_with index.0 schema.indexes ≡ Some def → (the_index space schema index.0).outcome ≡ Ok def
+  index_there def is = is_found (IndexMissing index schema.def.name) (index_with index.0 schema.indexes) def is
+
+  pub index_absent : (why : Refusal) → ((index_with index.0 schema.indexes ≡ None) × (why ≡ IndexMissing index schema.def.name)) ⊎ (why ≡ OutOfMemory)
+      → IsRefusedBy why (the_index space schema index.0)
+  index_absent why (inl (none, is)) = inl (is_missing (IndexMissing index schema.def.name) (index_with index.0 schema.indexes) none ∙ ap (λ w. Err w) (sym is))
+  index_absent why (inr none) = inr none
+
+-- ---- a space as the code has it
+
+-- by what describes it, which stands in its table
+pub stores_by : (described : Option Schema) (one other : Schema) (kept : List StoredTuple) (tuples : Tuples) → other ≡ one
+    → StoresSpace described one kept tuples → StoresSpace described other kept tuples
+stores_by described one other kept tuples same = subst (λ s. StoresSpace described s kept tuples) (sym same)
+
+-- a space that was found, with its primary index
+pub is_target : (before : State) (target : Target) → Holds target.scope.state.now before
+    → StoresSpace (schema_of before target.scope.space.0) target.table.now.schema target.table.now.tuples.entries (tuples_in before target.scope.space.0)
+    → target.schema.now ≡ target.table.now.schema → index_with 0 target.schema.now.indexes ≡ Some target.primary.now → IsTarget before target
+is_target before target holds stored same there = record {
+  holds = holds;
+  stored = stores_by _ _ _ _ _ same stored;
+  primary = there;
+}
+
+-- ---- refusals of a stage that gives one or none
+
+-- an outcome without a refusal is that it went on
+pub went_on : (judged : Judged (Unit {0})) → None ≡ refusal_of judged.outcome → judged.outcome ≡ Ok tt
+went_on judged = by_outcome judged.outcome
+  where
+    by_outcome : (outcome : Result (Unit {0}) Refusal) → None ≡ refusal_of outcome → outcome ≡ Ok tt
+    by_outcome (Ok tt) e = refl
+    by_outcome (Err why) e = absurd cc
+
+pub stopped_so : (judged : Judged (Unit {0})) (why : Refusal) → Some why ≡ refusal_of judged.outcome → IsRefusedBy why judged
+stopped_so judged why e = inl (by_outcome judged.outcome e)
+  where
+    by_outcome : (outcome : Result (Unit {0}) Refusal) → Some why ≡ refusal_of outcome → outcome ≡ Err why
+    by_outcome (Ok tt) e = absurd cc
+    by_outcome (Err other) e = cc
+
+-- ---- what a write makes
+
+-- the same outcome
+pub judged_by : (before : State) (space : ℕ) (write : Write) (result : Result code.Made Refusal) (one other : Judged Made) → one.outcome ≡ other.outcome
+    → JudgesMade before space write result other → JudgesMade before space write result one
+judged_by before space write result one other same = subst (λ outcome. JudgesMade before space write result (judged_as outcome)) (sym same)
+
+pub judged_by_found : (before : State) (space : ℕ) (write : Write) (result : Result (Option code.Made) Refusal) (one other : Judged Made) → one.outcome ≡ other.outcome
+    → JudgesFound before space write result other → JudgesFound before space write result one
+judged_by_found before space write result one other same = subst (λ outcome. JudgesFound before space write result (judged_as outcome)) (sym same)

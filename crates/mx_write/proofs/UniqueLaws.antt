@@ -1,0 +1,99 @@
+-- Whether a tuple is another one, and whether an index is free, as the code tests it.
+use Rattle.std.proofs.Common.{◌≡◌, ℕ, Bool, true, false, not, List, [], ◌∷◌, Option, Some, None, Ok, Err, refl, sym, ap, ◌∙◌, subst}
+use Rattle.std.specs.Prelude.{◌==◌, ◌||◌, if◌then◌else◌}
+use Rattle.std.specs.FinMap.{get}
+use Rattle.std.specs.Ordering.{is_eq}
+use Rattle.std.specs.Str.{bytes_eq}
+use Rattle.std.proofs.lemmas.Map.Text.{is_eq-slice_cmp}
+use Rattle.std.proofs.lemmas.Bool.{eqb-true}
+use Rattle.mx_base.specs.declared.refusal.Refusal.{Refusal}
+use Rattle.mx_key.specs.Comparable.{comparable_of}
+use Rattle.mx_key.specs.Keys.{Key, AreFit}
+use Rattle.mx_key.proofs.EncodingLaws.{bytes_order}
+use Rattle.mx_schema.specs.declared.index_def.IndexDef.{IndexDef}
+use Rattle.mx_schema.specs.declared.schema.Schema.{Schema}
+use Rattle.mx_schema.specs.Catalogues.{index_with}
+use Rattle.mx_schema.specs.State.{State, tuples_in}
+use Rattle.mx_schema.proofs.StoredLaws.{primary_index}
+use Rattle.mx_write.specs.Judged.{Judged, next_stage, unless}
+use Rattle.mx_write.specs.Lookup.{holder_of, own_key}
+use Rattle.mx_write.specs.Steps.{IsReplaced, refusal_of}
+use Rattle.mx_write.specs.Unique.{are_free, duplicate, is_another, is_free, is_free_if_unique, is_same_key}
+
+-- two keys are one where their bytes are
+pub same_by_bytes : (one other : Key) → AreFit one → AreFit other → is_same_key one other ≡ bytes_eq (comparable_of one) (comparable_of other)
+same_by_bytes one other fits fit = ap is_eq (sym (bytes_order one other fits fit)) ∙ is_eq-slice_cmp (comparable_of one) (comparable_of other)
+
+-- the tuple that was found is another one, by the bytes of its primary key
+pub another_is : (primary : IndexDef) (holder : Option (List ℕ)) (tuple : List ℕ) (replaced : Option (List ℕ)) (bytes own : List ℕ) (key : Option Key) (is : Bool)
+    → holder ≡ Some tuple → replaced ≡ Some bytes → IsReplaced replaced key → own ≡ comparable_of (own_key primary tuple) → AreFit (own_key primary tuple)
+    → is ≡ not (bytes_eq own bytes) → is ≡ is_another primary key holder
+another_is primary holder tuple replaced bytes own key is there given are own_is fit test =
+    by_key key (subst (λ r. IsReplaced r key) given are) ∙ ap (is_another primary key) (sym there)
+  where
+    by_key : (key : Option Key) → IsReplaced (Some bytes) key → is ≡ is_another primary key (Some tuple)
+    by_key None are = absurd are
+    by_key (Some key) (fits, bytes_are) =
+        test ∙ (λ i. not (bytes_eq (own_is i) (bytes_are i))) ∙ ap not (sym (same_by_bytes (own_key primary tuple) key fit fits))
+
+-- there is one, and none is replaced
+pub another_unless_replaced : (primary : IndexDef) (holder : Option (List ℕ)) (tuple : List ℕ) (replaced : Option (List ℕ)) (key : Option Key)
+    → holder ≡ Some tuple → replaced ≡ None → IsReplaced replaced key → true ≡ is_another primary key holder
+another_unless_replaced primary holder tuple replaced key there none are =
+    by_key key (subst (λ r. IsReplaced r key) none are) ∙ ap (is_another primary key) (sym there)
+  where
+    by_key : (key : Option Key) → IsReplaced None key → true ≡ is_another primary key (Some tuple)
+    by_key None are = refl
+    by_key (Some key) are = absurd are
+
+pub no_other : (primary : IndexDef) (holder : Option (List ℕ)) (key : Option Key) → holder ≡ None → false ≡ is_another primary key holder
+no_other primary holder key none = by_key key ∙ ap (is_another primary key) (sym none)
+  where
+    by_key : (key : Option Key) → false ≡ is_another primary key None
+    by_key None = refl
+    by_key (Some key) = refl
+
+-- ---- the primary index
+
+-- the index of a number has that number
+pub number_is : (id : ℕ) (defs : List IndexDef) (def : IndexDef) → index_with id defs ≡ Some def → (def.id.0 == id) ≡ true
+number_is id [] def e = absurd cc
+number_is id (other ∷ others) def e = by_test (number_is id others def) (other.id.0 == id) refl e
+  where
+    by_test : (index_with id others ≡ Some def → (def.id.0 == id) ≡ true) → (b : Bool) → (other.id.0 == id) ≡ b
+        → (if b then Some other else index_with id others) ≡ Some def → (def.id.0 == id) ≡ true
+    by_test later true test e = let same : other ≡ def = cc in ap (λ (d : IndexDef). d.id.0 == id) (sym same) ∙ test
+    by_test later false test e = later e
+
+module _ (before : State) (space : ℕ) (schema : Schema) (primary : IndexDef) (tuple : List ℕ) (is : index_with 0 schema.indexes ≡ Some primary) where
+  abbrev first : ℕ
+  first = primary.id.0
+
+  -- the tuple under the primary key
+  pub holder_is : (key : Key) → holder_of before space primary key ≡ get (tuples_in before space) key
+  holder_is key = ap (λ tuples. get tuples key) (primary_index primary (tuples_in before space) (eqb-true first 0 (number_is 0 schema.indexes primary is)))
+
+  abbrev by_unique : Bool → Judged (Unit {0})
+  by_unique unique = if unique then is_free before space schema primary None tuple primary else record { reads = []; outcome = Ok tt }
+
+  -- an INSERT tests it first
+  tested_first : (is_free_if_unique before space schema primary None tuple primary).outcome ≡ (is_free before space schema primary None tuple primary).outcome
+  tested_first = ap (λ b. (by_unique (b || primary.unique)).outcome) (number_is 0 schema.indexes primary is)
+
+  pub key_is_taken : (why : Refusal) (old : List ℕ) → get (tuples_in before space) (own_key primary tuple) ≡ Some old → Some why ≡ duplicate schema primary true
+      → (others : List IndexDef) → Some why ≡ refusal_of (are_free before space schema primary None tuple (primary ∷ others)).outcome
+  key_is_taken why old there told others =
+      let held : is_another primary None (holder_of before space primary (own_key primary tuple)) ≡ true =
+      ap (is_another primary None) (holder_is (own_key primary tuple) ∙ there) in
+      let refuses : (is_free_if_unique before space schema primary None tuple primary).outcome ≡ Err why =
+      tested_first ∙ ap (λ b. (unless (duplicate schema primary b)).outcome) held ∙ ap (λ r. (unless r).outcome) (sym told) in
+      ap (λ outcome. refusal_of (next_stage (is_free_if_unique before space schema primary None tuple primary).reads outcome (λ _. are_free before space schema primary None tuple others)).outcome) (sym refuses)
+
+  pub key_is_free : get (tuples_in before space) (own_key primary tuple) ≡ None → (others : List IndexDef)
+      → refusal_of (are_free before space schema primary None tuple (primary ∷ others)).outcome ≡ refusal_of (are_free before space schema primary None tuple others).outcome
+  key_is_free none others =
+      let held : is_another primary None (holder_of before space primary (own_key primary tuple)) ≡ false =
+      ap (is_another primary None) (holder_is (own_key primary tuple) ∙ none) in
+      let passes : (is_free_if_unique before space schema primary None tuple primary).outcome ≡ Ok tt =
+      tested_first ∙ ap (λ b. (unless (duplicate schema primary b)).outcome) held in
+      ap (λ outcome. refusal_of (next_stage (is_free_if_unique before space schema primary None tuple primary).reads outcome (λ _. are_free before space schema primary None tuple others)).outcome) passes

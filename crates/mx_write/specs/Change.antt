@@ -1,0 +1,22 @@
+-- What a statement changes of a state: what stands under one primary key of a space.
+use Rattle.std.specs.Prelude.{ℕ, List, Option, Some, None}
+use Rattle.mx_key.specs.Keys.{Key}
+use Rattle.mx_schema.specs.State.{State, with_tuple, without_tuple}
+
+-- the tuple that stands under a primary key of a space afterwards, or none
+pub record Change : Type 0 where
+  pub space : ℕ
+  pub key : Key
+  pub tuple : Option (List ℕ)
+
+abbrev pub state_with : State → (space : ℕ) → Key → (tuple : Option (List ℕ)) → State
+state_with before space key None = without_tuple before space key
+state_with before space key (Some tuple) = with_tuple before space key tuple
+
+abbrev pub state_after_change : State → Change → State
+state_after_change before change = state_with before change.space change.key change.tuple
+
+-- the state is as before where nothing is changed
+abbrev pub state_after_changed : State → Option Change → State
+state_after_changed before None = before
+state_after_changed before (Some change) = state_after_change before change

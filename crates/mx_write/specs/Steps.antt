@@ -1,0 +1,50 @@
+-- Only private functions and proofs need these: how far a write was judged.
+use Rattle.std.specs.Prelude.{◌≡◌, ◌⊎◌, ⊤, ℕ, List, Option, Some, None, Result, Ok, Err, MatchResult}
+use Rattle.mx_base.specs.declared.refusal.Refusal.{Refusal}
+use Rattle.mx_base.specs.declared.refusal.Refusal.TheVariants.{OutOfMemory}
+use Rattle.mx_key.specs.Comparable.{comparable_of}
+use Rattle.mx_key.specs.Keys.{Key, AreFit}
+use Rattle.mx_schema.specs.declared.index_def.IndexDef.{IndexDef}
+use Rattle.mx_schema.specs.Catalogues.{index_with, schema_of}
+use Rattle.mx_schema.specs.State.{State, key_in, tuples_in}
+use Rattle.mx_schema.specs.Stored.{Holds, StoresSpace}
+use Rattle.mx_write.specs.declared.scope.Target.{Target}
+
+-- a check passes, or refuses so, or memory ran out
+abbrev pub Refuses : Refusal → Option Refusal → Type 0
+Refuses why fault = (fault ≡ Some why) ⊎ (why ≡ OutOfMemory)
+
+abbrev pub Checks : Result (Unit {0}) Refusal → (fault : Option Refusal) → Type 0
+Checks result fault = MatchResult result (λ _. fault ≡ None) (λ why. Refuses why fault)
+
+-- these are the comparable bytes of a tuple's key in an index
+abbrev pub HasOwnKey : IndexDef → (tuple bytes : List ℕ) → Type 0
+HasOwnKey def tuple bytes = (key : Key) × (key_in def.key tuple ≡ Ok key) × AreFit key × (bytes ≡ comparable_of key)
+
+abbrev pub ChecksKey : Result (List ℕ) Refusal → (fault : Option Refusal) → IndexDef → (tuple : List ℕ) → Type 0
+ChecksKey result fault def tuple = MatchResult result (λ bytes. (fault ≡ None) × HasOwnKey def tuple bytes) (λ why. Refuses why fault)
+
+-- the refusal of an outcome, if it is one
+abbrev pub refusal_of : {X : Type 0} → Result X Refusal → Option Refusal
+refusal_of (Ok x) = None
+refusal_of (Err why) = Some why
+
+-- a result of the code is this outcome, or memory ran out
+abbrev pub JudgesAs : {X : Type 0} → Result X Refusal → Result X Refusal → Type 0
+JudgesAs result outcome = MatchResult result (λ x. outcome ≡ Ok x) (λ why. (outcome ≡ Err why) ⊎ (why ≡ OutOfMemory))
+
+-- a space that is there and has a primary index
+pub record IsTarget (before : State) (target : Target) : Type 0 where
+  pub holds : Holds target.scope.state.now before
+  pub stored : StoresSpace (schema_of before target.scope.space.0) target.schema.now target.table.now.tuples.entries (tuples_in before target.scope.space.0)
+  pub primary : index_with 0 target.schema.now.indexes ≡ Some target.primary.now
+
+-- these are the comparable bytes of this key, where there is one
+abbrev pub IsKeyOf : (bytes : Option (List ℕ)) → Option Key → Type 0
+IsKeyOf None None = ⊤
+IsKeyOf None (Some key) = ⊥
+IsKeyOf (Some bytes) None = ⊥
+IsKeyOf (Some bytes) (Some key) = AreFit key × (bytes ≡ comparable_of key)
+
+abbrev pub IsReplaced : (bytes : Option (List ℕ)) → Option Key → Type 0
+IsReplaced = IsKeyOf

@@ -1,0 +1,68 @@
+-- What can't be written so, whatever else is wrong with a tuple or a key.
+use Rattle.std.specs.Prelude.{ℕ, Bool, false, ◌||◌, List, ◌∷◌, Option, Some, None, nat_lt, ◌==◌, if◌then◌else◌}
+use Rattle.mx_msgpack.specs.Items.{items_of}
+use Rattle.mx_msgpack.specs.Readers.{unsigned_in}
+use Rattle.mx_base.specs.declared.kinds.Unsupported.TheVariants.{SchemaInPlace, SystemSpaceWrite}
+use Rattle.mx_base.specs.declared.refusal.Refusal.{Refusal}
+use Rattle.mx_base.specs.declared.refusal.Refusal.TheVariants.{UnknownRequestType, Unsupported}
+use Rattle.mx_row.specs.Rows.{delete_type, insert_type}
+use Rattle.mx_schema.specs.Bootstrap.{settings, cluster}
+use Rattle.mx_schema.specs.SchemaChecks.{first_user_space}
+use Rattle.mx_schema.specs.Settings.{is_leader}
+use Rattle.mx_schema.specs.State.{space_rows, shown_space_rows, index_rows, shown_index_rows}
+use Rattle.mx_write.specs.declared.writable.Writer.{Writer}
+use Rattle.mx_write.specs.declared.writable.Writer.TheVariants.{Client, Journal}
+
+-- the spaces whose rows describe spaces and indexes, which are added and dropped and never replaced
+abbrev pub describes_schema : (space : ℕ) → Bool
+describes_schema space = (space == space_rows) || (space == index_rows)
+
+-- the spaces that nobody writes
+abbrev pub is_read_only : (space : ℕ) → Bool
+is_read_only space = (space == shown_space_rows) || (space == shown_index_rows) || (space == cluster)
+
+-- the number of one of the database's own spaces stands first
+abbrev pub is_system_number : Option ℕ → Bool
+is_system_number None = false
+is_system_number (Some number) = nat_lt number first_user_space
+
+abbrev pub begins_with_system_number : Option (List (List ℕ)) → Bool
+begins_with_system_number (Some (field ∷ others)) = is_system_number (unsigned_in field)
+begins_with_system_number _ = false
+
+-- the array by which a row is named: its tuple or its primary key; none where it is named by another index
+abbrev pub names_system_space : Option (List ℕ) → Bool
+names_system_space None = false
+names_system_space (Some array) = begins_with_system_number (items_of array)
+
+abbrev pub names_leader : Option (List ℕ) → Bool
+names_leader None = false
+names_leader (Some array) = is_leader array
+
+-- a row that describes a space or an index: those of the database's own spaces stay, and further ones can't be added and dropped yet
+abbrev pub schema_refusal : (type : ℕ) → (named : Option (List ℕ)) → Refusal
+schema_refusal type named =
+    if (type == insert_type) || (type == delete_type)
+    then (if names_system_space named then Unsupported SystemSpaceWrite else UnknownRequestType type)
+    else Unsupported SchemaInPlace
+
+-- the leader's setting isn't written by clients
+abbrev pub leader_refusal : Writer → (named : Option (List ℕ)) → Option Refusal
+leader_refusal Client named = if names_leader named then Some (Unsupported SystemSpaceWrite) else None
+leader_refusal Journal named = None
+
+-- why a write of this type can't be made in a space, of the row that is named so
+abbrev pub write_refusal : Writer → (space type : ℕ) → (named : Option (List ℕ)) → Option Refusal
+write_refusal writer space type named =
+    if describes_schema space then Some (schema_refusal type named)
+    else if is_read_only space then Some (Unsupported SystemSpaceWrite)
+    else if space == settings then leader_refusal writer named
+    else None
+
+-- the key by which a row is named, where it is a primary key
+abbrev pub primary_name : (index : ℕ) → (key : List ℕ) → Option (List ℕ)
+primary_name index key = if index == 0 then Some key else None
+
+-- the tuple by which a row is named that another index found
+abbrev pub found_name : (index : ℕ) → (tuple : List ℕ) → Option (List ℕ)
+found_name index tuple = if index == 0 then None else Some tuple

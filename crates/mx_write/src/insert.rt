@@ -1,0 +1,73 @@
+//! INSERT.
+
+ghost use Rattle.std.specs.Prelude.{◌≡◌, None, IfOk};
+ghost use Rattle.mx_key.specs.Keys.{AreFit};
+ghost use Rattle.mx_key.specs.Comparable.{comparable_of};
+ghost use Rattle.mx_msgpack.specs.Items.{IsArray};
+ghost use Rattle.mx_schema.specs.State as plain;
+ghost use Rattle.mx_schema.specs.Stored.{Holds};
+ghost use Rattle.mx_write.specs.Insert.{inserts};
+ghost use Rattle.mx_write.specs.Lookup.{all_indexes, own_key};
+ghost use Rattle.mx_write.specs.Makes.{JudgesMade};
+ghost use Rattle.mx_write.specs.Writes as statement;
+ghost use Rattle.mx_write.specs.Steps.{IsTarget, refusal_of};
+ghost use Rattle.mx_write.specs.Unique.{are_free};
+
+use crate::checks::check_tuple;
+use crate::lookup::{find_index, find_space};
+use crate::made::{Effect, Made, make};
+use crate::scope::{Scope, Target};
+use crate::unique::{duplicate_in_others, duplicate_key};
+use crate::writable::write_refusal;
+use crate::write::{INSERT, Write};
+use mx_base::{IndexId, Refusal};
+use mx_msgpack::Bytes;
+use std::alloc::AllocError;
+
+impl Scope<'_> {
+    /// What an INSERT of a tuple, which is an array, makes.
+    ///
+    /// # Errors
+    /// Why it is refused.
+    pub fn insert(self, tuple: &[u8]) -> Result<Made, Refusal>
+        requires array { IsArray tuple.now }
+        ensures { (before : plain.State) → Holds self.entry.state.now before
+            → JudgesMade before self.entry.space.0 (statement.Insert tuple.now) result (inserts self.entry.writer before self.entry.space.0 tuple.now) }
+    {
+        let table = find_space(self.state, self.space)?;
+        if let Some(refusal) = write_refusal(self.writer, self.space, INSERT, Some(tuple)) {
+            return Err(refusal);
+        }
+        let schema = table.schema();
+        let primary = find_index(self.alloc, schema, IndexId(0))?;
+        let key = check_tuple(self.alloc, schema, primary, tuple)?;
+        let target = Target {
+            scope: self,
+            table,
+            schema,
+            primary,
+        };
+        if let Some(refusal) = duplicate(&target, &key, tuple)? {
+            return Err(refusal);
+        }
+        let effect = Effect::Put {
+            tuple: Bytes::from_slice(self.alloc, tuple)?,
+            is_shown: true,
+        };
+        let row_key = Bytes::new(self.alloc);
+        make(self.space, &Write::Insert { tuple }, key, row_key, effect)
+    }
+}
+
+/// The refusal of a tuple whose key another one has in a unique index, where this is its primary key.
+fn duplicate(target: &Target<'_>, key: &Bytes, tuple: &[u8]) -> Result<Option<Refusal>, AllocError>
+    ensures { (before : plain.State) → IsTarget before target.now → AreFit (own_key target.now.primary.now tuple.now)
+        → key.now ≡ comparable_of (own_key target.now.primary.now tuple.now)
+        → IfOk result (λ found. found ≡ refusal_of (are_free before target.now.scope.space.0 target.now.schema.now target.now.primary.now None tuple.now
+        (all_indexes target.now.primary.now target.now.schema.now)).outcome) }
+{
+    match target.table.tuple(key) {
+        Some(_) => Ok(Some(duplicate_key(target, target.primary)?)),
+        None => duplicate_in_others(target, None, tuple),
+    }
+}
