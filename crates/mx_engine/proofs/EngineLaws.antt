@@ -16,7 +16,7 @@ use Rattle.mx_request.specs.declared.request.Request.TheVariants as request
 use Rattle.mx_request.specs.Spelling.{type_number, IsAskable}
 use Rattle.mx_model.specs.declared.reply.Reply.{Reply}
 use Rattle.mx_model.specs.declared.reply.Reply.TheVariants.{Tuples, Refused}
-use Rattle.mx_row.specs.declared.row.Row.TheVariants.{Replaced}
+use Rattle.mx_row.specs.Rows.{replace_row}
 use Rattle.mx_row.specs.declared.tx.Tx.{Tx}
 use Rattle.mx_key.specs.declared.iterator.IterKind.{IterKind}
 use Rattle.mx_key.specs.declared.fault.Misfit.{Misfit}
@@ -36,9 +36,12 @@ use Rattle.mx_schema.specs.declared.pick.SelectFault.{SelectFault}
 use Rattle.mx_schema.specs.declared.pick.SelectFault.TheVariants as faults
 use Rattle.mx_model.specs.Answers.{answer_to, state_after_row}
 use Rattle.mx_model.specs.statements.Replace.{replace_answer_in, replaced}
-use Rattle.mx_model.specs.statements.Select.{select_answer_in, select_by_key, iterator_of, misfit_refusal}
-use Rattle.mx_model.specs.statements.Lookup.{schema_reads, in_index, in_space}
-use Rattle.mx_model.specs.statements.Answer.{Answer, Read, refusal_alone, refusal_after, not_built}
+use Rattle.mx_write.specs.Lookup.{misfit_refusal}
+use Rattle.mx_model.specs.statements.Select.{select_answer_in, select_by_key, iterator_of}
+use Rattle.mx_write.specs.Reads.{schema_reads}
+use Rattle.mx_model.specs.statements.Lookup.{in_index, in_space}
+use Rattle.mx_write.specs.Reads.{Read}
+use Rattle.mx_model.specs.statements.Answer.{Answer, refusal_alone, refusal_after, not_built}
 use Rattle.mx_model.specs.Transactions.{state_after, is_schema_commit, schema_version}
 use Rattle.mx_row.specs.Clocks.{clock_after}
 use Rattle.mx_model.specs.Histories.{Base, History, Asked, Left, node_answer, answer_in, with_lsn, commit_of, is_write, commits_of, writable_node, is_out_of_memory, ledger_of, state_of, clock_of}
@@ -111,7 +114,7 @@ stores_same old new before holds pending = record { holds = holds; pending = pen
 
 -- the state holds one tuple more, and its transaction waits
 pub stores_one : (old new : Engine) (before : State) (lsn space : ℕ) (tuple : List ℕ) (transaction : Tx) → transaction ≡ transaction_of lsn space tuple
-    → Holds new.state (state_after_row before (Replaced space tuple)) → new.pending ≡ old.pending ++ transaction ∷ []
+    → Holds new.state (state_after_row before (replace_row space tuple)) → new.pending ≡ old.pending ++ transaction ∷ []
     → Stores old new before (transaction_of lsn space tuple ∷ [])
 stores_one old new before lsn space tuple transaction is holds pending = record {
   holds = holds;
@@ -207,9 +210,9 @@ answers_replaced old put before clock lsn space tuple keyed tuples is_put next s
     (ap (nat_lt max_lsn) number ∙ le-ltb max_lsn lsn next.allowed) in
     let commits : transaction_of lsn space.0 keyed.tuple ∷ [] ≡ commits_by old before asked (Tuples tuples) =
     sym (ap (λ a. commit_of old.ids.me (lsn_after old) false a.row) is
-    ∙ ap (λ id. commit_of id (lsn_after old) false (Some (Replaced space.0 tuple))) me
-    ∙ ap (λ first. commit_of writable_node first false (Some (Replaced space.0 tuple))) number
-    ∙ ap (λ t. commit_of writable_node lsn false (Some (Replaced space.0 t))) (sym copied)) in
+    ∙ ap (λ id. commit_of id (lsn_after old) false (Some (replace_row space.0 tuple))) me
+    ∙ ap (λ first. commit_of writable_node first false (Some (replace_row space.0 tuple))) number
+    ∙ ap (λ t. commit_of writable_node lsn false (Some (replace_row space.0 t))) (sym copied)) in
     let last : lsn ≡ (lsn + 1) - 1 = omega arith in
     record {
       told = inl (ap (λ t. Tuples t) (shown ∙ ap (λ t. t ∷ []) copied) ∙ sym (ap (λ a. a.reply) is));

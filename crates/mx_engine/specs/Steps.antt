@@ -6,7 +6,7 @@ use Rattle.mx_request.specs.declared.request.Request.{Request}
 use Rattle.mx_model.specs.declared.ids.Ids.{Ids}
 use Rattle.mx_model.specs.declared.reply.Reply.{Reply}
 use Rattle.mx_model.specs.declared.reply.Reply.TheVariants.{Refused}
-use Rattle.mx_row.specs.declared.row.Row.TheVariants.{Replaced}
+use Rattle.mx_row.specs.Rows.{replace_row}
 use Rattle.mx_row.specs.declared.tx.Tx.{Tx}
 use Rattle.mx_base.specs.declared.ids.SpaceId.{SpaceId}
 use Rattle.mx_request.specs.declared.request.Request.TheVariants.{Replace}
@@ -42,7 +42,7 @@ pub record Stores (old new : Engine) (state : State) (transactions : List Tx) : 
 
 -- the transaction that puts a tuple of a space in its place
 abbrev pub transaction_of : (lsn space : ℕ) → (tuple : List ℕ) → Tx
-transaction_of lsn space tuple = record { replica = writable_node; first = lsn; rows = Replaced space tuple ∷ [] }
+transaction_of lsn space tuple = record { replica = record { 0 = writable_node }; first = record { 0 = lsn }; rows = replace_row space tuple ∷ [] }
 
 -- the node's next lsn
 abbrev pub lsn_after : Engine → ℕ

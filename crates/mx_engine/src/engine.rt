@@ -20,11 +20,12 @@ ghost use Rattle.mx_engine.specs.Views.{reply_of, reply_view};
 use crate::answer::{Answer, Answered};
 use crate::pending::Pending;
 use mx_base::{ConnId, Refusal, ReplicaId, TxnName};
-use mx_model::{Ids, Txs, WRITABLE_NODE, is_write, iterator_of, not_built};
+use mx_model::{Ids, Txs, WRITABLE_NODE, is_write, iterator_of};
 use mx_msgpack::Tuples;
 use mx_request::{Request, RequestRef};
 use mx_schema::{Pick, State, array_or_empty};
 use mx_vclock::Vclock;
+use mx_write::not_built;
 use std::alloc::{AllocError, Global};
 
 /// A database in memory. Each call that changes it is one step, which the engine counts.

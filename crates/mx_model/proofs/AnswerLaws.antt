@@ -19,18 +19,22 @@ use Rattle.mx_key.specs.Ranges.{Range, range_of}
 use Rattle.mx_request.specs.declared.request.Request.{Request}
 use Rattle.mx_request.specs.declared.request.Request.TheVariants as request
 use Rattle.mx_row.specs.declared.row.Row.{Row}
-use Rattle.mx_row.specs.declared.row.Row.TheVariants.{Replaced}
+use Rattle.mx_row.specs.Rows.{replace_row}
 use Rattle.mx_model.specs.Answers.{answer_to, state_after_row}
-use Rattle.mx_model.specs.statements.Change.{change_of, state_after_change}
+use Rattle.mx_write.specs.Change.{state_after_change}
+use Rattle.mx_model.specs.statements.Change.{change_of}
 use Rattle.mx_tuple.specs.Fields.{max_tuple_size}
 use Rattle.mx_schema.specs.declared.index_def.IndexDef.{IndexDef}
 use Rattle.mx_schema.specs.declared.schema.Schema.{Schema}
 use Rattle.mx_schema.specs.Catalogues.{index_with, schema_of}
 use Rattle.mx_schema.specs.Picks.{Selection, pick, entries_of, total_bytes, max_result_size}
 use Rattle.mx_schema.specs.State.{State, key_in, source_of}
-use Rattle.mx_model.specs.statements.Replace.{fault_refusal, replace_by_key, replace_in_index, replace_unless, replace_answer, replace_answer_in, replaced, unwritable}
-use Rattle.mx_model.specs.statements.Select.{range_reads, select_found, misfit_refusal, select_by_key, iterator_of, select_in_index, select_answer, select_answer_in}
-use Rattle.mx_model.specs.statements.Lookup.{space_read, schema_reads, in_def, in_index, in_schema, in_space}
+use Rattle.mx_write.specs.Checks.{fault_refusal}
+use Rattle.mx_model.specs.statements.Replace.{replace_by_key, replace_in_index, replace_unless, replace_answer, replace_answer_in, replaced, unwritable}
+use Rattle.mx_write.specs.Lookup.{misfit_refusal}
+use Rattle.mx_model.specs.statements.Select.{range_reads, select_found, select_by_key, iterator_of, select_in_index, select_answer, select_answer_in}
+use Rattle.mx_write.specs.Reads.{space_read, schema_reads}
+use Rattle.mx_model.specs.statements.Lookup.{in_def, in_index, in_schema, in_space}
 use Rattle.mx_model.specs.statements.Answer.{Answer, refusal_after, tuples_after}
 
 -- ---- a space, and an index of it
@@ -230,7 +234,7 @@ replace_agrees before space tuple = by_schema (schema_of before space)
   where
     by_key : (key : Result Key NoKey) → Agrees before (replace_by_key before space tuple key)
     by_key (Err why) = inl (refl, refl)
-    by_key (Ok key) = inr (Replaced space tuple, refl, refl)
+    by_key (Ok key) = inr (replace_row space tuple, refl, refl)
 
     by_length : (def : IndexDef) (long : Bool) → Agrees before (if long then refusal_after (schema_reads space) (TupleTooLong (length tuple)) else replace_by_key before space tuple (key_in def.key tuple))
     by_length def true = inl (refl, refl)

@@ -1,5 +1,5 @@
 -- What a legal history commits can be written and read again.
-use Rattle.std.proofs.Common.{◌≡◌, ◌⊎◌, inl, inr, ℕ, suc, ◌+◌, ◌-◌, ◌^◌, ◌<◌, ◌≤◌, Bool, true, false, not, List, [], ◌∷◌, ◌++◌, length, length-append, refl, sym, ap, ◌∙◌, subst, arith}
+use Rattle.std.proofs.Common.{◌≡◌, ◌⊎◌, inl, inr, ℕ, suc, ◌+◌, ◌-◌, ◌^◌, ◌<◌, ◌≤◌, Bool, true, false, not, List, [], ◌∷◌, ◌++◌, length, refl, sym, ap, ◌∙◌, subst, arith}
 use Rattle.std.specs.Prelude.{◌==◌, ◌&&◌, Some, None, is_some, nat_lt, nat_le, slice_index, if◌then◌else◌}
 use Rattle.std.proofs.lemmas.Bool.{eq-eqb}
 use Rattle.std.proofs.lemmas.Bool.Decides.{nat_tests}
@@ -13,7 +13,6 @@ use Rattle.mx_request.specs.declared.request.Ask.TheVariants as ask
 use Rattle.mx_request.specs.declared.request.Request.{Request}
 use Rattle.mx_request.specs.declared.request.Request.TheVariants as request
 use Rattle.mx_request.specs.Spelling.{IsAskable, IsInnerArray}
-use Rattle.mx_row.specs.declared.row.Row.TheVariants.{Replaced}
 use Rattle.mx_row.specs.declared.tx.Tx.{Tx}
 use Rattle.mx_model.specs.declared.reply.Reply.{Reply}
 use Rattle.mx_schema.specs.State.{State}
@@ -21,12 +20,12 @@ use Rattle.mx_model.specs.Answers.{answer_to, state_after_rows}
 use Rattle.mx_model.specs.statements.Replace.{replace_answer_in, replaced}
 use Rattle.mx_tuple.specs.Fields.{max_tuple_size}
 use Rattle.mx_model.specs.statements.Select.{iterator_of}
-use Rattle.mx_model.specs.statements.Lookup.{schema_reads}
+use Rattle.mx_write.specs.Reads.{schema_reads}
 use Rattle.mx_model.specs.statements.Answer.{Answer, refusal_alone, refusal_after}
 use Rattle.mx_model.specs.Transactions.{state_after}
 use Rattle.mx_row.specs.Clocks.{clock_after, clock_after_one}
-use Rattle.mx_row.specs.Rows.{IsRow}
-use Rattle.mx_base.specs.Keys.{space_key, tuple_key}
+use Rattle.mx_row.specs.Rows.{IsRow, replace_row}
+use Rattle.mx_row.proofs.SizeLaws.{tuple_size}
 use Rattle.mx_model.specs.Directories.{AllFollow, takes_row}
 use Rattle.mx_model.specs.Histories.{Base, History, Asked, Left, Took, Confirmed, Looked, Ledger, IsLegal, IsReply, is_out_of_memory, writable_node, with_lsn, commit_of, commits_of, ledger_of, journal_of, ledger_state, ledger_clock, next_lsn}
 use Rattle.mx_model.proofs.AnswerLaws.{replace_cases}
@@ -37,7 +36,7 @@ pub all_follow-append : (now : State) (clock : List ℕ) (xs ys : List Tx) → A
     → AllFollow (state_after now xs) (clock_after clock xs) ys → AllFollow now clock (xs ++ ys)
 all_follow-append now clock [] ys first others = others
 all_follow-append now clock (x ∷ xs) ys first others =
-    (first.0, first.1, first.2, all_follow-append (state_after_rows now x.rows) (clock_after_one clock x) xs ys first.3 others)
+    (first.0, first.1, first.2, first.3, all_follow-append (state_after_rows now x.rows) (clock_after_one clock x) xs ys first.4 others)
 
 not_above : (most lsn : ℕ) → nat_lt most lsn ≡ false → nat_le ((lsn + 1) - 1) most ≡ true
 not_above most lsn test = grind (arith, nat_tests)
@@ -58,12 +57,12 @@ writable me test = grind (arith, nat_tests)
 
 -- a tuple that isn't too long makes a row that can be written
 row_can_be_written : (space : ℕ) (tuple : List ℕ) → space < 2 ^ 32 → IsInnerArray tuple → nat_lt max_tuple_size (length tuple) ≡ false
-    → IsRow (Replaced space tuple)
+    → IsRow (replace_row space tuple)
 row_can_be_written space tuple fits inner short =
     let most = below max_tuple_size (length tuple) short in
     let number = shortest_length space in
-    let long = length-append (0x82 ∷ space_key ∷ shortest_unsigned space) (tuple_key ∷ tuple) in
-    (fits, inner, omega arith)
+    let size = tuple_size (replace_row space tuple) (length (shortest_unsigned space)) refl (λ is. omega (arith, is)) (λ is. omega (arith, is)) (λ is. omega (arith, is)) in
+    record { space = fits; parts = inr (inl (refl, inner)); short = omega arith }
 
 module _ (now : State) (clock : List ℕ) (replica space : ℕ) (tuple : List ℕ) (without_memory : Bool)
     (fits : space < 2 ^ 32) (inner : IsInnerArray tuple) where
@@ -72,18 +71,19 @@ module _ (now : State) (clock : List ℕ) (replica space : ℕ) (tuple : List �
   commits answer = commit_of replica (lsn_of clock replica) without_memory answer.row
 
   -- a commit of the row
-  one_follows : (w : Bool) → IsRow (Replaced space tuple) → replica ≡ writable_node → takes_row now (Replaced space tuple) ≡ true
+  one_follows : (w : Bool) → IsRow (replace_row space tuple) → replica ≡ writable_node → takes_row now (replace_row space tuple) ≡ true
       → nat_lt max_lsn (lsn_of clock replica) ≡ false
-      → AllFollow now clock (commit_of replica (lsn_of clock replica) w (Some (Replaced space tuple)))
+      → AllFollow now clock (commit_of replica (lsn_of clock replica) w (Some (replace_row space tuple)))
   one_follows true can node takes within = tt
   one_follows false can node takes within = (
-    record { replica = (omega arith, omega arith); first = (omega arith, below max_lsn (lsn_of clock replica) within); row = (Replaced space tuple, refl, can) },
+    record { replica = omega arith; first = (omega arith, below max_lsn (lsn_of clock replica) within); row = (replace_row space tuple, refl, can) },
+    ap (λ me. not (me == 0)) node,
     (ap (λ b. b && nat_le ((lsn_of clock replica + 1) - 1) max_lsn) (eq-eqb (lsn_of clock replica) (lsn_of clock replica) refl) ∙ not_above max_lsn (lsn_of clock replica) within),
     (ap (λ b. b && true) takes),
     tt,
   )
 
-  numbered_follows : (above : Bool) → IsRow (Replaced space tuple) → replica ≡ writable_node → takes_row now (Replaced space tuple) ≡ true
+  numbered_follows : (above : Bool) → IsRow (replace_row space tuple) → replica ≡ writable_node → takes_row now (replace_row space tuple) ≡ true
       → nat_lt max_lsn (lsn_of clock replica) ≡ above
       → AllFollow now clock (commits (if above then refusal_after (schema_reads space) LsnsUsedUp else replaced now space tuple))
   numbered_follows true can node takes test = no_commit now clock replica (lsn_of clock replica) without_memory
@@ -105,7 +105,7 @@ module _ (now : State) (clock : List ℕ) (replica space : ℕ) (tuple : List �
           (sym (ap (λ row. (with_lsn (lsn_of clock replica) put row).row) none ∙ none))
           (no_commit now clock replica (lsn_of clock replica) without_memory)
       by_answer (inr (is, short)) =
-          let takes : takes_row now (Replaced space tuple) ≡ true = ap (λ (answer : Answer). is_some answer.row) is in
+          let takes : takes_row now (replace_row space tuple) ≡ true = ap (λ (answer : Answer). is_some answer.row) is in
           subst (λ (answer : Answer). AllFollow now clock (commits (with_lsn (lsn_of clock replica) answer answer.row))) (sym is)
           (numbered_follows (nat_lt max_lsn (lsn_of clock replica)) (row_can_be_written space tuple fits inner short) (writable replica node) takes refl)
 

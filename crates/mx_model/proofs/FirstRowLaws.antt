@@ -13,7 +13,7 @@ use Rattle.mx_schema.specs.Bootstrap.{with_rows}
 use Rattle.mx_schema.specs.Catalogues.{index_with}
 use Rattle.mx_schema.specs.State.{State, key_in, key_or_none, with_tuple}
 use Rattle.mx_schema.specs.Stored.{HoldsBy, IsKeyedBy}
-use Rattle.mx_schema.proofs.StateLaws.{row_is_whole}
+use Rattle.mx_schema.proofs.StateLaws.{row_stands}
 
 -- some of the rows were put, and the others make of the state what all make of the first one
 pub record PutSoFar (schemas : ℕ → Option Schema) (space : ℕ) (parts : List Part) (before : State) (rows : List (List ℕ)) (place : ℕ) (memory : coded.State) : Type 0 where
@@ -28,13 +28,14 @@ module _ (schemas : ℕ → Option Schema) (space : ℕ) (parts : List Part) (be
   -- one more
   pub one_put : (place : ℕ) (row : List ℕ) (keyed : Keyed) (memory after : coded.State) → IsKeyedBy parts (schemas space) → place < length rows → row ≡ get_or rows place []
       → (key : Key) × (key_in parts row ≡ Ok key) × AreFit key × (keyed.key ≡ comparable_of key) × (keyed.tuple ≡ row)
-      → ((state : State) (schema : Schema) (key : Key) → HoldsBy schemas memory state → schemas space ≡ Some schema → IfSome (index_with 0 schema.indexes) (λ def. length key ≡ length def.key)
+      → ((state : State) (schema : Schema) (key : Key) → HoldsBy schemas memory state → schemas space ≡ Some schema → IfSome (index_with 0 schema.indexes) (λ def. key_in def.key keyed.tuple ≡ Ok key)
       → AreFit key → keyed.key ≡ comparable_of key → HoldsBy schemas after (with_tuple state space key keyed.tuple))
       → PutSoFar schemas space parts before rows place memory → PutSoFar schemas space parts before rows (suc place) after
   one_put place row keyed memory after has in_range stands (key, keys, fit, bytes, copied) puts part =
-      let (schema, described, whole) = row_is_whole parts (schemas space) row key has keys in
+      let (schema, described, stands_there) = row_stands parts (schemas space) row key has keys in
       let next = with_tuple part.now space (key_or_none (key_in parts row)) row in
-      let put = puts part.now schema key part.holds described whole fit bytes in
+      let keyed_there = subst (λ t. IfSome (index_with 0 schema.indexes) (λ def. key_in def.key t ≡ Ok key)) (sym copied) stands_there in
+      let put = puts part.now schema key part.holds described keyed_there fit bytes in
       let same : with_tuple part.now space key keyed.tuple ≡ next = λ i. with_tuple part.now space (sym (ap key_or_none keys) i) (copied i) in
       record {
         now = next;

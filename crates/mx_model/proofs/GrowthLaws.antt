@@ -16,19 +16,20 @@ use Rattle.mx_model.specs.declared.damage.Damage.{Damage}
 use Rattle.mx_row.specs.Clocks.{last_lsn, clock_after_one}
 use Rattle.mx_row.specs.Rows.{transaction_at, transactions_in, only_whole}
 use Rattle.mx_model.specs.Directories.{Reached, after_transaction, then_all, after_transactions, after_read, after_block, block_reached, after_blocks}
-use Rattle.mx_row.proofs.RowLaws.{parts_of, transaction_at-replica}
+use Rattle.mx_row.proofs.ReadLaws.{transaction_parts}
+use Rattle.mx_row.proofs.RowLaws.{transaction_at-replica}
 
 -- a transaction as a journal gives it: one row, of one of the replicas
 pub record IsRead (transaction : Tx) : Type 0 where
-  pub replica : transaction.replica < 32
+  pub replica : transaction.replica.0 < 32
   pub row : Row
   pub rows : transaction.rows ≡ row ∷ []
 
 transaction_at-reads : (bytes : List ℕ) (found : Tx × List ℕ) → transaction_at bytes ≡ Some found → IsRead found.0
 transaction_at-reads bytes found is =
-    let parts = parts_of bytes found is in
+    let parts = transaction_parts bytes found is in
     record {
-      replica = (transaction_at-replica bytes found is).1;
+      replica = transaction_at-replica bytes found is;
       row = parts.row;
       rows = sym (ap (λ (f : Tx × List ℕ). f.0.rows) parts.same);
     }
@@ -74,30 +75,31 @@ transactions_in-read bytes transactions is = all_whole (all_from transaction_at 
 
 -- A transaction.
 
-follows_is : (a b c : Bool) (next reached : Reached) → (if (a && b) && c then Some next else None) ≡ Some reached
+follows_is : (s a b c : Bool) (next reached : Reached) → (if (s && (a && b)) && c then Some next else None) ≡ Some reached
     → (a ≡ true) × (b ≡ true) × (next ≡ reached)
-follows_is true true true next reached is = (refl, refl, same_some next reached is)
-follows_is true true false next reached is = absurd cc
-follows_is true false c next reached is = absurd cc
-follows_is false b c next reached is = absurd cc
+follows_is true true true true next reached is = (refl, refl, same_some next reached is)
+follows_is true true true false next reached is = absurd cc
+follows_is true true false c next reached is = absurd cc
+follows_is true false b c next reached is = absurd cc
+follows_is false a b c next reached is = absurd cc
 
 pub after_transaction-grows : (transaction : Tx) (before after : Reached) → IsRead transaction → IsVclock before.clock
     → after_transaction transaction before ≡ Some after → Grows before after
 after_transaction-grows transaction before after read sound is =
-    let f = follows_is _ _ _ _ _ is in
-    let first : transaction.first ≡ suc (slice_index before.clock transaction.replica) = eqb-true _ _ f.0 in
+    let f = follows_is _ _ _ _ _ _ is in
+    let first : transaction.first.0 ≡ suc (slice_index before.clock transaction.replica.0) = eqb-true _ _ f.0 in
     let most : last_lsn transaction ≤ max_lsn = leb-true _ _ f.1 in
     let whole = sound.whole in
     let low = read.replica in
-    let last : last_lsn transaction ≡ transaction.first = ap (λ (rows : List Row). (transaction.first + length rows) - 1) read.rows ∙ omega arith in
+    let last : last_lsn transaction ≡ transaction.first.0 = ap (λ (rows : List Row). (transaction.first.0 + length rows) - 1) read.rows ∙ omega arith in
     let now : List ℕ = clock_after_one before.clock transaction in
-    let sums : sum now + slice_index before.clock transaction.replica ≡ sum before.clock + last_lsn transaction =
-    sum_by-set (λ x. x) before.clock transaction.replica (last_lsn transaction) 0 (omega arith) in
+    let sums : sum now + slice_index before.clock transaction.replica.0 ≡ sum before.clock + last_lsn transaction =
+    sum_by-set (λ x. x) before.clock transaction.replica.0 (last_lsn transaction) 0 (omega arith) in
     let more : sum before.clock < sum (clock_after_one before.clock transaction) = omega arith in
     subst (Grows before) f.2 (record {
       sound = record {
-        whole = length-set before.clock transaction.replica (last_lsn transaction) ∙ whole;
-        bounded = All-set (λ lsn. lsn ≤ max_lsn) before.clock transaction.replica (last_lsn transaction) most sound.bounded;
+        whole = length-set before.clock transaction.replica.0 (last_lsn transaction) ∙ whole;
+        bounded = All-set (λ lsn. lsn ≤ max_lsn) before.clock transaction.replica.0 (last_lsn transaction) most sound.bounded;
       };
       ids = refl;
       at_least = omega arith;

@@ -23,7 +23,8 @@ use Rattle.mx_key.specs.Parts.{key_of_array}
 use Rattle.mx_key.specs.Ranges.{Range, range_of}
 use Rattle.mx_model.specs.Answers.{answer_to, state_after_rows}
 use Rattle.mx_model.specs.statements.Select.{range_reads, select_found, select_by_key, select_in_index, select_answer, select_answer_in}
-use Rattle.mx_model.specs.statements.Lookup.{in_def, in_schema, schema_reads}
+use Rattle.mx_write.specs.Reads.{schema_reads}
+use Rattle.mx_model.specs.statements.Lookup.{in_def, in_schema}
 use Rattle.mx_model.specs.statements.Answer.{refusal_alone, refusal_after, tuples_after}
 use Rattle.mx_model.specs.Transactions.{state_after}
 use Rattle.mx_row.specs.Clocks.{clock_after}

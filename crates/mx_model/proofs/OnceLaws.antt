@@ -24,7 +24,7 @@ use Rattle.mx_schema.specs.State.{State}
 use Rattle.mx_model.specs.Answers.{state_after_rows}
 use Rattle.mx_row.specs.Clocks.{last_lsn, clock_after_one, clock_after, follows}
 use Rattle.mx_row.specs.Rows.{IsTransaction, transactions_in}
-use Rattle.mx_model.specs.Directories.{Named, Reached, ReadAll, Origin, IsDirectoryState, SameIds, SameOutcome, AllFollow, are_its_ids, ids_in, ids_or, head_fits, reached_at, takes_rows, after_transaction, then_all, after_transactions, after_read, after_block, block_reached, after_blocks, after_head, after_file, and_then, after_files, origin_of, after_origin, directory_state}
+use Rattle.mx_model.specs.Directories.{Named, Reached, ReadAll, Origin, IsDirectoryState, SameIds, SameOutcome, AllFollow, are_its_ids, ids_in, ids_or, head_fits, reached_at, is_shared, takes_rows, after_transaction, then_all, after_transactions, after_read, after_block, block_reached, after_blocks, after_head, after_file, and_then, after_files, origin_of, after_origin, directory_state}
 use Rattle.mx_xlog.specs.Files.{FileRead, ReadsAs, SameHead, SameFile, SameRead}
 use Rattle.mx_files.specs.Names.{is_journal, is_snapshot, journal_name, same_bytes}
 use Rattle.mx_model.proofs.DirectoryLaws.{by_name, names_in, names_of, same_itself}
@@ -70,9 +70,10 @@ transaction_alike : (transaction : Tx) (one other : Reached) → Alike one other
 transaction_alike transaction one other alike =
     let state = alike.state in
     let clock = alike.clock in
-    either_way (follows one.clock transaction && takes_rows one.state transaction.rows) (follows other.clock transaction && takes_rows other.state transaction.rows)
+    either_way (is_shared transaction && follows one.clock transaction && takes_rows one.state transaction.rows)
+    (is_shared transaction && follows other.clock transaction && takes_rows other.state transaction.rows)
     _ _
-    (λ i. follows (clock i) transaction && takes_rows (state i) transaction.rows)
+    (λ i. is_shared transaction && follows (clock i) transaction && takes_rows (state i) transaction.rows)
     (record {
       ids = alike.ids;
       state = ap (λ s. state_after_rows s transaction.rows) state;
@@ -301,16 +302,16 @@ one_came : (clock : List ℕ) (transaction : Tx) → IsVclock clock → IsTransa
     → IsVclock (clock_after_one clock transaction) × (sum (clock_after_one clock transaction) ≡ suc (sum clock))
 one_came clock transaction sound is follow =
     let tests = and_parts _ _ follow in
-    let first : transaction.first ≡ suc (slice_index clock transaction.replica) = eqb-true _ _ tests.0 in
+    let first : transaction.first.0 ≡ suc (slice_index clock transaction.replica.0) = eqb-true _ _ tests.0 in
     let most : last_lsn transaction ≤ max_lsn = leb-true _ _ tests.1 in
     let whole = sound.whole in
-    let low = is.replica.1 in
-    let last : last_lsn transaction ≡ transaction.first = ap (λ (rows : List Row). (transaction.first + length rows) - 1) is.row.1 ∙ omega arith in
-    let sums : sum (clock_after_one clock transaction) + slice_index clock transaction.replica ≡ sum clock + last_lsn transaction =
-    sum_by-set (λ x. x) clock transaction.replica (last_lsn transaction) 0 (omega arith) in (
+    let low = is.replica in
+    let last : last_lsn transaction ≡ transaction.first.0 = ap (λ (rows : List Row). (transaction.first.0 + length rows) - 1) is.row.1 ∙ omega arith in
+    let sums : sum (clock_after_one clock transaction) + slice_index clock transaction.replica.0 ≡ sum clock + last_lsn transaction =
+    sum_by-set (λ x. x) clock transaction.replica.0 (last_lsn transaction) 0 (omega arith) in (
       record {
-        whole = length-set clock transaction.replica (last_lsn transaction) ∙ whole;
-        bounded = All-set (λ lsn. lsn ≤ max_lsn) clock transaction.replica (last_lsn transaction) most sound.bounded;
+        whole = length-set clock transaction.replica.0 (last_lsn transaction) ∙ whole;
+        bounded = All-set (λ lsn. lsn ≤ max_lsn) clock transaction.replica.0 (last_lsn transaction) most sound.bounded;
       },
       omega arith,
     )
@@ -320,8 +321,8 @@ so_many_came : (now : State) (clock : List ℕ) (transactions : List Tx) (count 
 so_many_came now clock transactions zero sound all enough = omega arith
 so_many_came now clock [] (suc count) sound all enough = absurd (omega arith)
 so_many_came now clock (transaction ∷ others) (suc count) sound all enough =
-    let one = one_came clock transaction sound all.0 all.1 in
-    let rest = so_many_came (state_after_rows now transaction.rows) (clock_after_one clock transaction) others count one.0 all.3 (omega arith) in
+    let one = one_came clock transaction sound all.0 all.2 in
+    let rest = so_many_came (state_after_rows now transaction.rows) (clock_after_one clock transaction) others count one.0 all.4 (omega arith) in
     rest ∙ omega (arith, one.1)
 
 -- the vclock gives the number of transactions

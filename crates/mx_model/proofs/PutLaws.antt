@@ -1,6 +1,7 @@
 -- A tuple that a REPLACE puts into its space.
-use Rattle.std.proofs.Common.{◌≡◌, ℕ, Bool, true, false, List, Option, Some, None, length, refl, sym, ap, ◌∙◌, subst, true≢false}
+use Rattle.std.proofs.Common.{◌≡◌, ◌⊎◌, inl, inr, ℕ, Bool, true, false, List, Option, Some, None, Ok, refl, sym, ap, ◌∙◌, subst, true≢false, arith}
 use Rattle.std.specs.Prelude.{IfSome, ◌==◌, ◌||◌, if◌then◌else◌}
+use Rattle.mx_msgpack.specs.Items.{IsArray}
 use Rattle.mx_base.specs.declared.kinds.Unsupported.TheVariants.{SchemaInPlace, SystemSpaceWrite}
 use Rattle.mx_base.specs.declared.refusal.Refusal.{Refusal}
 use Rattle.mx_base.specs.declared.refusal.Refusal.TheVariants.{Unsupported}
@@ -12,11 +13,14 @@ use Rattle.mx_schema.specs.Bootstrap.{settings}
 use Rattle.mx_schema.specs.Catalogues.{index_with, schema_of}
 use Rattle.mx_schema.specs.State.{State, key_in, key_or_none, space_rows, index_rows, with_tuple}
 use Rattle.mx_schema.specs.Stored.{Holds, HoldsBy, IsKeyedBy}
-use Rattle.mx_schema.proofs.StateLaws.{holds_described, row_is_whole, schema_after}
-use Rattle.mx_row.specs.declared.row.Row.TheVariants.{Replaced}
+use Rattle.mx_schema.proofs.StateLaws.{holds_described, row_stands, schema_after}
+use Rattle.mx_row.specs.declared.row.Row.{Row}
+use Rattle.mx_row.specs.Rows.{IsDelete, IsInsert, IsReplace, IsRow, IsUpdate, IsUpsert, replace_row, replace_type}
+use Rattle.mx_request.proofs.ValueTextLaws.{inner_is_array}
 use Rattle.mx_model.specs.Answers.{state_after_row}
 use Rattle.mx_model.specs.statements.Change.{parts_of, primary_parts, primary_parts_of}
-use Rattle.mx_model.specs.statements.Replace.{describes_schema, is_read_only, setting_refusal}
+use Rattle.mx_write.specs.Writable.{describes_schema, is_read_only}
+use Rattle.mx_model.specs.statements.Replace.{setting_refusal}
 use Rattle.mx_model.specs.statements.Replaces.{Replaces}
 
 abbrev by_test : (described : Bool) → Option Refusal → Option Refusal
@@ -47,12 +51,13 @@ module _ (before : State) (space : ℕ) (tuple : List ℕ) (keyed : Keyed) (put 
       subst (IsKeyedBy put.def.key) (sym put.described)
       (subst (λ (def : Option IndexDef). IfSome def (λ def. def.key ≡ put.def.key)) (sym put.primary) refl)
 
-  -- its key has all parts of the primary index
-  pub key_is_whole : IfSome (index_with 0 put.schema.indexes) (λ def. length put.key ≡ length def.key)
-  key_is_whole =
-      let (schema, described, whole) = row_is_whole put.def.key (schema_of before space) tuple put.key keyed_by put.has in
+  -- it stands under its own key in the primary index
+  pub key_stands : IfSome (index_with 0 put.schema.indexes) (λ def. key_in def.key keyed.tuple ≡ Ok put.key)
+  key_stands =
+      let (schema, described, stands) = row_stands put.def.key (schema_of before space) tuple put.key keyed_by put.has in
       let same : schema ≡ put.schema = same_schema schema put.schema (sym described ∙ put.described) in
-      subst (λ (s : Schema). IfSome (index_with 0 s.indexes) (λ def. length put.key ≡ length def.key)) same whole
+      subst (λ (s : Schema). IfSome (index_with 0 s.indexes) (λ def. key_in def.key keyed.tuple ≡ Ok put.key)) same
+      (subst (λ t. IfSome (index_with 0 schema.indexes) (λ def. key_in def.key t ≡ Ok put.key)) (sym put.copied) stands)
     where
       same_schema : (one other : Schema) → Some one ≡ Some other → one ≡ other
       same_schema one other e = cc
@@ -64,7 +69,7 @@ module _ (before : State) (space : ℕ) (tuple : List ℕ) (keyed : Keyed) (put 
       ∙ ap key_or_none put.has
 
   -- the state with it is what the row makes of the state before
-  pub row_puts : with_tuple before space put.key keyed.tuple ≡ state_after_row before (Replaced space tuple)
+  pub row_puts : with_tuple before space put.key keyed.tuple ≡ state_after_row before (replace_row space tuple)
   unfolding state_after_row
   row_puts = λ i. with_tuple before space (sym key_is i) (put.copied i)
 
@@ -76,8 +81,19 @@ module _ (before : State) (space : ℕ) (tuple : List ℕ) (keyed : Keyed) (put 
 
   -- memory that has it has what the row makes of the state
   pub holds_after : (memory : coded.State) → HoldsBy (schema_of before) memory (with_tuple before space put.key keyed.tuple)
-      → Holds memory (state_after_row before (Replaced space tuple))
+      → Holds memory (state_after_row before (replace_row space tuple))
   holds_after memory holds =
       subst (Holds memory) row_puts
       (holds_described (schema_of before) (schema_of (with_tuple before space put.key keyed.tuple)) memory (with_tuple before space put.key keyed.tuple)
       (λ q. sym (schema_stays q)) holds)
+
+-- the tuple of a REPLACE's row that can be written
+pub replace_is_array : (row : Row) → IsRow row → row.kind ≡ replace_type → IsArray row.tuple
+replace_is_array row sound kind = by_parts sound.parts
+  where
+    by_parts : (IsInsert row ⊎ IsReplace row ⊎ IsUpdate row ⊎ IsDelete row ⊎ IsUpsert row) → IsArray row.tuple
+    by_parts (inl parts) = let other = ap (λ (r : Row). r.kind) parts.0 in absurd (omega (arith, other, kind))
+    by_parts (inr (inl (is, inner))) = inner_is_array row.tuple inner
+    by_parts (inr (inr (inl parts))) = let other = ap (λ (r : Row). r.kind) parts.0 in absurd (omega (arith, other, kind))
+    by_parts (inr (inr (inr (inl parts)))) = let other = ap (λ (r : Row). r.kind) parts.0 in absurd (omega (arith, other, kind))
+    by_parts (inr (inr (inr (inr parts)))) = let other = ap (λ (r : Row). r.kind) parts.0 in absurd (omega (arith, other, kind))

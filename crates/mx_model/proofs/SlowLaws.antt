@@ -28,7 +28,7 @@ use Rattle.mx_key.specs.Faults.{key_fault_of}
 use Rattle.mx_key.specs.Keys.{Key, AreFit}
 use Rattle.mx_key.specs.Ranges.{range_of}
 use Rattle.mx_key.proofs.RangeLaws.{range_holds}
-use Rattle.mx_row.specs.declared.row.Row.TheVariants.{Replaced}
+use Rattle.mx_row.specs.Rows.{replace_row}
 use Rattle.mx_row.specs.declared.tx.Tx.{Tx}
 use Rattle.mx_row.specs.Clocks.{clock_after, clock_after_one}
 use Rattle.mx_row.proofs.ClockLaws.{clock_after-append}
@@ -44,11 +44,11 @@ use Rattle.mx_schema.specs.Scans.{picked_of}
 use Rattle.mx_schema.specs.Selecting.{found_in}
 use Rattle.mx_schema.specs.State as plain
 use Rattle.mx_schema.specs.State.{State, key_in, tuples_in, with_tuple}
-use Rattle.mx_schema.specs.Stored.{AreWhole, StoredTuple, StoresSpace, StoresTuples, stored_list, stored_view}
+use Rattle.mx_schema.specs.Stored.{StandByPrimary, StoredTuple, StoresSpace, StoresTuples, stored_list, stored_view}
 use Rattle.mx_schema.proofs.PickLaws as picks
 use Rattle.mx_schema.proofs.PickLaws.{fit_ends}
-use Rattle.mx_schema.proofs.StateLaws.{tuples_after}
-use Rattle.mx_schema.proofs.StoredLaws.{PartIndexed, keys_put, one_indexed, all_indexed, stores_none}
+use Rattle.mx_schema.proofs.StateLaws.{stands_after, tuples_after}
+use Rattle.mx_schema.proofs.StoredLaws.{PartIndexed, one_indexed, all_indexed, stores_none}
 use Rattle.mx_model.specs.declared.reply.Reply.{Reply}
 use Rattle.mx_model.specs.declared.reply.Reply.TheVariants.{Tuples, Refused}
 use Rattle.mx_model.specs.declared.slow.Slow.{Slow}
@@ -58,9 +58,11 @@ use Rattle.mx_model.specs.Histories.{Ledger, Asked, answer_in, commit_of, commit
 use Rattle.mx_model.specs.Slow.{Answers, IsSlow, KeepsSpace, KeepsTuples, Takes}
 use Rattle.mx_model.specs.SlowSteps.{Finds, Gathers, KeepsBy, MovesTable}
 use Rattle.mx_model.specs.Transactions.{state_after}
-use Rattle.mx_model.specs.statements.Answer.{Answer, Read, refusal_after, refusal_alone}
-use Rattle.mx_model.specs.statements.Lookup.{schema_reads}
-use Rattle.mx_model.specs.statements.Replace.{fault_refusal, replace_answer_in, replaced}
+use Rattle.mx_write.specs.Reads.{Read}
+use Rattle.mx_model.specs.statements.Answer.{Answer, refusal_after, refusal_alone}
+use Rattle.mx_write.specs.Reads.{schema_reads}
+use Rattle.mx_write.specs.Checks.{fault_refusal}
+use Rattle.mx_model.specs.statements.Replace.{replace_answer_in, replaced}
 use Rattle.mx_model.specs.statements.Replaces.{Replaces, TakesTuple}
 use Rattle.mx_model.specs.statements.Select.{iterator_of, select_answer_in}
 use Rattle.mx_model.proofs.AnswerLaws.{tuple_has_no_key}
@@ -80,18 +82,8 @@ PartMoved whole (Some space) left = (table : Table) × (whole ≡ Some table) ×
 at_same : (a b : ℕ) → is_at (nat_cmp a) b ≡ (b == a)
 at_same a b = grind (arith, nat_tests)
 
-whole_after : (schema : Schema) (tuples : plain.Tuples) (key : Key) (tuple : List ℕ) → IfSome (index_with 0 schema.indexes) (λ def. length key ≡ length def.key)
-    → AreWhole schema tuples → AreWhole schema (insert tuples key tuple)
-whole_after schema tuples key tuple long whole = by_index (index_with 0 schema.indexes) long whole
-  where
-    by_index : (def : Option IndexDef) → IfSome def (λ def. length key ≡ length def.key)
-        → IfSome def (λ def. AllByRecursion (λ (entry : Indexed). length entry.0 ≡ length def.key) (entries tuples))
-        → IfSome def (λ def. AllByRecursion (λ (entry : Indexed). length entry.0 ≡ length def.key) (entries (insert tuples key tuple)))
-    by_index None long whole = tt
-    by_index (Some def) long whole = keys_put (λ k. length k ≡ length def.key) tuples key tuple long whole
-
 module _ (schemas : ℕ → Option Schema) (before : State) (space : ℕ) (schema : Schema) (key : Key) (tuple : List ℕ) (is : schemas space ≡ Some schema)
-    (long : IfSome (index_with 0 schema.indexes) (λ def. length key ≡ length def.key)) where
+    (keyed : IfSome (index_with 0 schema.indexes) (λ def. key_in def.key tuple ≡ Ok key)) where
   abbrev put_into : State
   put_into = with_tuple before space key tuple
 
@@ -102,12 +94,12 @@ module _ (schemas : ℕ → Option Schema) (before : State) (space : ℕ) (schem
       → KeepsSpace (schemas space) (Some was) (tuples_in before space) → KeepsSpace (schemas space) (Some now) with_it
   has_more was now same keeps had =
       let one : schema ≡ now.schema = same_schema schema now.schema (sym is ∙ had.is ∙ ap (λ s. Some s) (sym same)) in
-      let whole : AreWhole now.schema (tuples_in before space) = subst (λ (s : Schema). AreWhole s (tuples_in before space)) (sym same) had.whole in
+      let stands : StandByPrimary now.schema (tuples_in before space) = subst (λ (s : Schema). StandByPrimary s (tuples_in before space)) (sym same) had.stands in
       record {
         is = had.is ∙ ap (λ s. Some s) (sym same);
         keeps = keeps;
-        whole = whole_after now.schema (tuples_in before space) key tuple
-            (subst (λ (s : Schema). IfSome (index_with 0 s.indexes) (λ def. length key ≡ length def.key)) one long) whole;
+        stands = stands_after now.schema (tuples_in before space) key tuple
+            (subst (λ (s : Schema). IfSome (index_with 0 s.indexes) (λ def. key_in def.key tuple ≡ Ok key)) one keyed) stands;
       }
     where
       same_schema : (one other : Schema) → Some one ≡ Some other → one ≡ other
@@ -292,7 +284,7 @@ fault_is_told before space tuple def takes fault why refusal by is (inr none) = 
 -- spaces that have a tuple that was put have what its row makes of the state
 keeps_after : (before : State) (space : ℕ) (tuple : List ℕ) (keyed : Keyed) (replaces : Replaces before space tuple keyed) (spaces : ℕ → Option SlowSpace)
     → KeepsBy (schema_of before) spaces (with_tuple before space replaces.key keyed.tuple)
-    → KeepsBy (schema_of (state_after_row before (Replaced space tuple))) spaces (state_after_row before (Replaced space tuple))
+    → KeepsBy (schema_of (state_after_row before (replace_row space tuple))) spaces (state_after_row before (replace_row space tuple))
 keeps_after before space tuple keyed replaces spaces keeps =
     let put = with_tuple before space replaces.key keyed.tuple in
     subst (λ (s : State). KeepsBy (schema_of s) spaces s) (row_puts before space tuple keyed replaces)
@@ -339,11 +331,11 @@ module _ (slow : Slow) (ledger : Ledger) (name : TxnName) (is : IsSlow slow ledg
         let number : next_lsn ledger ≡ lsn = sym lsn_is ∙ sym next.follows in
         let me : ledger.base.ids.me ≡ writable_node = ap (λ ids. ids.me) (sym is.ids) ∙ here in
         let gives = answer_by false (ap (nat_lt max_lsn) number ∙ le-ltb max_lsn lsn next.allowed) in
-        let transaction : Tx = record { replica = writable_node; first = lsn; rows = Replaced space.0 tuple ∷ [] } in
+        let transaction : Tx = record { replica = record { 0 = writable_node }; first = record { 0 = lsn }; rows = replace_row space.0 tuple ∷ [] } in
         let commits : transaction ∷ [] ≡ commits_of ledger name (ask.Request asked) (Tuples tuples) =
         sym (ap (λ a. commit_of ledger.base.ids.me (next_lsn ledger) false a.row) gives
-        ∙ ap (λ id. commit_of id (next_lsn ledger) false (Some (Replaced space.0 tuple))) me
-        ∙ ap (λ first. commit_of writable_node first false (Some (Replaced space.0 tuple))) number) in
+        ∙ ap (λ id. commit_of id (next_lsn ledger) false (Some (replace_row space.0 tuple))) me
+        ∙ ap (λ first. commit_of writable_node first false (Some (replace_row space.0 tuple))) number) in
         let last : lsn ≡ (lsn + 1) - 1 = omega arith in
         let journal = ap (λ more. ledger.journal ++ more) commits in
         record {

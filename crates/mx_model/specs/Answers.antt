@@ -7,7 +7,8 @@ use Rattle.mx_row.specs.declared.row.Row.{Row}
 use Rattle.mx_model.specs.declared.reply.Reply.TheVariants.{Empty, Id}
 use Rattle.mx_model.specs.statements.Statement.{Statement, Operation, Select, Replace, statement_of}
 use Rattle.mx_model.specs.statements.Answer.{Answer, reply_alone, not_built}
-use Rattle.mx_model.specs.statements.Change.{state_after_change, change_of}
+use Rattle.mx_write.specs.Change.{state_after_change}
+use Rattle.mx_model.specs.statements.Change.{change_of}
 use Rattle.mx_model.specs.statements.Select.{iterator_of, select_answer_in}
 use Rattle.mx_model.specs.statements.Replace.{replace_answer_in}
 

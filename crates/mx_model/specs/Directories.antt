@@ -12,12 +12,11 @@ use Rattle.mx_model.specs.declared.damage.DamageKind.TheVariants.{Head as HeadDa
 use Rattle.mx_schema.specs.Bootstrap.{first_state}
 use Rattle.mx_schema.specs.State.{State}
 use Rattle.mx_row.specs.declared.row.Row.{Row}
-use Rattle.mx_row.specs.declared.row.Row.TheVariants.{Replaced}
 use Rattle.mx_model.specs.Answers.{state_after_rows}
 use Rattle.mx_model.specs.statements.Replace.{replace_answer_in}
 use Rattle.mx_row.specs.declared.tx.Tx.{Tx}
 use Rattle.mx_row.specs.Clocks.{clock_after_one, follows}
-use Rattle.mx_row.specs.Rows.{IsTransaction, transactions_in}
+use Rattle.mx_row.specs.Rows.{IsTransaction, replace_type, transactions_in}
 use Rattle.mx_model.specs.Histories.{Base}
 use Rattle.mx_files.specs.Names.{is_journal, is_snapshot, journal_name, same_bytes}
 use Rattle.mx_xlog.specs.Files.{FileRead, ReadsAs}
@@ -72,19 +71,23 @@ ids_or ids (Some found) = found
 abbrev pub head_fits : List ℕ → Head → Reached → Bool
 head_fits name head reached = not head.snapshot && same_bytes name (journal_name (sum head.clock)) && are_its_ids reached.ids head
 
--- the state takes the row: the statement that writes it is no error
+-- the state takes the row: it is a REPLACE's, which is no error
 abbrev pub takes_row : State → Row → Bool
-takes_row state (Replaced space tuple) = is_some (replace_answer_in state space tuple).row
+takes_row state row = (row.kind == replace_type) && is_some (replace_answer_in state row.space.0 row.tuple).row
 
 -- the state takes the rows, each after those before it
 abbrev pub takes_rows : State → List Row → Bool
 takes_rows state [] = true
 takes_rows state (row ∷ rows) = takes_row state row && takes_rows (state_after_rows state (row ∷ [])) rows
 
+-- A row of the replica id 0 is local, and stands in no journal yet.
+abbrev pub is_shared : Tx → Bool
+is_shared transaction = not (transaction.replica.0 == 0)
+
 abbrev pub after_transaction : Tx → Reached → Option Reached
 after_transaction transaction reached =
     let next = record reached { state = state_after_rows reached.state transaction.rows; clock = clock_after_one reached.clock transaction } in
-    if follows reached.clock transaction && takes_rows reached.state transaction.rows then Some next else None
+    if is_shared transaction && follows reached.clock transaction && takes_rows reached.state transaction.rows then Some next else None
 
 abbrev pub then_all : (Reached → Option Reached) → Option Reached → Option Reached
 then_all others None = None
@@ -177,11 +180,11 @@ pub record Continues (base : Base) (name : List ℕ) (files : Files) : Type 0 wh
   pub state : reached.state ≡ base.state
   pub clock : reached.clock ≡ base.clock
 
--- each of these transactions can be written, has the next lsns after those before it, and the state takes its rows
+-- each of these transactions can be written, is no local one, has the next lsns after those before it, and the state takes its rows
 abbrev pub AllFollow : State → List ℕ → List Tx → Type 0
 AllFollow state clock [] = ⊤
 AllFollow state clock (tx ∷ txs) =
-    IsTransaction tx × (follows clock tx ≡ true) × (takes_rows state tx.rows ≡ true)
+    IsTransaction tx × (is_shared tx ≡ true) × (follows clock tx ≡ true) × (takes_rows state tx.rows ≡ true)
     × AllFollow (state_after_rows state tx.rows) (clock_after_one clock tx) txs
 
 -- no identifiers, or those of the same texts

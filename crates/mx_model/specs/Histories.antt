@@ -104,7 +104,7 @@ answer_in ledger name request = node_answer ledger.base.ids (ledger_state ledger
 abbrev pub commit_of : (replica lsn : ℕ) → Bool → Option Row → List Tx
 commit_of replica lsn true row = []
 commit_of replica lsn false None = []
-commit_of replica lsn false (Some row) = record { replica = replica; first = lsn; rows = row ∷ [] } ∷ []
+commit_of replica lsn false (Some row) = record { replica = record { 0 = replica }; first = record { 0 = lsn }; rows = row ∷ [] } ∷ []
 
 -- the journal's part of one step
 abbrev pub commits_of : Ledger → TxnName → Ask → Reply → List Tx

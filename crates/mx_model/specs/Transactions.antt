@@ -3,7 +3,6 @@ use Rattle.std.specs.Prelude.{ℕ, ◌%◌, ◌^◌, Bool, ◌||◌, List, [], �
 use Rattle.std.specs.List.{list_any, filter}
 use Rattle.mx_schema.specs.State.{State, space_rows, index_rows}
 use Rattle.mx_row.specs.declared.row.Row.{Row}
-use Rattle.mx_row.specs.declared.row.Row.TheVariants.{Replaced}
 use Rattle.mx_row.specs.declared.tx.Tx.{Tx}
 use Rattle.mx_model.specs.Answers.{state_after_rows}
 
@@ -14,7 +13,7 @@ state_after base (transaction ∷ others) = state_after (state_after_rows base t
 
 -- the row describes a space or an index
 abbrev pub is_schema_row : Row → Bool
-is_schema_row (Replaced space tuple) = (space == space_rows) || (space == index_rows)
+is_schema_row row = (row.space.0 == space_rows) || (row.space.0 == index_rows)
 
 -- the transaction changes a space or an index
 abbrev pub is_schema_commit : Tx → Bool

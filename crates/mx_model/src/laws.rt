@@ -9,7 +9,8 @@ ghost use Rattle.mx_model.specs.declared.damage.Damage.{Damage};
 ghost use Rattle.mx_model.specs.Answers.{answer_to, state_after_row};
 ghost use Rattle.mx_model.specs.Directories.{AllFollow, IsDirectoryState, Reached, SameOutcome};
 ghost use Rattle.mx_model.specs.Histories.{Base, History, IsLegal, asks_in, asking, history_from, journal_of, remembered};
-ghost use Rattle.mx_model.specs.statements.Change.{change_of, state_after_change};
+ghost use Rattle.mx_write.specs.Change.{state_after_change};
+ghost use Rattle.mx_model.specs.statements.Change.{change_of};
 
 /// A theorem, which does nothing when it is called: the asks of a legal history determine its steps and
 /// replies, but for the requests that were answered out of memory; it is as if these hadn't been asked.

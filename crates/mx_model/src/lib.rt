@@ -22,7 +22,6 @@ pub use node::{WRITABLE_NODE, is_write, next_lsn};
 pub use out_units::{OutUnit, OutUnits};
 pub use reply::Reply;
 pub use slow::Slow;
-pub use statements::lookup::{find_index, find_space, not_built};
-pub use statements::replace::{check_replace, check_replace_of_array, fault_refusal};
+pub use statements::replace::{check_replace, check_replace_of_array};
 pub use statements::select::{iterator_of, misfit_refusal};
 pub use txs::Txs;

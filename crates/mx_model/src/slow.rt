@@ -18,9 +18,10 @@ ghost use Rattle.mx_schema.specs.Catalogues.{index_with};
 ghost use Rattle.mx_schema.specs.Picks.{directed, indexed_with, tuples_by_index};
 ghost use Rattle.mx_schema.specs.Selecting.{found_in};
 ghost use Rattle.mx_schema.specs.State as plain;
-ghost use Rattle.mx_schema.specs.State.{source_of, tuples_in, with_tuple};
+ghost use Rattle.mx_schema.specs.State.{key_in, source_of, tuples_in, with_tuple};
 ghost use Rattle.mx_schema.specs.Stored.{Holds, StoresTuples, stored_list};
-ghost use Rattle.mx_model.specs.statements.Answer.{Read, refusal_after};
+ghost use Rattle.mx_write.specs.Reads.{Read};
+ghost use Rattle.mx_model.specs.statements.Answer.{refusal_after};
 ghost use Rattle.mx_model.specs.statements.Replace.{replace_answer_in};
 ghost use Rattle.mx_model.specs.statements.Replaces.{Replaces};
 ghost use Rattle.mx_model.specs.statements.Select.{select_answer_in};
@@ -31,8 +32,7 @@ ghost use Rattle.mx_model.specs.SlowSteps.{Finds, Gathers, IsMoved, KeepsBy, Mov
 use crate::ids::Ids;
 use crate::node::{WRITABLE_NODE, is_write, next_lsn};
 use crate::reply::Reply;
-use crate::statements::lookup::{index_missing, not_built};
-use crate::statements::replace::{fault_refusal, unwritable};
+use crate::statements::replace::unwritable;
 use crate::statements::select::{iterator_of, misfit_refusal};
 use mx_base::{IndexId, Refusal, ReplicaId, SpaceId, TxnName};
 use mx_key::{KeyFault, KeyRange, NoKey, misfit, range};
@@ -44,6 +44,7 @@ use mx_schema::{
 };
 use mx_tuple::MAX_TUPLE_SIZE;
 use mx_vclock::Vclock;
+use mx_write::{fault_refusal, index_missing, not_built};
 use std::alloc::{AllocError, Global};
 use std::collections::BTreeMap;
 
@@ -254,7 +255,7 @@ fn put_into(
     keyed: Keyed,
 ) -> Result<(), AllocError>
     ensures ok { (schemas : ℕ → Option Schema) (state : plain.State) (schema : Schema) (key : Key) → KeepsBy schemas (λ q. get_by (nat_cmp q) spaces.old) state
-        → schemas space.0 ≡ Some schema → IfSome (index_with 0 schema.indexes) (λ def. length key ≡ length def.key) → AreFit key → keyed.key ≡ comparable_of key
+        → schemas space.0 ≡ Some schema → IfSome (index_with 0 schema.indexes) (λ def. key_in def.key keyed.tuple ≡ Ok key) → AreFit key → keyed.key ≡ comparable_of key
         → OnOk result (KeepsBy schemas (λ q. get_by (nat_cmp q) spaces.new) (with_tuple state space.0 key keyed.tuple)) }
     ensures err { (schemas : ℕ → Option Schema) (state : plain.State) → KeepsBy schemas (λ q. get_by (nat_cmp q) spaces.old) state
         → OnErr result (KeepsBy schemas (λ q. get_by (nat_cmp q) spaces.new) state) }

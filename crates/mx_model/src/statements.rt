@@ -1,5 +1,4 @@
 //! What statements are answered.
 
-pub mod lookup;
 pub mod replace;
 pub mod select;

@@ -13,10 +13,10 @@ ghost use Rattle.mx_engine.specs.Views.{reply_of};
 
 use crate::answer::Answered;
 use crate::engine::Engine;
-use mx_base::{Refusal, SpaceId};
+use mx_base::{Lsn, Refusal, ReplicaId, SpaceId};
 use mx_model::{WRITABLE_NODE, check_replace, check_replace_of_array, next_lsn};
 use mx_msgpack::{Bytes, Tuples};
-use mx_row::{Row, Rows, Tx};
+use mx_row::{Row, Rows, Tx, row_types};
 use mx_schema::Keyed;
 use std::alloc::{AllocError, Global};
 
@@ -101,13 +101,17 @@ fn transaction_of(alloc: Global, lsn: u64, space: SpaceId, tuple: &[u8]) -> Resu
     ensures { IfOk result (λ transaction. transaction ≡ steps.transaction_of lsn space.0 tuple.now) }
 {
     let mut rows = Rows::new(alloc);
-    rows.push(Row::Replaced {
-        space: space.0,
+    rows.push(Row {
+        kind: row_types::REPLACE,
+        space,
+        index_base: 0,
         tuple: Bytes::from_slice(alloc, tuple)?,
+        key: Bytes::new(alloc),
+        ops: Bytes::new(alloc),
     })?;
     Ok(Tx {
-        replica: WRITABLE_NODE,
-        first: lsn,
+        replica: ReplicaId(WRITABLE_NODE),
+        first: Lsn(lsn),
         rows,
     })
 }

@@ -10,9 +10,10 @@ ghost use Rattle.mx_engine.specs.Views.{reply_of};
 use crate::answer::Answered;
 use crate::engine::Engine;
 use mx_base::{IndexId, Refusal, SpaceId};
-use mx_model::{find_index, find_space, misfit_refusal};
+use mx_model::misfit_refusal;
 use mx_msgpack::Tuples;
 use mx_schema::{Pick, SelectFault};
+use mx_write::{find_index, find_space};
 
 impl Engine {
     /// The key is known to be an array.

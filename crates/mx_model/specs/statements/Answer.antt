@@ -4,17 +4,11 @@ use Rattle.mx_base.specs.declared.refusal.Refusal.{Refusal}
 use Rattle.mx_base.specs.declared.refusal.Refusal.TheVariants.{UnknownRequestType}
 use Rattle.mx_request.specs.declared.request.Request.{Request}
 use Rattle.mx_request.specs.Spelling.{type_number}
-use Rattle.mx_key.specs.Ranges.{Range}
 use Rattle.mx_row.specs.declared.row.Row.{Row}
+use Rattle.mx_write.specs.Reads.{Read}
 use Rattle.mx_model.specs.declared.reply.Reply.{Reply}
 use Rattle.mx_model.specs.declared.reply.Reply.TheVariants.{Tuples, Refused}
-use Rattle.mx_model.specs.statements.Change.{Change}
-
--- a range of an index's keys that a statement reads
-pub record Read : Type 0 where
-  pub space : ℕ
-  pub index : ℕ
-  pub range : Range
+use Rattle.mx_write.specs.Change.{Change}
 
 -- a reply, what the statement writes to the journal, what that changes, and what it read, in order
 pub record Answer : Type 0 where

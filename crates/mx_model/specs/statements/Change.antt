@@ -4,18 +4,12 @@ use Rattle.std.specs.FinMap.{insert, remove}
 use Rattle.mx_key.specs.declared.part.Part.{Part}
 use Rattle.mx_key.specs.Keys.{Key}
 use Rattle.mx_row.specs.declared.row.Row.{Row}
-use Rattle.mx_row.specs.declared.row.Row.TheVariants.{Replaced}
 use Rattle.mx_schema.specs.declared.index_def.IndexDef.{IndexDef}
 use Rattle.mx_schema.specs.declared.schema.Schema.{Schema}
 use Rattle.mx_schema.specs.Catalogues.{index_with, schema_of}
 use Rattle.mx_schema.specs.State as state
-use Rattle.mx_schema.specs.State.{State, key_in, key_or_none, tuples_in}
-
--- the tuple that stands under a primary key of a space afterwards, or none
-pub record Change : Type 0 where
-  pub space : ℕ
-  pub key : Key
-  pub tuple : Option (List ℕ)
+use Rattle.mx_schema.specs.State.{State, key_in, key_or_none}
+use Rattle.mx_write.specs.Change.{Change}
 
 abbrev pub parts_of : Option IndexDef → List Part
 parts_of None = []
@@ -33,13 +27,6 @@ primary_parts before space = primary_parts_of (schema_of before space)
 abbrev pub put_change : State → (space : ℕ) → (tuple : List ℕ) → Change
 put_change before space tuple = record { space = space; key = key_or_none (key_in (primary_parts before space) tuple); tuple = Some tuple }
 
-abbrev pub tuples_with : state.Tuples → Key → Option (List ℕ) → state.Tuples
-tuples_with tuples key None = remove tuples key
-tuples_with tuples key (Some tuple) = insert tuples key tuple
-
-abbrev pub state_after_change : State → Change → State
-state_after_change before change = insert before change.space (tuples_with (tuples_in before change.space) change.key change.tuple)
-
 -- what a journal's row changes of a state
 abbrev pub change_of : State → Row → Change
-change_of before (Replaced space tuple) = put_change before space tuple
+change_of before row = put_change before row.space.0 row.tuple

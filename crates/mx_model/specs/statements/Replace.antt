@@ -7,7 +7,7 @@ use Rattle.mx_key.specs.declared.fault.NoKey.{NoKey}
 use Rattle.mx_key.specs.declared.fault.NoKey.TheVariants.{Missing, Wrong}
 use Rattle.mx_key.specs.Keys.{Key}
 use Rattle.mx_tuple.specs.Fields.{max_tuple_size}
-use Rattle.mx_row.specs.declared.row.Row.TheVariants.{Replaced}
+use Rattle.mx_row.specs.Rows.{replace_row}
 use Rattle.mx_schema.specs.declared.index_def.IndexDef.{IndexDef}
 use Rattle.mx_schema.specs.declared.schema.Schema.{Schema}
 use Rattle.mx_schema.specs.Bootstrap.{settings, cluster}
@@ -16,17 +16,12 @@ use Rattle.mx_schema.specs.State.{State, key_in, space_rows, shown_space_rows, i
 use Rattle.mx_model.specs.declared.reply.Reply.TheVariants.{Tuples}
 use Rattle.mx_model.specs.statements.Answer.{Answer, refusal_after}
 use Rattle.mx_model.specs.statements.Change.{put_change}
-use Rattle.mx_model.specs.statements.Lookup.{space_read, schema_reads, in_index, in_space, type_of}
+use Rattle.mx_write.specs.Checks.{fault_refusal}
+use Rattle.mx_write.specs.Writable.{describes_schema, is_read_only}
+use Rattle.mx_write.specs.Reads.{space_read, schema_reads}
+use Rattle.mx_model.specs.statements.Lookup.{in_index, in_space}
 
 -- ---- what can't be written so
-
--- the spaces whose rows describe spaces and indexes, which are added and dropped and never replaced
-abbrev pub describes_schema : (space : ℕ) → Bool
-describes_schema space = (space == space_rows) || (space == index_rows)
-
--- the spaces that nobody writes
-abbrev pub is_read_only : (space : ℕ) → Bool
-is_read_only space = (space == shown_space_rows) || (space == shown_index_rows) || (space == cluster)
 
 -- why a setting isn't written: the leader's isn't by clients, and the others aren't yet
 abbrev pub setting_refusal : (tuple : List ℕ) → Refusal
@@ -42,16 +37,11 @@ unwritable space tuple =
 
 -- ---- what can
 
--- why a tuple has no primary key
-abbrev pub fault_refusal : NoKey → Refusal
-fault_refusal (Missing field) = FieldMissing field
-fault_refusal (Wrong field expected) = FieldType field (type_of expected)
-
 -- the answer to a REPLACE that is no error
 abbrev pub replaced : State → (space : ℕ) → (tuple : List ℕ) → Answer
 replaced before space tuple = record {
   reply = Tuples (tuple ∷ []);
-  row = Some (Replaced space tuple);
+  row = Some (replace_row space tuple);
   change = Some (put_change before space tuple);
   reads = schema_reads space;
 }

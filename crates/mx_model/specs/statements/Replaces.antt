@@ -3,7 +3,8 @@ use Rattle.std.specs.Prelude.{◌≡◌, ◌⊎◌, ◌≤◌, ℕ, List, length
 use Rattle.mx_base.specs.declared.refusal.Refusal.{Refusal}
 use Rattle.mx_base.specs.declared.refusal.Refusal.TheVariants.{OutOfMemory}
 use Rattle.mx_tuple.specs.Fields.{max_tuple_size}
-use Rattle.mx_model.specs.statements.Answer.{Read, refusal_after}
+use Rattle.mx_write.specs.Reads.{Read}
+use Rattle.mx_model.specs.statements.Answer.{refusal_after}
 use Rattle.mx_key.specs.Comparable.{comparable_of}
 use Rattle.mx_key.specs.Keys.{Key, AreFit}
 use Rattle.mx_schema.specs.declared.index_def.IndexDef.{IndexDef}

@@ -1,9 +1,7 @@
 -- SELECT.
 use Rattle.std.specs.Prelude.{ℕ, List, [], ◌∷◌, ◌++◌, length, Option, Some, None, Result, Ok, Err, nat_lt, ◌==◌, if◌then◌else◌}
-use Rattle.mx_base.specs.declared.refusal.Refusal.{Refusal}
-use Rattle.mx_base.specs.declared.refusal.Refusal.TheVariants.{KeyPartCount, KeyPartType, ResultTooLong}
+use Rattle.mx_base.specs.declared.refusal.Refusal.TheVariants.{ResultTooLong}
 use Rattle.mx_key.specs.declared.fault.Misfit.{Misfit}
-use Rattle.mx_key.specs.declared.fault.Misfit.TheVariants.{TooLong, WrongPart}
 use Rattle.mx_key.specs.declared.iterator.IterKind.{IterKind}
 use Rattle.mx_key.specs.declared.iterator.IterKind.TheVariants as iterator
 use Rattle.mx_key.specs.Keys.{Key}
@@ -13,8 +11,11 @@ use Rattle.mx_schema.specs.declared.index_def.IndexDef.{IndexDef}
 use Rattle.mx_schema.specs.declared.schema.Schema.{Schema}
 use Rattle.mx_schema.specs.State.{State, source_of}
 use Rattle.mx_schema.specs.Picks.{Selection, pick, entries_of, total_bytes, max_result_size}
-use Rattle.mx_model.specs.statements.Answer.{Read, Answer, refusal_after, tuples_after}
-use Rattle.mx_model.specs.statements.Lookup.{in_index, in_space, schema_reads, type_of}
+use Rattle.mx_write.specs.Reads.{Read}
+use Rattle.mx_model.specs.statements.Answer.{Answer, refusal_after, tuples_after}
+use Rattle.mx_write.specs.Lookup.{misfit_refusal}
+use Rattle.mx_write.specs.Reads.{schema_reads}
+use Rattle.mx_model.specs.statements.Lookup.{in_index, in_space}
 
 -- the iterator of this number
 abbrev pub iterator_of : ℕ → IterKind
@@ -39,11 +40,6 @@ select_found space source index whole found =
     if nat_lt max_result_size (total_bytes found.tuples)
     then refusal_after (schema_reads space ++ range_reads source index (Some whole)) ResultTooLong
     else tuples_after (schema_reads space ++ range_reads source index found.read) found.tuples
-
--- why a key doesn't fit an index of so many parts
-abbrev pub misfit_refusal : (parts : ℕ) → Misfit → Refusal
-misfit_refusal parts (TooLong given) = KeyPartCount given parts
-misfit_refusal parts (WrongPart part expected) = KeyPartType part (type_of expected)
 
 -- a SELECT by a key that fits, or not
 abbrev pub select_by_key : State → (space limit offset : ℕ) → IterKind → IndexDef → Result Key Misfit → Answer

@@ -11,9 +11,9 @@ ghost use Rattle.mx_msgpack.specs.Items.{IsArray, items_of};
 ghost use Rattle.mx_schema.specs.State as plain;
 ghost use Rattle.mx_schema.specs.Stored.{Holds};
 ghost use Rattle.mx_model.specs.statements.Replace as spec;
+ghost use Rattle.mx_write.specs.Checks.{fault_refusal};
 ghost use Rattle.mx_model.specs.statements.Replaces.{IsRefused, Replaces, TakesTuple};
 
-use crate::statements::lookup::{find_index, find_space, not_built, type_of};
 use mx_base::{IndexId, Refusal, SpaceId, Unsupported};
 use mx_key::{KeyFault, NoKey};
 use mx_schema::{
@@ -21,6 +21,7 @@ use mx_schema::{
     State, is_leader, key_array, key_tuple,
 };
 use mx_tuple::MAX_TUPLE_SIZE;
+use mx_write::{fault_refusal, find_index, find_space, not_built};
 use std::alloc::Global;
 
 /// The type of a REPLACE.
@@ -124,25 +125,12 @@ fn setting_refusal(tuple: &[u8]) -> Refusal
 }
 
 fn refusal_of(fault: KeyFault) -> Refusal
-    ensures refused { (why : NoKey) → fault ≡ key_fault_of why → result ≡ spec.fault_refusal why }
+    ensures refused { (why : NoKey) → fault ≡ key_fault_of why → result ≡ fault_refusal why }
     ensures memory { fault ≡ NoMemory → result ≡ OutOfMemory }
 {
     match fault {
         KeyFault::Missing { field } => fault_refusal(NoKey::Missing { field }),
         KeyFault::Wrong { field, expected } => fault_refusal(NoKey::Wrong { field, expected }),
         KeyFault::NoMemory => Refusal::OutOfMemory,
-    }
-}
-
-/// The refusal of a tuple that has no primary key.
-pub fn fault_refusal(why: NoKey) -> Refusal
-    ensures { result ≡ spec.fault_refusal why }
-{
-    match why {
-        NoKey::Missing { field } => Refusal::FieldMissing { field },
-        NoKey::Wrong { field, expected } => Refusal::FieldType {
-            field,
-            expected: type_of(expected),
-        },
     }
 }

@@ -3,15 +3,16 @@
 ghost use Rattle.std.specs.Prelude.{◌≡◌, ◌<◌, ◌^◌, ℕ, List, Err, length};
 ghost use Rattle.mx_key.specs.Parts.{key_of_array};
 ghost use Rattle.mx_model.specs.statements.Select as spec;
+ghost use Rattle.mx_write.specs.Lookup.{misfit_refusal};
 
-use crate::statements::lookup::type_of;
 use mx_base::Refusal;
 use mx_key::{IterKind, Misfit};
 use mx_schema::IndexDef;
+use mx_write::type_of;
 
 /// The refusal of a key that doesn't fit an index.
 pub fn misfit_refusal(def: &IndexDef, misfit: Misfit) -> Refusal
-    ensures { (key : List ℕ) → key_of_array def.now.key key ≡ Err misfit → result ≡ spec.misfit_refusal (length def.now.key) misfit }
+    ensures { (key : List ℕ) → key_of_array def.now.key key ≡ Err misfit → result ≡ misfit_refusal (length def.now.key) misfit }
 {
     match misfit {
         Misfit::TooLong { parts } => Refusal::KeyPartCount {

@@ -3,7 +3,7 @@ use Rattle.std.specs.BTreeMap.{get_by}
 use Rattle.mx_schema.specs.Catalogues.{schema_of}
 use Rattle.mx_schema.specs.State.{tuples_in}
 use Rattle.mx_model.specs.statements.Answer.{refusal_after}
-use Rattle.mx_model.specs.statements.Lookup.{space_read, schema_reads}
+use Rattle.mx_write.specs.Reads.{space_read, schema_reads}
 use Rattle.mx_model.proofs.AnswerLaws.{replace_is_unwritable, replace_misses_index, replace_misses_space, tuple_is_too_long}
 use Rattle.mx_model.proofs.SlowLaws.{fault_is_told, none_found, space_found}
 use Rattle.mx_model.proofs.slow.Slow.check_replace.Goals as goal

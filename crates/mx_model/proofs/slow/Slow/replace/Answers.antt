@@ -2,7 +2,7 @@ use Rattle.std.proofs.Common.{[], ◌∷◌, ◌++◌, refl, ap, ◌∙◌}
 use Rattle.mx_schema.specs.Catalogues.{schema_of}
 use Rattle.mx_model.specs.declared.slow.Slow.{Slow}
 use Rattle.mx_model.specs.Histories.{ledger_state}
-use Rattle.mx_model.proofs.PutLaws.{key_is_whole}
+use Rattle.mx_model.proofs.PutLaws.{key_stands}
 use Rattle.mx_model.proofs.SlowLaws.{slow_refuses, slow_used_up, slow_replaces}
 use Rattle.mx_model.proofs.slow.Slow.replace.Goals as goal
 
@@ -27,5 +27,5 @@ returns c = λ ledger name is.
     slow_replaces slow ledger name is c.args.space tuple c.requires keyed replaces new c.push.new.self c.in-Some.field-0
     (c.in_ok-push.ensures ∙ ap (λ front. front ++ tuple ∷ []) c.new-tuples.ensures) refl
     (c.in_ok-put_into.ensures.ok (schema_of before) before replaces.schema replaces.key is.keeps replaces.described
-    (key_is_whole before c.args.space.0 tuple keyed replaces) replaces.fit replaces.bytes)
+    (key_stands before c.args.space.0 tuple keyed replaces) replaces.fit replaces.bytes)
     c.in-Some.ensures.0 c.in-Some.ensures.1

@@ -1,7 +1,7 @@
 use Rattle.std.proofs.Common.{inl, [], ◌∷◌, sym, ap, ◌∙◌}
 use Rattle.std.proofs.lemmas.Result.{err_from_is_err_and}
 use Rattle.mx_model.specs.statements.Answer.{refusal_after}
-use Rattle.mx_model.specs.statements.Lookup.{space_read, schema_reads}
+use Rattle.mx_write.specs.Reads.{space_read, schema_reads}
 use Rattle.mx_model.proofs.AnswerLaws.{replace_misses_space, replace_is_unwritable, replace_misses_index_so, tuple_is_too_long}
 use Rattle.mx_model.proofs.statements.replace.primary_index.Goals as goal
 

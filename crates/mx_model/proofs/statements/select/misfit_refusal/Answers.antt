@@ -1,6 +1,6 @@
 use Rattle.std.proofs.Common.{rules, ◌<◌, ◌^◌, Err, length, sym, ap, ◌∙◌, arith}
 use Rattle.mx_base.specs.declared.refusal.Refusal.TheVariants.{KeyPartCount}
-use Rattle.mx_model.specs.statements.Select.{misfit_refusal}
+use Rattle.mx_write.specs.Lookup.{misfit_refusal}
 use Rattle.mx_schema.proofs.StopLaws.{has_more_parts}
 use Rattle.mx_model.proofs.statements.select.misfit_refusal.Goals as goal
 
