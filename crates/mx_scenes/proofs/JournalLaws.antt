@@ -1,6 +1,5 @@
 -- What the tests' first transaction and empty directory are.
-use Rattle.std.proofs.Common.{◌≡◌, ℕ, List, [], ◌∷◌, IsSome, Any, pos, refl, sym, ap, inl, arith, Option, Some, Result, Ok, Err, IfOk}
-use Rattle.std.proofs.lemmas.List.{length-append}
+use Rattle.std.proofs.Common.{◌≡◌, ℕ, List, [], ◌∷◌, IsSome, Any, pos, refl, length, sym, ap, inl, inr, arith, Option, Some, Result, Ok, Err, IfOk}
 use mathlib.Core.Bool.{true≢false}
 use mathlib.Core.Path.{subst}
 use Rattle.std.specs.FinMap as finite
@@ -13,9 +12,10 @@ use Rattle.mx_msgpack.specs.Grammar.{Int, Str, NoValue, MoreValues}
 use Rattle.mx_msgpack.specs.Spelling.{shortest_unsigned}
 use Rattle.mx_msgpack.proofs.SpellingLaws.{shortest_length}
 use Rattle.mx_row.specs.declared.row.Row.{Row}
-use Rattle.mx_row.specs.declared.row.Row.TheVariants.{Replaced}
 use Rattle.mx_row.specs.declared.tx.Tx.{Tx}
-use Rattle.mx_row.specs.Rows.{IsTuple, IsRow, IsTransaction}
+use Rattle.mx_row.specs.Rows.{IsRow, IsTransaction, replace_row}
+use Rattle.mx_row.proofs.SizeLaws.{tuple_size}
+use Rattle.mx_request.specs.Spelling.{IsInnerArray}
 use Rattle.mx_xlog.specs.declared.head.Head.{Head}
 use Rattle.mx_journal.specs.declared.journal.Journal.{Journal}
 use Rattle.mx_journal.specs.Written.{IsNewest, IsWritten, Waits, Created, name_of}
@@ -26,7 +26,7 @@ use Rattle.mx_images.proofs.DiskLaws.{only_one}
 abbrev pub first_tuple : List ℕ
 first_tuple = 0x92 ∷ 0x01 ∷ 0xa1 ∷ 0x61 ∷ []
 
-first_is_tuple : IsTuple first_tuple
+first_is_tuple : IsInnerArray first_tuple
 first_is_tuple = (
   MoreValues (Int (pos 1)) (MoreValues (Str (0x61 ∷ [])) NoValue),
   (
@@ -45,21 +45,21 @@ first_is_tuple = (
   ),
 )
 
-first_is_row : IsRow (Replaced 512 first_tuple)
+first_is_row : IsRow (replace_row 512 first_tuple)
 first_is_row =
     let short = shortest_length 512 in
-    let long = length-append (0x82 ∷ 0x10 ∷ shortest_unsigned 512) (0x21 ∷ first_tuple) in
-    (omega arith, first_is_tuple, omega arith)
+    let size = tuple_size (replace_row 512 first_tuple) (length (shortest_unsigned 512)) refl (λ is. omega (arith, is)) (λ is. omega (arith, is)) (λ is. omega (arith, is)) in
+    record { space = omega arith; parts = inr (inl (refl, first_is_tuple)); short = omega arith }
 
 -- the first transaction of the replica 1
 abbrev pub first_tx : List Row → Tx
-first_tx rows = record { replica = 1; first = 1; rows = rows }
+first_tx rows = record { replica = record { 0 = 1 }; first = record { 0 = 1 }; rows = rows }
 
-pub first_is_transaction : (rows : List Row) (tuple : List ℕ) → tuple ≡ first_tuple → rows ≡ Replaced 512 tuple ∷ [] → IsTransaction (first_tx rows)
+pub first_is_transaction : (rows : List Row) (tuple : List ℕ) → tuple ≡ first_tuple → rows ≡ replace_row 512 tuple ∷ [] → IsTransaction (first_tx rows)
 first_is_transaction rows tuple same only = record {
-  replica = (omega arith, omega arith);
+  replica = omega arith;
   first = (omega arith, omega arith);
-  row = (Replaced 512 tuple, only, subst (λ bytes. IsRow (Replaced 512 bytes)) (sym same) first_is_row);
+  row = (replace_row 512 tuple, only, subst (λ bytes. IsRow (replace_row 512 bytes)) (sym same) first_is_row);
 }
 
 -- an empty directory has no newer file

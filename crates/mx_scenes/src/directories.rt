@@ -94,6 +94,13 @@ const NO_KEY_BLOCK: &[u8; 33] = b"\xd5\xba\x0b\xab\xce\0\0\0\x0e\0\xce\x65\x8c\x
 const WRONG_KEY_BLOCK: &[u8; 34] = b"\xd5\xba\x0b\xab\xce\0\0\0\x0f\0\xce\xd1\x4f\xde\x54\xa3\0\0\0\
     \x83\x00\x03\x02\x01\x03\x01\x82\x10\xcd\x02\x00\x21\x91\xff";
 
+/// The block of the first commit with the replica id 0, whose rows are local, and as an INSERT.
+const LOCAL_BLOCK: &[u8; 36] = b"\xd5\xba\x0b\xab\xce\0\0\0\x11\0\xce\x93\x00\x40\xfd\xa3\0\0\0\
+    \x83\x00\x03\x02\x00\x03\x01\x82\x10\xcd\x02\x00\x21\x92\x01\xa1\x61";
+
+const INSERT_BLOCK: &[u8; 36] = b"\xd5\xba\x0b\xab\xce\0\0\0\x11\0\xce\xc4\x5c\x85\x99\xa3\0\0\0\
+    \x83\x00\x02\x02\x01\x03\x01\x82\x10\xcd\x02\x00\x21\x92\x01\xa1\x61";
+
 /// The block of the first commit without its last byte.
 const CUT_BLOCK: &[u8; 35] = b"\xd5\xba\x0b\xab\xce\0\0\0\x11\0\xce\xa3\xd2\x78\x98\xa3\0\0\0\
     \x83\x00\x03\x02\x01\x03\x01\x82\x10\xcd\x02\x00\x21\x92\x01\xa1";
@@ -112,6 +119,14 @@ const OPENED: &[(&[File<'static>], &str)] = &[
     ),
     (
         &[(FIRST, &[HEADER, WRONG_KEY_BLOCK])],
+        "Damaged 00000000000000000000.xlog 118 row",
+    ),
+    (
+        &[(FIRST, &[HEADER, LOCAL_BLOCK])],
+        "Damaged 00000000000000000000.xlog 118 row",
+    ),
+    (
+        &[(FIRST, &[HEADER, INSERT_BLOCK])],
         "Damaged 00000000000000000000.xlog 118 row",
     ),
     (

@@ -2,7 +2,7 @@
 
 use crate::database::{Asked, NAME, Step, Told, ask_engine, check_reply, engine_at};
 use mx_engine::{Engine, Pending};
-use mx_row::Row;
+use mx_row::row_types;
 use std::alloc::{AllocError, Global};
 use std::process::Abort;
 use std::test::Fail;
@@ -10,16 +10,23 @@ use std::test::Fail;
 /// The tuple [1, "a"].
 const ONE: &[u8] = b"\x92\x01\xa1a";
 
-/// The replica id and the lsn of a transaction of one row, and the row's space and tuple.
-type Shown<'a> = (u8, u64, u32, &'a [u8]);
+/// The replica id and the lsn of a transaction of one row, and the row's type, space and tuple.
+type Shown<'a> = (u8, u64, u8, u32, &'a [u8]);
+
+/// What a REPLACE of that tuple commits first.
+const COMMITTED: Shown<'static> = (1, 1, row_types::REPLACE, 512, ONE);
 
 /// The first transaction that is handed out, if it has one row.
 fn first_of(pending: &Pending) -> Option<Shown<'_>> {
     let tx = pending.txs.as_slice().first()?;
     match tx.rows.as_slice() {
-        [Row::Replaced { space, tuple }] => {
-            Some((tx.replica, tx.first, *space, tuple.as_slice()))
-        }
+        [row] => Some((
+            tx.replica.0,
+            tx.first.0,
+            row.kind,
+            row.space.0,
+            row.tuple.as_slice(),
+        )),
         _ => None,
     }
 }
@@ -74,7 +81,7 @@ fn commits_are_handed_out_once(rt: HostRuntime) -> Result<(), Fail> {
     let alloc = rt.alloc();
     let mut engine = engine_at(&rt, alloc, "{2: 7}", 1)?;
     make_steps(&rt, alloc, &mut engine)?;
-    check_pending(&rt, &mut engine, 2, 1, Some((1, 1, 512, ONE)));
+    check_pending(&rt, &mut engine, 2, 1, Some(COMMITTED));
     check_pending(&rt, &mut engine, 3, 0, None);
     check_steps(&rt, &mut engine);
     assert_eq!(rt; engine.ids().me, 1);

@@ -12,11 +12,12 @@ ghost use Rattle.mx_journal.specs.Written.{IsWritten, Waits};
 ghost use Rattle.mx_images.specs.Changes.{IsNow};
 
 use crate::harness::{BLOCK, END, file, joined};
+use mx_base::{Lsn, ReplicaId, SpaceId};
 use mx_fake::MemoryDir;
 use mx_journal::{Journal, JournalFault};
 use mx_msgpack::Bytes;
 use mx_outside::{Dir, DirFault};
-use mx_row::{Row, Rows, Tx};
+use mx_row::{Row, Rows, Tx, row_types};
 use mx_vclock::Vclock;
 use mx_xlog::Head;
 use std::alloc::{AllocError, Global};
@@ -55,10 +56,17 @@ fn first_tx(alloc: Global) -> Result<Tx, AllocError>
 {
     let tuple = Bytes::from_slice(alloc, &[0x92, 0x01, 0xa1, 0x61])?;
     let mut rows = Rows::new(alloc);
-    rows.push(Row::Replaced { space: 512, tuple })?;
+    rows.push(Row {
+        kind: row_types::REPLACE,
+        space: SpaceId(512),
+        index_base: 0,
+        tuple,
+        key: Bytes::new(alloc),
+        ops: Bytes::new(alloc),
+    })?;
     Ok(Tx {
-        replica: 1,
-        first: 1,
+        replica: ReplicaId(1),
+        first: Lsn(1),
         rows,
     })
 }

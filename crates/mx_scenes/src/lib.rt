@@ -28,3 +28,5 @@ mod schema;
 mod select;
 #[cfg(test)]
 mod statuses;
+#[cfg(test)]
+mod writes;
