@@ -14,8 +14,8 @@ use Rattle.mx_key.specs.declared.fault.NoKey.TheVariants.{Wrong}
 use Rattle.mx_key.specs.declared.part.Part.{Part}
 use Rattle.mx_key.specs.Arrays.{key_array, part_spelling, value_of_part, values_of_key}
 use Rattle.mx_key.specs.Keys.{Key, KeyPart, IsFit, AreFit}
-use Rattle.mx_key.specs.Parts.{◌>>=◌, key_of, key_of_array, part_in, part_of, parts_of_items}
-use Rattle.mx_key.proofs.ArrayLaws.{few_items}
+use Rattle.mx_key.specs.Parts.{◌>>=◌, key_of, key_of_array, part_in, part_of, parts_of_items, whole_key}
+use Rattle.mx_key.proofs.ArrayLaws.{as_many_items, few_items}
 use Rattle.mx_key.proofs.MakingLaws.{AreFit-push, regroup}
 use Rattle.mx_key.proofs.SpellingLaws.{part_again, part_spelled}
 
@@ -161,3 +161,13 @@ array_made def left fields out over made =
     let whole : key_of def fields ≡ Ok made.done =
     made.same ∙ ap (λ (parts : List Part). key_of parts fields >>= λ rest. Ok (made.done ++ rest)) over ∙ ap (λ (k : Key). Ok k) (append-nil made.done) in
     (made.done, whole, made.fit, made.bytes ∙ ap (λ (n : ℕ). array_head n ++ parts_text made.done) (sym (key_length def fields made.done whole)))
+
+-- the array of a key that a tuple has is that key whole
+pub whole_again : (def : List Part) (fields : List (List ℕ)) (key : Key) → key_of def fields ≡ Ok key → AreFit key → length (key_array key) ≤ max_length
+    → whole_key def (key_array key) ≡ Ok key
+whole_again def fields key e fit few =
+    let many = key_length def fields key e in
+    let array = array_is key fit few in
+    as_many_items def (key_array key) (length key) (parts_text key) array many
+    ∙ sym (few_items def (key_array key) (length key) (parts_text key) array (omega (arith, many)))
+    ∙ key_again def fields key e fit few

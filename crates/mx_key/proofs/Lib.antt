@@ -10,3 +10,4 @@ pub mod EscapeLaws
 pub mod DigitLaws
 pub mod SpellingLaws
 pub mod KeyArrayLaws
+pub mod TupleFitLaws

@@ -1,10 +1,10 @@
 -- The catalogue of a new database is that of its state.
-use Rattle.std.proofs.Common.{◌≡◌, ℕ, Bool, true, false, cond, ◌&&◌, List, [], ◌∷◌, map, Option, Some, None, refl, sym, ap, ◌∙◌, subst, eqb, eqb-true, eq-eqb}
-use Rattle.std.specs.Prelude.{pos, ⊤, ◌==◌, if◌then◌else◌}
+use Rattle.std.proofs.Common.{◌≡◌, ℕ, Bool, true, false, cond, ◌&&◌, List, [], ◌∷◌, map, Option, Some, None, refl, sym, ap, ◌∙◌, subst, eqb, eqb-true, eq-eqb, ne_eqb, true≢false}
+use Rattle.std.specs.Prelude.{pos, ⊤, is_some, ◌==◌, if◌then◌else◌}
 use Rattle.std.specs.FinMap as finite
 use Rattle.std.specs.FinMap.{IsAntisymmetric, empty, find, from_entries, get-entries, get-from_entries, insert, entries-insert, len-empty, len-entries, nat_cmp-IsAntisymmetric}
 use Rattle.std.specs.FinMap.Entries.{put}
-use Rattle.std.specs.List.{filter}
+use Rattle.std.specs.List.{AllByRecursion, filter}
 use Rattle.std.specs.Cmp.{nat_cmp_total}
 use Rattle.std.specs.declared.cmp.Ordering.{Ordering}
 use Rattle.std.specs.declared.cmp.Ordering.TheVariants.{Less, Equal, Greater}
@@ -19,16 +19,19 @@ use Rattle.mx_msgpack.specs.Items.{array_of}
 use Rattle.mx_msgpack.specs.Reading.{after_first, head_at, measured, reading_of}
 use Rattle.mx_msgpack.specs.Readers.{◌>>=◌, unsigned_at}
 use Rattle.mx_msgpack.specs.Spelling.{array_head, map_head, shortest_unsigned, str_head}
+use Rattle.mx_schema.specs.declared.index_def.IndexRow.{IndexRow}
 use Rattle.mx_schema.specs.declared.schema.Schema.{Schema}
 use Rattle.mx_schema.specs.declared.space_def.SpaceDef.{SpaceDef}
 use Rattle.mx_schema.specs.Bootstrap.{cluster, first_indexes, first_settings, first_spaces, first_state, part_of_numbers, part_of_texts, rows_of, settings, test_space, with_rows}
 use Rattle.mx_schema.specs.Catalogues.{IsCatalogueOf, index_defs, schema_by, schema_of}
 use Rattle.mx_schema.specs.IndexRows.{index_in}
+use Rattle.mx_schema.specs.SchemaChanges.{IndexRowStands, IndexesHaveSpaces, RowsStand}
 use Rattle.mx_schema.specs.SpaceRows.{space_in}
 use Rattle.mx_schema.specs.State.{State, Tuples, index_rows, key_in, key_or_none, space_rows, tuples_in, with_tuple}
 use Rattle.mx_schema.specs.Stored.{IsKeyedBy}
 use Rattle.mx_schema.proofs.StateLaws.{no_tuples, tuples_after}
 use Rattle.mx_schema.proofs.FirstLaws.{both_of, first_schemas}
+use Rattle.mx_schema.proofs.IndexRowLaws.{of_its_space}
 
 -- ---- entries that are put one after the other
 
@@ -214,3 +217,81 @@ space_rows_keyed = keyed_so (part_of_numbers 0 ∷ []) space_rows refl
 pub index_rows_keyed : IsKeyedBy (part_of_numbers 0 ∷ part_of_numbers 1 ∷ []) (schema_of first_state index_rows)
 unfolding space_in index_in array_of reading_of head_at after_first measured unsigned_at part_in shortest_unsigned str_head array_head map_head
 index_rows_keyed = keyed_so (part_of_numbers 0 ∷ part_of_numbers 1 ∷ []) index_rows refl
+
+-- ---- rows of indexes stand under their numbers
+
+abbrev stands_at : Option IndexRow → Key → Bool
+stands_at None key = false
+stands_at (Some row) key = is_eq (key_cmp key (Integer (pos row.space.0) ∷ Integer (pos row.def.id.0) ∷ []))
+
+abbrev all_stand : List (Key × List ℕ) → Bool
+all_stand [] = true
+all_stand (e ∷ es) = stands_at (index_in e.1) e.0 && all_stand es
+
+each_stands : (es : List (Key × List ℕ)) → all_stand es ≡ true → AllByRecursion IndexRowStands es
+each_stands [] all = tt
+each_stands (e ∷ es) all =
+    let parts = both_of (stands_at (index_in e.1) e.0) (all_stand es) all in
+    (by_row (index_in e.1) refl parts.0, each_stands es parts.1)
+  where
+    tied : (o : Ordering) → is_eq o ≡ true → o ≡ Equal
+    tied Less e = absurd cc
+    tied Equal e = refl
+    tied Greater e = absurd cc
+
+    by_row : (o : Option IndexRow) → index_in e.1 ≡ o → stands_at o e.0 ≡ true → IndexRowStands e
+    by_row None is stands = absurd cc
+    by_row (Some row) is stands =
+        let key : Key = Integer (pos row.space.0) ∷ Integer (pos row.def.id.0) ∷ [] in
+        (row, is, key_cmp-IsAntisymmetric e.0 key (tied (key_cmp e.0 key) stands))
+
+indexes_stand : all_stand indexes_keyed ≡ true
+unfolding space_in index_in array_of reading_of head_at after_first measured unsigned_at part_in shortest_unsigned str_head array_head map_head
+indexes_stand = refl
+
+pub first_rows_stand : RowsStand first_state
+first_rows_stand = subst (AllByRecursion IndexRowStands) (sym entries_are) (each_stands indexes_keyed indexes_stand)
+
+-- ---- and each is of a space that is there
+
+abbrev is_listed : Option IndexRow → Bool
+is_listed None = false
+is_listed (Some row) = has_number row.space.0 first_ids
+
+abbrev all_listed : List (Key × List ℕ) → Bool
+all_listed [] = true
+all_listed (e ∷ es) = is_listed (index_in e.1) && all_listed es
+
+indexes_listed : all_listed indexes_keyed ≡ true
+unfolding space_in index_in array_of reading_of head_at after_first measured unsigned_at part_in shortest_unsigned str_head array_head map_head
+indexes_listed = refl
+
+IsThere : ℕ → Type 0
+IsThere space = is_some (schema_listed space) ≡ true
+
+all_there : Each IsThere first_ids
+unfolding IsThere space_in index_in array_of reading_of head_at after_first measured unsigned_at part_in shortest_unsigned str_head array_head map_head
+all_there = (refl, (refl, (refl, (refl, (refl, (refl, (refl, tt)))))))
+
+none_of_space : (q : ℕ) → has_number q first_ids ≡ false → (es : List (Key × List ℕ)) → AllByRecursion IndexRowStands es → all_listed es ≡ true
+    → index_defs (filter (λ entry. is_key_prefix (Integer (pos q) ∷ []) entry.0) es) ≡ []
+none_of_space q none [] stand listed = refl
+none_of_space q none (e ∷ es) stand listed =
+    let parts = both_of (is_listed (index_in e.1)) (all_listed es) listed in
+    let row : IndexRow = stand.0.0 in
+    let has : has_number row.space.0 first_ids ≡ true = sym (ap is_listed stand.0.1) ∙ parts.0 in
+    let other : (q == row.space.0) ≡ false = ne_eqb q row.space.0 (number_apart q none row.space.0 has) in
+    ap (λ b. index_defs (cond b (e ∷ filter (λ entry. is_key_prefix (Integer (pos q) ∷ []) entry.0) es) (filter (λ entry. is_key_prefix (Integer (pos q) ∷ []) entry.0) es)))
+    (of_its_space q e row stand.0.2 ∙ other)
+    ∙ none_of_space q none es stand.1 parts.1
+
+pub first_indexes_have_spaces : IndexesHaveSpaces first_state
+unfolding IsThere
+first_indexes_have_spaces q none =
+    ap (λ (es : List (Key × List ℕ)). index_defs (filter (λ entry. is_key_prefix (Integer (pos q) ∷ []) entry.0) es)) entries_are ∙ by_test (has_number q first_ids) refl
+  where
+    by_test : (b : Bool) → has_number q first_ids ≡ b → index_defs (filter (λ entry. is_key_prefix (Integer (pos q) ∷ []) entry.0) indexes_keyed) ≡ []
+    by_test true has =
+        let gone : schema_listed q ≡ None = sym (schema_is q) ∙ none in
+        absurd (true≢false (sym (each_has IsThere q first_ids all_there has) ∙ ap is_some gone))
+    by_test false without = none_of_space q without indexes_keyed (each_stands indexes_keyed indexes_stand) indexes_listed

@@ -47,7 +47,7 @@ new_described catalogue (Some other) def e = by_test (nat_lt other.id.0 512) (op
     by_test true there e = absurd cc
     by_test false there e = ap Some (free_space def other there e)
 
-space_fields : (row : List ℕ) (def : SpaceDef) → space_of_fields (unwrap_or (items_of row) []) ≡ Some def → space_in row ≡ Some def
+pub space_fields : (row : List ℕ) (def : SpaceDef) → space_of_fields (unwrap_or (items_of row) []) ≡ Some def → space_in row ≡ Some def
 unfolding space_in
 space_fields row def = by_items (items_of row)
   where
@@ -59,7 +59,7 @@ pub space_described : (catalogue : Catalogue) (row : List ℕ) (def : SpaceDef) 
 space_described catalogue row def (inl (one, e)) = ok_of (space_in row) BadSpaceRow def e
 space_described catalogue row def (inr (none, e)) = space_fields row def (new_described catalogue (space_of_fields (unwrap_or (items_of row) [])) def e)
 
-index_fields : (row : List ℕ) (index : IndexRow) → index_of_fields (unwrap_or (items_of row) []) ≡ Some index → index_in row ≡ Some index
+pub index_fields : (row : List ℕ) (index : IndexRow) → index_of_fields (unwrap_or (items_of row) []) ≡ Some index → index_in row ≡ Some index
 unfolding index_in
 index_fields row index = by_items (items_of row)
   where

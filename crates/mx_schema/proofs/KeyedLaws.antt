@@ -1,9 +1,9 @@
 -- Rows that stand by their keys: what a key says of a row that describes something.
-use Rattle.std.proofs.Common.{◌≡◌, ℕ, ◌≤◌, Bool, true, false, cond, ◌&&◌, T, List, [], ◌∷◌, Some, Result, Ok, inl, inr, refl, sym, ap, ◌∙◌, subst, arith}
-use Rattle.std.specs.Prelude.{pos, nat_lt}
+use Rattle.std.proofs.Common.{◌≡◌, ℕ, ◌≤◌, Bool, true, false, cond, ◌&&◌, T, List, [], ◌∷◌, Some, Result, Ok, inl, inr, refl, sym, ap, ◌∙◌, subst, arith, eqb-true, eq-eqb, true≢false}
+use Rattle.std.specs.Prelude.{pos, nat_lt, ◌==◌}
 use Rattle.std.specs.Cmp.{IsTotalOrder, nat_cmp_total, tied_itself}
 use Rattle.std.specs.FinMap.{IsAntisymmetric, nat_cmp-IsAntisymmetric}
-use Rattle.std.specs.Ordering.{eq_by_cmp, int_cmp, is_eq, is_lt, nat_cmp, ordering_then}
+use Rattle.std.specs.Ordering.{eq_by_cmp, int_cmp, is_eq, is_lt, nat_cmp, ordering_reverse, ordering_then}
 use Rattle.std.specs.declared.cmp.Ordering.{Ordering}
 use Rattle.std.specs.declared.cmp.Ordering.TheVariants.{Less, Equal, Greater}
 use Rattle.std.proofs.lemmas.Bool.{cases_eq, le-ltb, ltb-true}
@@ -123,3 +123,43 @@ second_rises q i j less =
         by_test : (b : Bool) → nat_lt i j ≡ b → T (is_lt (ordering_then (cond b Less (cond (nat_lt j i) Greater Equal)) Equal)) → nat_lt j i ≡ false
         by_test true e less = le-ltb j i (below i j e)
         by_test false e less = absurd (never (nat_lt j i) less)
+
+-- of two keys the lesser one has the lesser second number
+pub second_above : (q i j : ℕ) → T (is_lt (key_cmp (two_key q i) (two_key q j))) → nat_lt i j ≡ true
+second_above q i j less =
+    let tied : part_cmp (Integer (pos q)) (Integer (pos q)) ≡ Equal = tied_itself part_cmp_total (Integer (pos q)) in
+    by_second (subst (λ (o : Ordering). T (is_lt (ordering_then o (ordering_then (part_cmp (Integer (pos i)) (Integer (pos j))) Equal)))) tied less)
+  where
+    by_second : T (is_lt (ordering_then (int_cmp (pos i) (pos j)) Equal)) → nat_lt i j ≡ true
+    by_second less = by_test (nat_lt i j) refl less
+      where
+        by_test : (b : Bool) → nat_lt i j ≡ b → T (is_lt (ordering_then (cond b Less (cond (nat_lt j i) Greater Equal)) Equal)) → nat_lt i j ≡ true
+        by_test true e less = e
+        by_test false e less = absurd (never (nat_lt j i) less)
+
+-- and the greater one hasn't
+pub second_falls : (q i j : ℕ) → key_cmp (two_key q i) (two_key q j) ≡ Greater → nat_lt i j ≡ false
+second_falls q i j greater =
+    let less : key_cmp (two_key q j) (two_key q i) ≡ Less = key_cmp_total.antisymm (two_key q j) (two_key q i) ∙ ap ordering_reverse greater in
+    second_rises q j i (subst (λ (o : Ordering). T (is_lt o)) (sym less) tt)
+
+-- two numbers tie where both are the same
+pub two_key_ties : (a b c d : ℕ) → eq_by_cmp key_cmp (two_key a b) (two_key c d) ≡ ((a == c) && (b == d))
+two_key_ties a b c d = by_tests (a == c) (b == d) refl refl
+  where
+    first_same : two_key a b ≡ two_key c d → a ≡ c
+    first_same e = cc
+
+    second_same : two_key a b ≡ two_key c d → b ≡ d
+    second_same e = cc
+
+    by_tests : (s t : Bool) → (a == c) ≡ s → (b == d) ≡ t → eq_by_cmp key_cmp (two_key a b) (two_key c d) ≡ (s && t)
+    by_tests true true e f =
+        let first : a ≡ c = eqb-true a c e in
+        let second : b ≡ d = eqb-true b d f in
+        ap (λ k. eq_by_cmp key_cmp (two_key a b) (two_key k d)) (sym first) ∙ ap (λ k. eq_by_cmp key_cmp (two_key a b) (two_key a k)) (sym second)
+        ∙ ties_itself key_cmp_total (two_key a b)
+    by_tests true false e f =
+        apart key_cmp key_cmp-IsAntisymmetric (two_key a b) (two_key c d) (λ same. true≢false (sym (eq-eqb b d (second_same same)) ∙ f))
+    by_tests false t e f =
+        apart key_cmp key_cmp-IsAntisymmetric (two_key a b) (two_key c d) (λ same. true≢false (sym (eq-eqb a c (first_same same)) ∙ e))

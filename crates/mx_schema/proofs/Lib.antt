@@ -20,3 +20,8 @@ pub mod KeptLaws
 pub mod RowsOfStateLaws
 pub mod OwnLaws
 pub mod TakenLaws
+pub mod SoundLaws
+pub mod TableLaws
+pub mod SchemaChangeLaws
+pub mod HeldChangeLaws
+pub mod IndexRowLaws

@@ -22,20 +22,21 @@ use Rattle.mx_schema.specs.declared.space_def.SpaceDef.{SpaceDef}
 use Rattle.mx_schema.specs.Bootstrap.{part_of_numbers}
 use Rattle.mx_schema.specs.Catalogues.{Catalogue, IsCatalogueOf, StandByKey, index_defs, indexes_of, schema_by, schema_of, with_index}
 use Rattle.mx_schema.specs.IndexRows.{index_in, index_of_fields}
+use Rattle.mx_schema.specs.SchemaChanges.{IndexRowStands, RowsStand}
 use Rattle.mx_schema.specs.SpaceRows.{space_in, space_of_fields}
 use Rattle.mx_schema.specs.SchemaChecks.{IsMade, JudgesIndex, JudgesSpace, RowFault, RowsMake, indexes_with, with_index_on, with_index_row, with_space}
 use Rattle.mx_schema.specs.State.{State, index_rows, key_in, space_rows, tuples_in}
 use Rattle.mx_schema.proofs.KeyedLaws.{key_of_one, key_of_two, number_ties, one_key, one_key_ties, prefix_ties, second_rises, two_key}
 use Rattle.mx_schema.proofs.KeptLaws.{index_described, index_numbers_first, space_described, space_number_first}
 
-abbrev Row : Type 0
+abbrev pub Row : Type 0
 Row = Key × List ℕ
 
-first_of : (a b : Bool) → T (a && b) → T a
+pub first_of : (a b : Bool) → T (a && b) → T a
 first_of true b h = tt
 first_of false b h = absurd h
 
-second_of : (a b : Bool) → T (a && b) → T b
+pub second_of : (a b : Bool) → T (a && b) → T b
 second_of true b h = h
 second_of false b h = absurd h
 
@@ -47,7 +48,7 @@ never_made x fault e = cc
 
 -- ---- keys of rows that describe something
 
-space_key : (row : List ℕ) (key : Key) (def : SpaceDef) → space_in row ≡ Some def → key_in (part_of_numbers 0 ∷ []) row ≡ Ok key → key ≡ one_key def.id.0
+pub space_key : (row : List ℕ) (key : Key) (def : SpaceDef) → space_in row ≡ Some def → key_in (part_of_numbers 0 ∷ []) row ≡ Ok key → key ≡ one_key def.id.0
 unfolding space_in
 space_key row key def e k = by_items (items_of row) e k
   where
@@ -57,7 +58,7 @@ space_key row key def e k = by_items (items_of row) e k
         let f = space_number_first fields def e in
         key_of_one f.0 f.1 def.id.0 key f.3 (ap (key_of (part_of_numbers 0 ∷ [])) (sym f.2) ∙ k)
 
-index_key : (row : List ℕ) (key : Key) (index : IndexRow) → index_in row ≡ Some index → key_in (part_of_numbers 0 ∷ part_of_numbers 1 ∷ []) row ≡ Ok key
+pub index_key : (row : List ℕ) (key : Key) (index : IndexRow) → index_in row ≡ Some index → key_in (part_of_numbers 0 ∷ part_of_numbers 1 ∷ []) row ≡ Ok key
     → key ≡ two_key index.space.0 index.def.id.0
 unfolding index_in
 index_key row key index e k = by_items (items_of row) e k
@@ -118,7 +119,7 @@ abbrev all_defs : List IndexDef → Schema → Schema
 all_defs [] schema = schema
 all_defs (def ∷ defs) schema = all_defs defs (with_def def schema)
 
-abbrev of_space : (q : ℕ) → Row → Bool
+abbrev pub of_space : (q : ℕ) → Row → Bool
 of_space q e = is_key_prefix (one_key q) e.0
 
 index_put_at : (c : Catalogue) (row : IndexRow) (q : ℕ)
@@ -172,12 +173,8 @@ indexes_kept (e ∷ es) place before catalogue keyed (inr (index, judged, made))
 
 -- ---- the indexes of a space stand in order
 
-IsIndexEntry : Row → Type 0
-IsIndexEntry e = (index : IndexRow) × (index_in e.1 ≡ Some index) × (e.0 ≡ two_key index.space.0 index.def.id.0)
-
 index_entries : (es : List Row) (place : ℕ) (before catalogue : Catalogue) → AllByRecursion (λ e. key_in (part_of_numbers 0 ∷ part_of_numbers 1 ∷ []) e.1 ≡ Ok e.0) es
-    → RowsMake JudgesIndex with_index_row place (map (λ e. e.1) es) before (Ok catalogue) → AllByRecursion IsIndexEntry es
-unfolding IsIndexEntry
+    → RowsMake JudgesIndex with_index_row place (map (λ e. e.1) es) before (Ok catalogue) → AllByRecursion IndexRowStands es
 index_entries [] place before catalogue keyed made = tt
 index_entries (e ∷ es) place before catalogue keyed (inl (refusal, judged, is)) = absurd (never_made catalogue (record { place = place; refusal = refusal }) is)
 index_entries (e ∷ es) place before catalogue keyed (inr (index, judged, made)) =
@@ -192,9 +189,8 @@ abbrev Rise : List IndexDef → Type 0
 Rise [] = ⊤
 Rise (def ∷ defs) = NoneBelow def defs × Rise defs
 
-none_below : (q : ℕ) (key : Key) (def : IndexDef) (es : List Row) → key ≡ two_key q def.id.0 → T (below_all key_cmp key es) → AllByRecursion IsIndexEntry es
+none_below : (q : ℕ) (key : Key) (def : IndexDef) (es : List Row) → key ≡ two_key q def.id.0 → T (below_all key_cmp key es) → AllByRecursion IndexRowStands es
     → NoneBelow def (index_defs (filter (of_space q) es))
-unfolding IsIndexEntry
 none_below q key def [] is below all = tt
 none_below q key def (e ∷ es) is below all =
     by_test (of_space q e) refl (none_below q key def es is (second_of (is_lt (key_cmp key e.0)) (below_all key_cmp key es) below) all.1)
@@ -209,8 +205,7 @@ none_below q key def (e ∷ es) is below all =
         subst (λ (o : Option IndexRow). NoneBelow def (with_index o (index_defs (filter (of_space q) es)))) (sym all.0.1) (second_rises q def.id.0 index.def.id.0 less, others)
     by_test false of others = others
 
-rise : (q : ℕ) (es : List Row) → T (is_sorted key_cmp es) → AllByRecursion IsIndexEntry es → Rise (index_defs (filter (of_space q) es))
-unfolding IsIndexEntry
+rise : (q : ℕ) (es : List Row) → T (is_sorted key_cmp es) → AllByRecursion IndexRowStands es → Rise (index_defs (filter (of_space q) es))
 rise q [] sorted all = tt
 rise q (e ∷ es) sorted all = by_test (of_space q e) refl (rise q es (second_of (below_all key_cmp e.0 es) (is_sorted key_cmp es) sorted) all.1)
   where
@@ -277,3 +272,9 @@ state_catalogue state catalogue spaces_stand indexes_stand (Ok middle, spaces, i
     by_def : (def : Option SpaceDef) → Rise (indexes_of state q) → option_map (all_defs (indexes_of state q)) (over def None) ≡ schema_by state q def
     by_def None rises = refl
     by_def (Some def) rises = ap Some (put_all_last def [] (indexes_of state q) (follow_none (indexes_of state q)) rises)
+
+-- and the rows of indexes stand under their numbers
+pub made_rows_stand : (state : State) (catalogue : Catalogue) → StandByKey (part_of_numbers 0 ∷ part_of_numbers 1 ∷ []) (tuples_in state index_rows)
+    → IsMade (finite.values (tuples_in state space_rows)) (finite.values (tuples_in state index_rows)) (Ok catalogue) → RowsStand state
+made_rows_stand state catalogue stand (Err fault, spaces, indexes) = absurd (never_made catalogue fault indexes)
+made_rows_stand state catalogue stand (Ok middle, spaces, indexes) = index_entries (finite.entries (tuples_in state index_rows)) _ middle catalogue stand indexes

@@ -4,7 +4,7 @@ use Rattle.mx_msgpack.specs.Readers.{◌>>=◌}
 use Rattle.std.specs.List.{filter}
 use Rattle.mx_key.specs.Keys.{Integer, is_key_prefix}
 use Rattle.std.specs.Prelude.{pos, ◌∷◌, ◌==◌, Some, None, Result, Ok, Err, IfSome, OnErr, if◌then◌else◌}
-use Rattle.std.specs.BTreeMap.{get_by, is_at}
+use Rattle.std.specs.BTreeMap.{is_at}
 use Rattle.std.specs.List.{AllByRecursion}
 use Rattle.std.specs.Option.{unwrap_or}
 use Rattle.std.specs.Ordering.{eq_by_cmp}
@@ -17,14 +17,16 @@ use Rattle.mx_key.specs.Keys.{Key}
 use Rattle.mx_schema.specs.declared.index_def.IndexDef.{IndexDef}
 use Rattle.mx_schema.specs.declared.schema.Schema.{Schema}
 use Rattle.mx_schema.specs.declared.state.State as coded
-use Rattle.mx_schema.specs.declared.state.Table.{Table}
+use Rattle.mx_schema.specs.declared.table.Table.{Table}
+use Rattle.mx_schema.specs.declared.tables.TableEntry.{TableEntry}
 use Rattle.mx_schema.specs.declared.space_def.SpaceDef.{SpaceDef}
 use Rattle.mx_schema.specs.Catalogues.{StandByKey, index_defs, index_with, schema_of}
 use Rattle.mx_schema.specs.SpaceRows.{space_in}
 use Rattle.mx_schema.specs.Picks.{Indexed}
 use Rattle.mx_schema.specs.State as state
 use Rattle.mx_schema.specs.State.{State, key_in, tuples_in, with_tuple, without_tuple, space_rows, index_rows}
-use Rattle.mx_schema.specs.Stored.{IsKeyedBy, HoldsBy, HoldsSpace, StandByPrimary, StoresTuples}
+use Rattle.mx_schema.specs.Stored.{IsKeyedBy, HoldsBy, HoldsSpace, StandByPrimary, StoresTuples, TablesHold}
+use Rattle.mx_schema.specs.Tables.{SetsTable, table_of}
 use Rattle.mx_key.specs.declared.part.Part.{Part}
 use Rattle.mx_tuple.specs.Fields.{tuple_of}
 use Rattle.mx_schema.proofs.WholeKeyLaws.{key_length}
@@ -84,40 +86,40 @@ space_put schema described table after tuples key tuple is keyed same keeps hold
     }
 
 -- one table has other tuples, and the other tables are as before
-holds_changed : (schemas : ℕ → Option Schema) (before : State) (space : ℕ) (all : state.Tuples) (old new : coded.State) (table after : Table)
-    → get_by (nat_cmp space) old.tables ≡ Some table
+holds_changed : (schemas : ℕ → Option Schema) (before : State) (space : ℕ) (all : state.Tuples) (old new : List TableEntry) (table after : Table)
+    → table_of space old ≡ Some table
     → (HoldsSpace (schemas space) (Some table) (tuples_in before space) → HoldsSpace (schemas space) (Some after) all)
-    → ((q : ℕ) → get_by (nat_cmp q) new.tables ≡ cond (is_at (nat_cmp space) q) (Some after) (get_by (nat_cmp q) old.tables))
-    → HoldsBy schemas old before → HoldsBy schemas new (insert before space all)
+    → SetsTable old new space after
+    → TablesHold schemas old before → TablesHold schemas new (insert before space all)
 holds_changed schemas before space all old new table after there changes updates holds q = by_test (q == space) refl
   where
-    by_test : (b : Bool) → (q == space) ≡ b → HoldsSpace (schemas q) (get_by (nat_cmp q) new.tables) (tuples_in (insert before space all) q)
+    by_test : (b : Bool) → (q == space) ≡ b → HoldsSpace (schemas q) (table_of q new) (tuples_in (insert before space all) q)
     by_test true e =
         let one : q ≡ space = eqb-true q space e in
-        let found : get_by (nat_cmp q) new.tables ≡ Some after = updates q ∙ ap (λ b. cond b (Some after) (get_by (nat_cmp q) old.tables)) (at_same space q ∙ e) in
+        let found : table_of q new ≡ Some after = updates q ∙ ap (λ b. if b then Some after else table_of q old) e in
         let tuples : tuples_in (insert before space all) q ≡ all = tuples_set before space all q ∙ ap (λ b. if b then all else tuples_in before q) e in
         let was : HoldsSpace (schemas space) (Some table) (tuples_in before space) = subst (λ o. HoldsSpace (schemas space) o (tuples_in before space)) there (holds space) in
         subst (λ o. HoldsSpace (schemas q) o (tuples_in (insert before space all) q)) (sym found)
         (subst (λ t. HoldsSpace (schemas q) (Some after) t) (sym tuples) (subst (λ s. HoldsSpace (schemas s) (Some after) all) (sym one) (changes was)))
     by_test false e =
-        let found : get_by (nat_cmp q) new.tables ≡ get_by (nat_cmp q) old.tables = updates q ∙ ap (λ b. cond b (Some after) (get_by (nat_cmp q) old.tables)) (at_same space q ∙ e) in
+        let found : table_of q new ≡ table_of q old = updates q ∙ ap (λ b. if b then Some after else table_of q old) e in
         let tuples : tuples_in (insert before space all) q ≡ tuples_in before q = tuples_set before space all q ∙ ap (λ b. if b then all else tuples_in before q) e in
         subst (λ o. HoldsSpace (schemas q) o (tuples_in (insert before space all) q)) (sym found)
-        (subst (λ t. HoldsSpace (schemas q) (get_by (nat_cmp q) old.tables) t) (sym tuples) (holds q))
+        (subst (λ t. HoldsSpace (schemas q) (table_of q old) t) (sym tuples) (holds q))
 
 module _ (schemas : ℕ → Option Schema) (before : State) (space : ℕ) (schema : Schema) (key : Key) (tuple : List ℕ) (is : schemas space ≡ Some schema)
     (keyed : IfSome (index_with 0 schema.indexes) (λ def. key_in def.key tuple ≡ Ok key)) where
   -- one table has a tuple more
-  pub holds_put : (old new : coded.State) (table after : Table) → get_by (nat_cmp space) old.tables ≡ Some table → after.schema ≡ table.schema
+  pub holds_put : (old new : List TableEntry) (table after : Table) → table_of space old ≡ Some table → after.schema ≡ table.schema
       → ((tuples : state.Tuples) → StoresTuples table.tuples.entries tuples → StoresTuples after.tuples.entries (insert tuples key tuple))
-      → ((q : ℕ) → get_by (nat_cmp q) new.tables ≡ cond (is_at (nat_cmp space) q) (Some after) (get_by (nat_cmp q) old.tables))
-      → HoldsBy schemas old before → HoldsBy schemas new (with_tuple before space key tuple)
+      → SetsTable old new space after
+      → TablesHold schemas old before → TablesHold schemas new (with_tuple before space key tuple)
   holds_put old new table after there same keeps updates holds =
       holds_changed schemas before space (insert (tuples_in before space) key tuple) old new table after there
       (space_put (schemas space) schema table after (tuples_in before space) key tuple is keyed same (keeps (tuples_in before space))) updates holds
 
   -- there is no such space in memory, which can't be
-  pub none_there : (old : coded.State) → get_by (nat_cmp space) old.tables ≡ None → HoldsBy schemas old before → ⊥
+  pub none_there : (old : List TableEntry) → table_of space old ≡ None → TablesHold schemas old before → ⊥
   none_there old none holds =
       let was : HoldsSpace (schemas space) None (tuples_in before space) = subst (λ o. HoldsSpace (schemas space) o (tuples_in before space)) none (holds space) in
       let no : schemas space ≡ None = was.none in
@@ -125,7 +127,7 @@ module _ (schemas : ℕ → Option Schema) (before : State) (space : ℕ) (schem
       absurd cc
 
 -- one table has a tuple less
-stands_left : (schema : Schema) (tuples : state.Tuples) (key : Key) → StandByPrimary schema tuples → StandByPrimary schema (remove tuples key)
+pub stands_left : (schema : Schema) (tuples : state.Tuples) (key : Key) → StandByPrimary schema tuples → StandByPrimary schema (remove tuples key)
 stands_left schema tuples key stands = by_index (index_with 0 schema.indexes) stands
   where
     by_index : (def : Option IndexDef) → IfSome def (λ def. StandByKey def.key tuples) → IfSome def (λ def. StandByKey def.key (remove tuples key))
@@ -141,47 +143,47 @@ space_left schema table after tuples key same keeps holds = record {
   stands = subst (λ (s : Schema). StandByPrimary s (remove tuples key)) (sym same) (stands_left table.schema tuples key holds.stands);
 }
 
-pub holds_left : (schemas : ℕ → Option Schema) (before : State) (space : ℕ) (key : Key) (old new : coded.State) (table after : Table)
-    → get_by (nat_cmp space) old.tables ≡ Some table → after.schema ≡ table.schema
+pub holds_left : (schemas : ℕ → Option Schema) (before : State) (space : ℕ) (key : Key) (old new : List TableEntry) (table after : Table)
+    → table_of space old ≡ Some table → after.schema ≡ table.schema
     → ((tuples : state.Tuples) → StoresTuples table.tuples.entries tuples → StoresTuples after.tuples.entries (remove tuples key))
-    → ((q : ℕ) → get_by (nat_cmp q) new.tables ≡ cond (is_at (nat_cmp space) q) (Some after) (get_by (nat_cmp q) old.tables))
-    → HoldsBy schemas old before → HoldsBy schemas new (without_tuple before space key)
+    → SetsTable old new space after
+    → TablesHold schemas old before → TablesHold schemas new (without_tuple before space key)
 holds_left schemas before space key old new table after there same keeps updates holds =
     holds_changed schemas before space (remove (tuples_in before space) key) old new table after there
     (space_left (schemas space) table after (tuples_in before space) key same (keeps (tuples_in before space))) updates holds
 
 -- no table has it
-pub nothing_left : (schemas : ℕ → Option Schema) (before : State) (space : ℕ) (key : Key) (memory : coded.State) → get_by (nat_cmp space) memory.tables ≡ None
-    → HoldsBy schemas memory before → HoldsBy schemas memory (without_tuple before space key)
-nothing_left schemas before space key memory none holds q = by_test (q == space) refl
+pub nothing_left : (schemas : ℕ → Option Schema) (before : State) (space : ℕ) (key : Key) (tables : List TableEntry) → table_of space tables ≡ None
+    → TablesHold schemas tables before → TablesHold schemas tables (without_tuple before space key)
+nothing_left schemas before space key tables none holds q = by_test (q == space) refl
   where
-    by_test : (b : Bool) → (q == space) ≡ b → HoldsSpace (schemas q) (get_by (nat_cmp q) memory.tables) (tuples_in (without_tuple before space key) q)
+    by_test : (b : Bool) → (q == space) ≡ b → HoldsSpace (schemas q) (table_of q tables) (tuples_in (without_tuple before space key) q)
     by_test true e =
         let one : q ≡ space = eqb-true q space e in
         let was : HoldsSpace (schemas space) None (tuples_in before space) = subst (λ o. HoldsSpace (schemas space) o (tuples_in before space)) none (holds space) in
         let tuples : tuples_in (without_tuple before space key) q ≡ tuples_in before space =
         tuples_set before space (remove (tuples_in before space) key) q ∙ ap (λ b. if b then remove (tuples_in before space) key else tuples_in before q) e
         ∙ none_left key (tuples_in before space) was.no_tuples ∙ sym was.no_tuples in
-        subst (λ t. HoldsSpace (schemas q) (get_by (nat_cmp q) memory.tables) t) (sym tuples)
-        (subst (λ s. HoldsSpace (schemas s) (get_by (nat_cmp s) memory.tables) (tuples_in before space)) (sym one) (holds space))
+        subst (λ t. HoldsSpace (schemas q) (table_of q tables) t) (sym tuples)
+        (subst (λ s. HoldsSpace (schemas s) (table_of s tables) (tuples_in before space)) (sym one) (holds space))
     by_test false e =
         let tuples : tuples_in (without_tuple before space key) q ≡ tuples_in before q =
         tuples_set before space (remove (tuples_in before space) key) q ∙ ap (λ b. if b then remove (tuples_in before space) key else tuples_in before q) e in
-        subst (λ t. HoldsSpace (schemas q) (get_by (nat_cmp q) memory.tables) t) (sym tuples) (holds q)
+        subst (λ t. HoldsSpace (schemas q) (table_of q tables) t) (sym tuples) (holds q)
 
 -- what memory has of each space stays where the tables are the same but for records of one
-pub holds_same : (schemas : ℕ → Option Schema) (before : State) (old new : coded.State) (space : ℕ) (table after : Table) → get_by (nat_cmp space) old.tables ≡ Some table
+pub holds_same : (schemas : ℕ → Option Schema) (before : State) (old new : List TableEntry) (space : ℕ) (table after : Table) → table_of space old ≡ Some table
     → after.schema ≡ table.schema → after.tuples.entries ≡ table.tuples.entries
-    → ((q : ℕ) → get_by (nat_cmp q) new.tables ≡ cond (is_at (nat_cmp space) q) (Some after) (get_by (nat_cmp q) old.tables))
-    → HoldsBy schemas old before → HoldsBy schemas new before
+    → SetsTable old new space after
+    → TablesHold schemas old before → TablesHold schemas new before
 holds_same schemas before old new space table after there same kept updates holds q = by_test (q == space) refl
   where
-    by_test : (b : Bool) → (q == space) ≡ b → HoldsSpace (schemas q) (get_by (nat_cmp q) new.tables) (tuples_in before q)
+    by_test : (b : Bool) → (q == space) ≡ b → HoldsSpace (schemas q) (table_of q new) (tuples_in before q)
     by_test true e =
         let one : q ≡ space = eqb-true q space e in
-        let found : get_by (nat_cmp q) new.tables ≡ Some after = updates q ∙ ap (λ b. cond b (Some after) (get_by (nat_cmp q) old.tables)) (at_same space q ∙ e) in
+        let found : table_of q new ≡ Some after = updates q ∙ ap (λ b. if b then Some after else table_of q old) e in
         let was : HoldsSpace (schemas q) (Some table) (tuples_in before q) =
-        subst (λ o. HoldsSpace (schemas q) o (tuples_in before q)) (ap (λ s. get_by (nat_cmp s) old.tables) one ∙ there) (holds q) in
+        subst (λ o. HoldsSpace (schemas q) o (tuples_in before q)) (ap (λ s. table_of s old) one ∙ there) (holds q) in
         subst (λ o. HoldsSpace (schemas q) o (tuples_in before q)) (sym found)
         (record {
           is = was.is ∙ ap (λ s. Some s) (sym same);
@@ -189,7 +191,7 @@ holds_same schemas before old new space table after there same kept updates hold
           stands = subst (λ (s : Schema). StandByPrimary s (tuples_in before q)) (sym same) was.stands;
         })
     by_test false e =
-        let found : get_by (nat_cmp q) new.tables ≡ get_by (nat_cmp q) old.tables = updates q ∙ ap (λ b. cond b (Some after) (get_by (nat_cmp q) old.tables)) (at_same space q ∙ e) in
+        let found : table_of q new ≡ table_of q old = updates q ∙ ap (λ b. if b then Some after else table_of q old) e in
         subst (λ o. HoldsSpace (schemas q) o (tuples_in before q)) (sym found) (holds q)
 
 -- what holds anyway holds where an error is returned
@@ -206,20 +208,26 @@ PartMade whole (Some table) left = (whole ≡ Some table.schema) × (table.tuple
 
 -- a table more
 pub part_more : (whole : Option Schema) (space q : ℕ) (table : Table) (was now : Option Table) (left rest : Option Schema) (schema : Schema) → table.schema ≡ schema → table.tuples.entries ≡ []
-    → now ≡ cond (is_at (nat_cmp space) q) (Some table) was → rest ≡ cond (is_at (nat_cmp space) q) None left
-    → (is_at (nat_cmp space) q ≡ true → left ≡ Some schema) → PartMade whole was left → PartMade whole now rest
-part_more whole space q table was now left rest schema same none tables others first made = by_test (is_at (nat_cmp space) q) tables others first
+    → now ≡ (if q == space then Some table else was) → rest ≡ cond (is_at (nat_cmp space) q) None left → (q ≡ space → left ≡ Some schema) → PartMade whole was left
+    → PartMade whole now rest
+part_more whole space q table was now left rest schema same none tables others first made = by_test (q == space) refl
   where
     by_was : (was : Option Table) → left ≡ Some schema → PartMade whole was left → whole ≡ Some schema
     by_was None there made = sym made ∙ there
     by_was (Some other) there (is, empty, gone) = absurd cc
 
-    by_test : (b : Bool) → now ≡ cond b (Some table) was → rest ≡ cond b None left → (b ≡ true → left ≡ Some schema) → PartMade whole now rest
-    by_test true tables others first =
-        subst (λ o. PartMade whole o rest) (sym tables) (by_was was (first refl) made ∙ ap (λ s. Some s) (sym same), none, others)
-    by_test false tables others first = subst (λ o. PartMade whole o rest) (sym tables) (subst (PartMade whole was) (sym others) made)
+    by_test : (b : Bool) → (q == space) ≡ b → PartMade whole now rest
+    by_test true e =
+        let found : now ≡ Some table = tables ∙ ap (λ b. if b then Some table else was) e in
+        let over : rest ≡ None = others ∙ ap (λ b. cond b None left) (at_same space q ∙ e) in
+        subst (λ o. PartMade whole o rest) (sym found) (by_was was (first (eqb-true q space e)) made ∙ ap (λ s. Some s) (sym same), none, over)
+    by_test false e =
+        let found : now ≡ was = tables ∙ ap (λ b. if b then Some table else was) e in
+        let over : rest ≡ left = others ∙ ap (λ b. cond b None left) (at_same space q ∙ e) in
+        subst (λ o. PartMade whole o rest) (sym found) (subst (PartMade whole was) (sym over) made)
 
-none_stand : (schema : Schema) → StandByPrimary schema empty
+-- no tuples stand under any key
+pub none_stand : (schema : Schema) → StandByPrimary schema empty
 none_stand schema = by_index (index_with 0 schema.indexes)
   where
     none : state.Tuples
@@ -242,14 +250,14 @@ all_made whole (Some table) left over (is, none, gone) = record {
 
 -- those of a table of memory
 pub shown_there : (schemas : ℕ → Option Schema) (memory : coded.State) (before : State) (space : ℕ) (table : Table) → HoldsBy schemas memory before
-    → Some table ≡ get_by (nat_cmp space) memory.tables → StoresTuples table.tuples.entries (tuples_in before space)
+    → Some table ≡ table_of space memory.tables.entries.items → StoresTuples table.tuples.entries (tuples_in before space)
 shown_there schemas memory before space table holds there =
     let was : HoldsSpace (schemas space) (Some table) (tuples_in before space) = subst (λ o. HoldsSpace (schemas space) o (tuples_in before space)) (sym there) (holds space) in
     was.keeps
 
 -- none where there is no table
 pub shown_none : (schemas : ℕ → Option Schema) (memory : coded.State) (before : State) (space : ℕ) → HoldsBy schemas memory before
-    → None ≡ get_by (nat_cmp space) memory.tables → tuples_in before space ≡ empty
+    → None ≡ table_of space memory.tables.entries.items → tuples_in before space ≡ empty
 shown_none schemas memory before space holds there =
     let was : HoldsSpace (schemas space) None (tuples_in before space) = subst (λ o. HoldsSpace (schemas space) o (tuples_in before space)) (sym there) (holds space) in
     was.no_tuples
@@ -269,15 +277,15 @@ own_whole schema tuples def stands is first =
 
 -- ---- what describes spaces
 
--- what describes spaces stays where a tuple is put into a space of others
-pub schema_after : (before : State) (space : ℕ) (key : Key) (tuple : List ℕ) → (space == space_rows) ≡ false → (space == index_rows) ≡ false
-    → (q : ℕ) → schema_of (with_tuple before space key tuple) q ≡ schema_of before q
+-- what describes spaces stays where a space of others is given other tuples
+pub schema_set : (before : State) (space : ℕ) (all : state.Tuples) → (space == space_rows) ≡ false → (space == index_rows) ≡ false
+    → (q : ℕ) → schema_of (insert before space all) q ≡ schema_of before q
 unfolding schema_of
-schema_after before space key tuple no_space no_index q =
-    let spaces : tuples_in (with_tuple before space key tuple) space_rows ≡ tuples_in before space_rows =
-    tuples_after before space key tuple space_rows ∙ ap (λ b. if b then insert (tuples_in before space) key tuple else tuples_in before space_rows) (other_way space_rows space no_space) in
-    let indexes : tuples_in (with_tuple before space key tuple) index_rows ≡ tuples_in before index_rows =
-    tuples_after before space key tuple index_rows ∙ ap (λ b. if b then insert (tuples_in before space) key tuple else tuples_in before index_rows) (other_way index_rows space no_index) in
+schema_set before space all no_space no_index q =
+    let spaces : tuples_in (insert before space all) space_rows ≡ tuples_in before space_rows =
+    tuples_set before space all space_rows ∙ ap (λ b. if b then all else tuples_in before space_rows) (other_way space_rows space no_space) in
+    let indexes : tuples_in (insert before space all) index_rows ≡ tuples_in before index_rows =
+    tuples_set before space all index_rows ∙ ap (λ b. if b then all else tuples_in before index_rows) (other_way index_rows space no_index) in
     λ i. described (spaces i) (indexes i) q
   where
     described : state.Tuples → state.Tuples → ℕ → Option Schema
@@ -290,10 +298,15 @@ schema_after before space key tuple no_space no_index q =
     other_way : (a b : ℕ) → (b == a) ≡ false → (a == b) ≡ false
     other_way a b e = grind (arith, nat_tests)
 
+-- and so where a tuple is put there
+pub schema_after : (before : State) (space : ℕ) (key : Key) (tuple : List ℕ) → (space == space_rows) ≡ false → (space == index_rows) ≡ false
+    → (q : ℕ) → schema_of (with_tuple before space key tuple) q ≡ schema_of before q
+schema_after before space key tuple = schema_set before space (insert (tuples_in before space) key tuple)
+
 -- what memory has stays where each space is described as before
 pub holds_described : (one other : ℕ → Option Schema) (memory : coded.State) (before : State) → ((space : ℕ) → one space ≡ other space) → HoldsBy one memory before → HoldsBy other memory before
 holds_described one other memory before same holds space =
-    subst (λ s. HoldsSpace s (get_by (nat_cmp space) memory.tables) (tuples_in before space)) (same space) (holds space)
+    subst (λ s. HoldsSpace s (table_of space memory.tables.entries.items) (tuples_in before space)) (same space) (holds space)
 
 -- ---- rows that are put one after the other
 

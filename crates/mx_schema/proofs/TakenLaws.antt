@@ -56,10 +56,11 @@ flipped true x = refl
 flipped false x = refl
 
 module _ (key : Key) where
-  abbrev apart : Key → Bool
+  abbrev pub apart : Key → Bool
   apart other = not (eq_by_cmp key_cmp key other)
 
-  entries_removed : (tuples : Tuples) → finite.entries (finite.remove tuples key) ≡ where_key key_cmp apart (finite.entries tuples)
+  -- what is left has the other keys
+  pub entries_removed : (tuples : Tuples) → finite.entries (finite.remove tuples key) ≡ where_key key_cmp apart (finite.entries tuples)
   entries_removed tuples =
       same_entries key_cmp key_cmp_total key_cmp-IsAntisymmetric (finite.entries (finite.remove tuples key)) (where_key key_cmp apart (finite.entries tuples))
       (finite.entries_sorted (finite.remove tuples key)) (is_sorted-where_key key_cmp apart (finite.entries tuples) (finite.entries_sorted tuples))
@@ -129,3 +130,20 @@ module _ (key : Key) where
         ∙ ap (λ (k : List ℕ). remove_entry (is_at (slice_cmp nat_cmp k)) kept) (sym is) ∙ sym taken;
     fit = each_left (λ entry. AreFit entry.0) tuples keeps.fit;
   }
+
+  -- a property that each entry has, the tuple has that is found under the key
+  pub each_found : (P : Indexed → Type 0) (tuples : Tuples) (tuple : List ℕ) → finite.get tuples key ≡ Some tuple → AllByRecursion P (finite.entries tuples) → P (key, tuple)
+  each_found P tuples tuple is = found (finite.entries tuples) (sym (finite.get-entries tuples key) ∙ is)
+    where
+      by_order_of : (entry : Indexed) (all : List Indexed) (o : Ordering) → key_cmp key entry.0 ≡ o → cond (is_eq o) (Some entry.1) (find key_cmp key all) ≡ Some tuple
+          → P entry → (find key_cmp key all ≡ Some tuple → P (key, tuple)) → P (key, tuple)
+      by_order_of entry all Less tied e one others = others e
+      by_order_of entry all Equal tied e one others =
+          let same : entry.1 ≡ tuple = cc in
+          let own : entry.0 ≡ key = sym (key_cmp-IsAntisymmetric key entry.0 tied) in
+          subst P (λ i. (own i, same i)) one
+      by_order_of entry all Greater tied e one others = others e
+
+      found : (all : List Indexed) → find key_cmp key all ≡ Some tuple → AllByRecursion P all → P (key, tuple)
+      found [] e have = absurd cc
+      found (entry ∷ all) e have = by_order_of entry all (key_cmp key entry.0) refl e have.0 (λ later. found all later have.1)

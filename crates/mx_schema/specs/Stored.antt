@@ -1,19 +1,19 @@
 -- The state that memory holds: each tuple is kept under the comparable bytes of its primary key.
 use Rattle.std.specs.Prelude.{◌≡◌, ℕ, List, map, Option, Some, None, IfSome}
-use Rattle.std.specs.BTreeMap.{get_by}
 use Rattle.std.specs.List.{AllByRecursion}
 use Rattle.std.specs.FinMap as finite
-use Rattle.std.specs.Ordering.{nat_cmp}
 use Rattle.mx_key.specs.declared.part.Part.{Part}
 use Rattle.mx_key.specs.Keys.{AreFit}
 use Rattle.mx_key.specs.Comparable.{comparable_of}
 use Rattle.mx_schema.specs.declared.keyed.Keyed.{Keyed}
 use Rattle.mx_schema.specs.declared.schema.Schema.{Schema}
 use Rattle.mx_schema.specs.declared.state.State as coded
-use Rattle.mx_schema.specs.declared.state.Table.{Table}
+use Rattle.mx_schema.specs.declared.table.Table.{Table}
+use Rattle.mx_schema.specs.declared.tables.TableEntry.{TableEntry}
 use Rattle.mx_schema.specs.Catalogues.{StandByKey, index_with, schema_of}
 use Rattle.mx_schema.specs.State.{State, Tuples, tuples_in}
 use Rattle.mx_schema.specs.Picks.{Indexed}
+use Rattle.mx_schema.specs.Tables.{table_of}
 
 -- a tuple under its key's bytes
 abbrev pub StoredTuple : Type 0
@@ -54,9 +54,13 @@ abbrev pub HoldsSpace : (schema : Option Schema) → Option Table → Tuples →
 HoldsSpace schema None tuples = StoresNone schema tuples
 HoldsSpace schema (Some table) tuples = StoresSpace schema table.schema table.tuples.entries tuples
 
--- memory has the tuples of each space, where spaces are described so
+-- tables have the tuples of each space, where spaces are described so
+abbrev pub TablesHold : (schemas : ℕ → Option Schema) → List TableEntry → State → Type 0
+TablesHold schemas tables state = (space : ℕ) → HoldsSpace (schemas space) (table_of space tables) (tuples_in state space)
+
+-- memory has them
 abbrev pub HoldsBy : (schemas : ℕ → Option Schema) → coded.State → State → Type 0
-HoldsBy schemas memory state = (space : ℕ) → HoldsSpace (schemas space) (get_by (nat_cmp space) memory.tables) (tuples_in state space)
+HoldsBy schemas memory state = TablesHold schemas memory.tables.entries.items state
 
 -- memory has the tuples of a state and what describes its spaces
 abbrev pub Holds : (memory : coded.State) (state : State) → Type 0

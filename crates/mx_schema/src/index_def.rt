@@ -1,9 +1,10 @@
 //! Indexes, as their rows describe them.
 
-ghost use Rattle.std.specs.Prelude.{◌≡◌, [], OnOk};
+ghost use Rattle.std.specs.Prelude.{◌≡◌, [], OnErr, OnOk};
 ghost use Rattle.std.specs.Option.{option_copied};
 ghost use Rattle.mx_schema.specs.Catalogues.{index_with};
 ghost use Rattle.mx_schema.specs.RowParts.{index_place};
+ghost use Rattle.mx_schema.specs.SchemaChanges.{indexes_without};
 ghost use Rattle.mx_schema.specs.SchemaChecks.{has_name, indexes_with};
 
 use mx_base::{IndexId, Name, SpaceId};
@@ -83,12 +84,23 @@ impl IndexDefs {
     }
 
     /// Adds an index behind those of smaller numbers and of its own.
+    ///
+    /// # Errors
+    /// Out of memory. Nothing changed then.
     pub fn insert(&mut self, def: IndexDef) -> Result<(), AllocError>
-        ensures { OnOk result (self.new ≡ indexes_with def self.old) }
+        ensures ok { OnOk result (self.new ≡ indexes_with def self.old) }
+        ensures err { OnErr result (self.new ≡ self.old) }
     {
         let place = place_of(self.items.as_slice(), def.id);
         self.items.insert(place, def)?;
         Ok(())
+    }
+
+    /// Takes the index of this number out, where there is one.
+    pub fn remove(&mut self, id: IndexId)
+        ensures { self.new ≡ indexes_without id.0 self.old }
+    {
+        self.items.retain(|def| def.id.0 != id.0);
     }
 
     pub(crate) fn has_name(&self, name: &Name) -> bool

@@ -88,6 +88,7 @@ pub fn parts_or_none(alloc: Global, parts: &KeyDef, tuple: &[u8]) -> Result<Byte
 /// The bytes where they are one array, and else an array without items.
 pub fn array_or_empty(bytes: &[u8]) -> &[u8]
     ensures array { IsArray result.now }
+    ensures same { IsArray bytes.now → result.now ≡ bytes.now }
     ensures key { (parts : List Part) → key_of_array parts result.now ≡ key_of_array parts bytes.now }
     ensures items { unwrap_or (items_of result.now) [] ≡ unwrap_or (items_of bytes.now) [] }
 {

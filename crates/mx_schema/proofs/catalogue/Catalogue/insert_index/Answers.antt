@@ -19,7 +19,7 @@ returns c =
           ap (λ inside. from_entries inside.schemas.entries) w.self-inside-is
           ∙ index_put c.self.inside.schemas (c.get_mut.follows.lender after) c.args.row c.args.self.now w.in-Some.schema.now after c.self.view_is
           (sym c.get_mut.ensures.value ∙ ap option_copied_mut w.in-Some.is)
-          (ap (on w.in-Some.schema.now.def) w.in_ok-insert.ensures) (c.get_mut.follows.holds after).3
+          (ap (on w.in-Some.schema.now.def) w.in_ok-insert.ensures.ok) (c.get_mut.follows.holds after).3
       | in_default w ↦
           ap (λ inside. from_entries inside.schemas.entries) w.self-inside-is
           ∙ index_left_out c.self.inside.schemas c.get_mut.follows.lender-at-none c.args.row c.args.self.now c.self.view_is

@@ -13,8 +13,8 @@ insert-requires c =
     let long = c.self.inside.items.ok.0 in
     omega arith
 
-pub returns : goal.returns
-returns c =
+pub returns-clause-ok : goal.returns-clause-ok
+returns-clause-ok c =
     c.in_ok-insert.ensures.items
     ∙ ap (λ place. insert c.self.inside.items.items place c.args.def) (c.place_of-place.ensures ∙ ap (index_place c.args.def.id.0) c.as_slice.ensures.value)
     ∙ sym (inserted c.args.def c.self.inside.items.items) ∙ ap (indexes_with c.args.def) c.self.view_is

@@ -9,4 +9,4 @@ use Rattle.mx_schema.proofs.state.State.holder.Goals as goal
 pub returns-in_default : goal.returns-in_default
 returns-in_default c = λ state wanted holds fit is.
     sym (none_by_index c.args.def.now (tuples_in state c.args.space.0) wanted
-    (shown_none (schema_of state) c.args.self.now state c.args.space.0 holds (ap option_copied (sym c.in_default.is) ∙ c.get.ensures.value)))
+    (shown_none (schema_of state) c.args.self.now state c.args.space.0 holds (ap option_copied (sym c.in_default.is) ∙ c.get.ensures)))

@@ -8,4 +8,5 @@ pub returns-then-eq : goal.returns-then-eq
 returns-then-eq c = λ state holds space.
     let own = c.args.space.0 in
     let source : own ≡ source_of own = sym (eqb-true c.source_of-source.result.0 own (sym c.if-eq.ensures)) ∙ c.source_of-source.ensures in
-    subst (λ (source : ℕ). StoresTuples c.args.table.now.tuples.entries (tuples_in state source)) source space.keeps
+    subst (λ tuples. StoresTuples tuples.entries (tuples_in state (source_of own))) (sym c.tuples.ensures)
+    (subst (λ (source : ℕ). StoresTuples c.args.table.now.tuples.entries (tuples_in state source)) source space.keeps)

@@ -1,7 +1,7 @@
 use Rattle.std.proofs.Common.{Some, sym, ap, ◌∙◌}
 use Rattle.std.specs.Option.{option_copied}
 use Rattle.mx_schema.proofs.TakenLaws.{stored_get}
-use Rattle.mx_schema.proofs.state.Table.tuple.Goals as goal
+use Rattle.mx_schema.proofs.table.Table.tuple.Goals as goal
 
 pub returns-in_err-tuple : goal.returns-in_err-tuple
 returns-in_err-tuple c = λ all wanted keeps fit is.
