@@ -1,0 +1,14 @@
+pub mod AlterLaws
+pub mod BuildLaws
+pub mod BytesLaws
+pub mod ChangeLaws
+pub mod EntriesLaws
+pub mod FirstLaws
+pub mod HolderLaws
+pub mod IndexedLaws
+pub mod ItemLaws
+pub mod JoinLaws
+pub mod MemberLaws
+pub mod ScanLaws
+pub mod SpaceLaws
+pub mod ZipLaws

@@ -1,0 +1,153 @@
+-- A space with a tuple more, with one less, and as it was.
+use Rattle.std.proofs.Common.{◌≡◌, ℕ, Bool, true, false, cond, List, [], ◌∷◌, map, length, Option, Some, None, Ok, refl, sym, ap, ◌∙◌, subst}
+use Rattle.std.specs.Prelude.{IfSome, ◌==◌, if◌then◌else◌}
+use Rattle.std.specs.BTreeMap.{insert_entry, is_at}
+use Rattle.std.specs.Cmp.Lexicographic.{slice_cmp}
+use Rattle.std.specs.FinMap.{empty, entries, from_entries, get, get-remove, insert, remove, same_map}
+use Rattle.std.specs.List.{AllByRecursion, AllZip}
+use Rattle.std.specs.Map.{remove_entry}
+use Rattle.std.specs.Ordering.{eq_by_cmp, nat_cmp}
+use Rattle.mx_tuple.specs.Fields.{tuple_of}
+use Rattle.mx_key.specs.declared.part.Part.{Part}
+use Rattle.mx_key.specs.Keys.{Key, AreFit, key_cmp}
+use Rattle.mx_key.specs.Comparable.{comparable_of}
+use Rattle.mx_key.proofs.KeyLaws.{key_cmp-IsAntisymmetric, key_cmp_total}
+use Rattle.mx_schema.specs.declared.index_def.IndexDef.{IndexDef}
+use Rattle.mx_schema.specs.declared.schema.Schema.{Schema}
+use Rattle.mx_schema.specs.Catalogues.{StandByKey, index_with}
+use Rattle.mx_schema.specs.Picks.{Indexed}
+use Rattle.mx_schema.specs.State.{Tuples, key_in}
+use Rattle.mx_schema.specs.Stored.{StandByPrimary, StoresSpace}
+use Rattle.mx_schema.proofs.StateLaws.{stands_after}
+use Rattle.mx_schema.proofs.StoredLaws.{each_none, no_entries, stores_put}
+use Rattle.mx_schema.proofs.StoredLaws as stored
+use Rattle.mx_schema.proofs.TakenLaws.{each_found, each_left, stores_left}
+use Rattle.mx_schema.proofs.WholeKeyLaws.{key_length}
+use Rattle.mx_space.specs.declared.change.Change.{Change}
+use Rattle.mx_space.specs.declared.space.Space.{Space}
+use Rattle.mx_space.specs.Changes.{CanUndo, Puts, Removes, all_changed, all_without, index_kept}
+use Rattle.mx_space.specs.Entries.{IndexEntry}
+use Rattle.mx_space.specs.Built.{AreLong}
+use Rattle.mx_space.specs.Kept.{StoresByNumber, StoresEntries, StoresIndex, StoresIndexed, kept_entries, kept_entry}
+use Rattle.mx_space.proofs.BytesLaws.{stores_none}
+use Rattle.mx_space.proofs.ChangeLaws.{put_in_all, removed_from_all}
+use Rattle.mx_space.proofs.EntriesLaws.{tied_is}
+
+-- ---- no tuples
+
+pub no_kept : (def : IndexDef) → kept_entries def empty ≡ empty
+no_kept def = ap (λ (all : List Indexed). from_entries (map (kept_entry def) all)) no_entries
+
+-- an index of no tuples has no entries
+pub nothing_kept : (def : IndexDef) (kept : List IndexEntry) → kept ≡ [] → StoresIndex empty def kept
+nothing_kept def kept none = by_number (def.id.0 == 0)
+  where
+    by_number : (first : Bool) → StoresByNumber first def empty kept
+    by_number true = none
+    by_number false = subst (StoresEntries kept) (sym (no_kept def)) (stores_none kept none)
+
+stands_none : (schema : Schema) → StandByPrimary schema empty
+stands_none schema = by_index (index_with 0 schema.indexes)
+  where
+    by_index : (def : Option IndexDef) → IfSome def (λ def. StandByKey def.key empty)
+    by_index None = tt
+    by_index (Some def) = each_none (λ entry. key_in def.key entry.1 ≡ Ok entry.0)
+
+pub new_space : (space : Space) (schema : Schema) → space.schema ≡ schema → space.tuples.entries ≡ [] → AllZip (StoresIndex empty) schema.indexes space.indexes.items
+    → StoresIndexed (Some schema) space empty
+new_space space schema same none each = record {
+  holds = record {
+    is = ap (λ s. Some s) (sym same);
+    keeps = stored.stores_none space.tuples.entries none;
+    stands = stands_none space.schema;
+  };
+  indexes = subst (λ (s : Schema). AllZip (StoresIndex empty) s.indexes space.indexes.items) (sym same) each;
+}
+
+-- ---- how long keys are
+
+pub keys_long : (parts : List Part) (all : List Indexed) → AllByRecursion (λ entry. key_in parts entry.1 ≡ Ok entry.0) all
+    → AllByRecursion (λ (entry : Indexed). length entry.0 ≡ length parts) all
+keys_long parts [] stand = tt
+keys_long parts (entry ∷ all) stand = (key_length parts (tuple_of entry.1).fields entry.0 stand.0, keys_long parts all stand.1)
+
+module _ (schema : Option Schema) (before after : Space) (all : Tuples) (stores : StoresIndexed schema before all) (same : after.schema ≡ before.schema) where
+  -- a space as it was
+  pub space_same : after.tuples.entries ≡ before.tuples.entries → after.indexes.items ≡ before.indexes.items → StoresIndexed schema after all
+  space_same tuples indexes = record {
+    holds = subst (λ s. StoresSpace schema s after.tuples.entries all) (sym same) (subst (λ t. StoresSpace schema before.schema t all) (sym tuples) stores.holds);
+    indexes = subst (λ (s : Schema). AllZip (StoresIndex all) s.indexes after.indexes.items) (sym same)
+        (subst (AllZip (StoresIndex all) before.schema.indexes) (sym indexes) stores.indexes);
+  }
+
+  module _ (primary : IndexDef) (there : index_with 0 before.schema.indexes ≡ Some primary) where
+    long : AreLong (length primary.key) all
+    long = keys_long primary.key (entries all) (subst (λ (o : Option IndexDef). IfSome o (λ def. StandByKey def.key all)) there stores.holds.stands)
+
+    module _ (key : Key) (tuple : List ℕ) (keyed : key_in primary.key tuple ≡ Ok key) (changes : List Change) (puts : AllZip (Puts key tuple (get all key)) before.schema.indexes changes) where
+      put_all_in : AllZip (StoresIndex (insert all key tuple)) before.schema.indexes (all_changed changes before.indexes.items) × AllZip CanUndo changes before.indexes.items
+      put_all_in =
+          put_in_all all (length primary.key) long key (key_length primary.key (tuple_of tuple).fields key keyed) tuple before.schema.indexes before.indexes.items changes stores.indexes puts
+
+      -- what is added can be taken back
+      pub all_undone : AllZip CanUndo changes before.indexes.items
+      all_undone = put_all_in.1
+
+      -- a space with a tuple more
+      pub space_with : AreFit key → (bytes : List ℕ) → bytes ≡ comparable_of key
+          → after.tuples.entries ≡ insert_entry (slice_cmp nat_cmp) before.tuples.entries bytes tuple
+          → after.indexes.items ≡ all_changed changes before.indexes.items → StoresIndexed schema after (insert all key tuple)
+      space_with fit bytes is tuples indexes = record {
+        holds = record {
+          is = stores.holds.is ∙ ap (λ s. Some s) (sym same);
+          keeps = stores_put before.tuples.entries after.tuples.entries all key bytes tuple stores.holds.keeps fit is tuples;
+          stands = subst (λ (s : Schema). StandByPrimary s (insert all key tuple)) (sym same)
+              (stands_after before.schema all key tuple (subst (λ (o : Option IndexDef). IfSome o (λ def. key_in def.key tuple ≡ Ok key)) (sym there) keyed) stores.holds.stands);
+        };
+        indexes = subst (λ (s : Schema). AllZip (StoresIndex (insert all key tuple)) s.indexes after.indexes.items) (sym same)
+            (subst (AllZip (StoresIndex (insert all key tuple)) before.schema.indexes) (sym indexes) put_all_in.0);
+      }
+
+    -- a space with a tuple less
+    pub space_without : (key : Key) → AreFit key → (bytes : List ℕ) → bytes ≡ comparable_of key → (old : List ℕ) → get all key ≡ Some old
+        → (keys : List (Option (List ℕ))) → AllZip (Removes key old) before.schema.indexes keys
+        → after.tuples.entries ≡ remove_entry (is_at (slice_cmp nat_cmp bytes)) before.tuples.entries
+        → after.indexes.items ≡ all_without keys before.indexes.items → StoresIndexed schema after (remove all key)
+    space_without key fit bytes is old found keys removes tuples indexes =
+        let key_long : length key ≡ length primary.key = each_found key (λ entry. length entry.0 ≡ length primary.key) all old found long in
+        record {
+          holds = record {
+            is = stores.holds.is ∙ ap (λ s. Some s) (sym same);
+            keeps = stores_left key before.tuples.entries after.tuples.entries all bytes fit is tuples stores.holds.keeps;
+            stands = subst (λ (s : Schema). StandByPrimary s (remove all key)) (sym same)
+                (subst (λ (o : Option IndexDef). IfSome o (λ def. StandByKey def.key (remove all key))) (sym there)
+                (each_left key (λ entry. key_in primary.key entry.1 ≡ Ok entry.0) all
+                (subst (λ (o : Option IndexDef). IfSome o (λ def. StandByKey def.key all)) there stores.holds.stands)));
+          };
+          indexes = subst (λ (s : Schema). AllZip (StoresIndex (remove all key)) s.indexes after.indexes.items) (sym same)
+              (subst (AllZip (StoresIndex (remove all key)) before.schema.indexes) (sym indexes)
+              (removed_from_all all (length primary.key) long key key_long old found before.schema.indexes before.indexes.items keys stores.indexes removes));
+        }
+
+-- nothing is removed where there is no such tuple
+pub none_removed : (all : Tuples) (key : Key) → get all key ≡ None → remove all key ≡ all
+none_removed all key none =
+    same_map key_cmp_total key_cmp-IsAntisymmetric (remove all key) all (λ q. get-remove key_cmp_total all key q ∙ by_test q (eq_by_cmp key_cmp q key) refl)
+  where
+    by_test : (q : Key) (b : Bool) → eq_by_cmp key_cmp q key ≡ b → cond b None (get all q) ≡ get all q
+    by_test q true tied = sym (ap (get all) (tied_is q key tied) ∙ none)
+    by_test q false apart = refl
+
+-- ---- the index of a number
+
+pub index_there : (tuples : Tuples) (id : ℕ) (defs : List IndexDef) (kept : List (List IndexEntry)) (def : IndexDef) → AllZip (StoresIndex tuples) defs kept
+    → index_with id defs ≡ Some def → (one : List IndexEntry) × (index_kept id defs kept ≡ Some one) × StoresIndex tuples def one
+index_there tuples id [] kept def each is = absurd cc
+index_there tuples id (first ∷ defs) [] def each is = absurd each
+index_there tuples id (first ∷ defs) (one ∷ kept) def each is = by_test (first.id.0 == id) is (λ there. index_there tuples id defs kept def each.1 there)
+  where
+    by_test : (b : Bool) → (if b then Some first else index_with id defs) ≡ Some def
+        → (index_with id defs ≡ Some def → (one : List IndexEntry) × (index_kept id defs kept ≡ Some one) × StoresIndex tuples def one)
+        → (found : List IndexEntry) × ((if b then Some one else index_kept id defs kept) ≡ Some found) × StoresIndex tuples def found
+    by_test true here later = let same : first ≡ def = cc in (one, refl, subst (λ (d : IndexDef). StoresIndex tuples d one) same each.0)
+    by_test false there later = later there

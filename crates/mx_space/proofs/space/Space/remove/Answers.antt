@@ -1,0 +1,20 @@
+use Rattle.std.proofs.Common.{refl, sym, ◌∙◌, subst}
+use Rattle.std.specs.Vec.{with_items}
+use Rattle.mx_space.specs.declared.space.Space.{Space}
+use Rattle.mx_space.specs.Changes.{all_without}
+use Rattle.mx_space.specs.Kept.{StoresIndexed}
+use Rattle.mx_space.proofs.ItemLaws.{items_without}
+use Rattle.mx_space.proofs.SpaceLaws.{none_removed, space_without}
+use Rattle.mx_space.proofs.space.Space.remove.Goals as goal
+
+pub returns-in_default-clause-holds : goal.returns-in_default-clause-holds
+returns-in_default-clause-holds c = λ schema all primary wanted stores there fit is.
+    subst (StoresIndexed schema c.args.self.now) (sym (none_removed all wanted (rw c.in_default.is at (c.in_ok-keys.ensures all wanted stores.holds.keeps fit is)))) stores
+
+pub returns-clause-holds : goal.returns-clause-holds
+returns-clause-holds c = λ schema all primary wanted stores there fit is.
+    let found = rw c.in-Some.is at (c.in_ok-keys.ensures all wanted stores.holds.keeps fit is) in
+    let after : Space = record { schema = c.args.self.now.schema; tuples = c.remove.new.self; indexes = with_items c.args.self.now.indexes c.remove_all.new.indexes } in
+    space_without schema c.args.self.now after all stores refl primary there wanted fit c.args.key.now is found.0 found.1 c.in-Some.keys.items found.2 c.remove.ensures.entries
+    (items_without c.args.self.now.indexes c.remove_all.new.indexes c.in-Some.keys.items
+    (c.remove_all.ensures ∙ (λ i. all_without (c.as_slice.ensures.value i) (c.as_mut_slice.ensures.value i))))

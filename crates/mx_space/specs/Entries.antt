@@ -1,0 +1,14 @@
+-- The entries of an index as a list, under keys that are bytes, in the order of the keys.
+use Rattle.std.specs.Prelude.{ℕ, List, Option, not}
+use Rattle.std.specs.Cmp.Lexicographic.{slice_cmp}
+use Rattle.std.specs.List.{find}
+use Rattle.std.specs.Ordering.{nat_cmp, is_lt}
+use Rattle.mx_schema.specs.Stored.{StoredTuple}
+
+-- the comparable bytes of an entry's key, and of the primary key that it leads to
+abbrev pub IndexEntry : Type 0
+IndexEntry = StoredTuple
+
+-- the first entry whose key isn't below these bytes
+abbrev pub first_from : (key : List ℕ) → List IndexEntry → Option IndexEntry
+first_from key entries = find (λ entry. not (is_lt (slice_cmp nat_cmp entry.0 key))) entries

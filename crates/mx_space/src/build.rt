@@ -1,0 +1,121 @@
+//! The entries of an index that is made of tuples which are there.
+
+ghost use Rattle.std.specs.Prelude.{◌≡◌, ◌⊎◌, ◌==◌, ℕ, Some, None, Ok, Err, true, false, length, is_some, MatchResult};
+ghost use Rattle.std.specs.FinMap as finite;
+ghost use Rattle.mx_key.specs.declared.fault.NoKey.{NoKey};
+ghost use Rattle.mx_key.specs.Comparable.{comparable_of};
+ghost use Rattle.mx_key.specs.Keys.{Key, AreFit};
+ghost use Rattle.mx_schema.specs.declared.index_def.IndexDef as indexed;
+ghost use Rattle.mx_schema.specs.Picks.{tuples_by_index};
+ghost use Rattle.mx_schema.specs.State as plain;
+ghost use Rattle.mx_schema.specs.State.{key_in};
+ghost use Rattle.mx_schema.specs.Stored.{StoresTuples};
+ghost use Rattle.mx_space.specs.declared.build.BuildFault.TheVariants as fault;
+ghost use Rattle.mx_space.specs.Builds.{build_fault, build_fault_of, row_fault};
+ghost use Rattle.mx_space.specs.Built.{AreLong, IsBuilt};
+ghost use Rattle.mx_space.specs.Kept.{StoresEntries, kept_entries};
+
+use crate::entries::is_joined;
+use crate::index::Index;
+use crate::tree_index::TreeIndex;
+use mx_key::{KeyFault, NoKey, key_of_tuple};
+use mx_msgpack::Bytes;
+use mx_schema::{IndexDef, array_or_empty};
+use std::alloc::{AllocError, Global};
+use std::collections::BTreeMap;
+
+/// Why an index can't be made.
+#[derive(Clone, Copy, Debug, Drop, PartialEq, Eq)]
+pub enum BuildFault {
+    /// A tuple has no key in it.
+    LacksKey(NoKey),
+    /// A tuple has the key of one before it, and the index is unique.
+    Duplicate,
+    /// Out of memory.
+    NoMemory,
+}
+
+impl From<AllocError> for BuildFault {
+    ghost from_gives = { λ _ e. e ≡ fault.NoMemory };
+
+    fn from(_fault: AllocError) -> BuildFault {
+        BuildFault::NoMemory
+    }
+}
+
+/// The entries of an index of another number than 0.
+///
+/// # Errors
+/// The fault of the first tuple that has one.
+pub(crate) fn build(
+    alloc: Global,
+    def: &IndexDef,
+    tuples: &BTreeMap<Bytes, Bytes>,
+) -> Result<TreeIndex, BuildFault>
+    ensures { (all : plain.Tuples) (long : ℕ) → StoresTuples tuples.now.entries all → AreLong long all → (def.now.id.0 == 0) ≡ false → MatchResult result
+        (λ index. (build_fault def.now all ≡ None) × StoresEntries index (kept_entries def.now all))
+        (λ why. (build_fault def.now all ≡ Some why) ⊎ (why ≡ fault.NoMemory)) }
+{
+    let mut index = TreeIndex::new(alloc);
+    for (primary, tuple) in tuples {
+        add_row(alloc, def, &mut index, primary, tuple)?;
+    }
+    Ok(index)
+}
+
+/// Adds the entry of a tuple, whose primary key has these comparable bytes.
+fn add_row(
+    alloc: Global,
+    def: &IndexDef,
+    index: &mut TreeIndex,
+    primary: &Bytes,
+    tuple: &Bytes,
+) -> Result<(), BuildFault>
+    ensures { (before : plain.Tuples) (long : ℕ) (own : Key) → IsBuilt def.now long before index.old → (def.now.id.0 == 0) ≡ false
+        → finite.get before own ≡ None → length own ≡ long → AreFit own → primary.now ≡ comparable_of own → MatchResult result
+        (λ _. (row_fault def.now before (key_in def.now.key tuple.now) ≡ None) × IsBuilt def.now long (finite.insert before own tuple.now) index.new)
+        (λ why. (row_fault def.now before (key_in def.now.key tuple.now) ≡ Some why) ⊎ (why ≡ fault.NoMemory)) }
+{
+    let mut key = index_key(alloc, def, tuple.as_slice())?;
+    if def.unique && has_key(index, &key) {
+        return Err(BuildFault::Duplicate);
+    }
+    key.extend_from_slice(primary.as_slice())?;
+    let primary = Bytes::from_slice(alloc, primary.as_slice())?;
+    index.insert(key, primary)?;
+    Ok(())
+}
+
+/// Whether an entry has this key and behind it only a primary key.
+fn has_key(index: &TreeIndex, key: &Bytes) -> bool
+    ensures { (def : indexed.IndexDef) (before : plain.Tuples) (long : ℕ) (wanted : Key) → IsBuilt def long before index.now → (def.id.0 == 0) ≡ false → def.unique ≡ true
+        → AreFit wanted → key.now ≡ comparable_of wanted → result ≡ is_some (finite.get (tuples_by_index def before) wanted) }
+{
+    match index.first_from(key) {
+        Some((entry, primary)) => is_joined(entry.as_slice(), key.as_slice(), primary.as_slice()),
+        None => false,
+    }
+}
+
+fn index_key(alloc: Global, def: &IndexDef, tuple: &[u8]) -> Result<Bytes, BuildFault>
+    ensures { MatchResult result
+        (λ bytes. (key : Key) × (key_in def.now.key tuple.now ≡ Ok key) × AreFit key × (bytes ≡ comparable_of key))
+        (λ why. ((reason : NoKey) × (why ≡ fault.LacksKey reason) × (key_in def.now.key tuple.now ≡ Err reason)) ⊎ (why ≡ fault.NoMemory)) }
+{
+    match key_of_tuple(alloc, &def.key, array_or_empty(tuple)) {
+        Ok(key) => Ok(key),
+        Err(fault) => Err(build_fault_of(fault)),
+    }
+}
+
+fn build_fault_of(fault: KeyFault) -> BuildFault
+    ensures { result ≡ build_fault_of fault }
+{
+    match fault {
+        KeyFault::Missing { field } => BuildFault::LacksKey(NoKey::Missing { field }),
+        KeyFault::Wrong { field, expected } => {
+            BuildFault::LacksKey(NoKey::Wrong { field, expected })
+        }
+        KeyFault::NoMemory => BuildFault::NoMemory,
+    }
+}

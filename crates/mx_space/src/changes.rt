@@ -1,0 +1,134 @@
+//! The keys that a write needs in each index, which are made before anything is changed.
+
+ghost use Rattle.std.specs.Prelude.{◌≡◌, List, ℕ, Option, Some, None, ◌==◌, IfOk};
+ghost use Rattle.std.specs.List.{AllZip};
+ghost use Rattle.std.specs.Option.{option_copied};
+ghost use Rattle.mx_key.specs.Comparable.{comparable_of};
+ghost use Rattle.mx_key.specs.Keys.{Key, AreFit};
+ghost use Rattle.mx_space.specs.Changes.{IsNoChange, Puts, Removes};
+ghost use Rattle.mx_space.specs.KeptKeys.{kept_key};
+
+use crate::change::{Added, Change};
+use mx_msgpack::Bytes;
+use mx_schema::{IndexDef, parts_or_none};
+use std::alloc::{AllocError, Global};
+
+/// What a tuple changes in each index that takes the place of another one with its primary key, where there
+/// is one.
+pub(crate) fn changes_of(
+    alloc: Global,
+    defs: &[IndexDef],
+    primary: &[u8],
+    tuple: &[u8],
+    old: Option<&[u8]>,
+) -> Result<Vec<Change>, AllocError>
+    ensures { (key : Key) → AreFit key → primary.now ≡ comparable_of key
+        → IfOk result (λ changes. AllZip (Puts key tuple.now (option_copied old.entry)) defs.now changes.items) }
+{
+    let mut changes = Vec::new(alloc);
+    let mut left = defs;
+    while let Some((def, others)) = left.split_first() {
+        changes.push(change_of(alloc, def, primary, tuple, old)?)?;
+        left = others;
+    }
+    Ok(changes)
+}
+
+/// The key of a tuple's entry in each index; `None` in that of the number 0.
+pub(crate) fn removals_of(
+    alloc: Global,
+    defs: &[IndexDef],
+    primary: &[u8],
+    tuple: &[u8],
+) -> Result<Vec<Option<Bytes>>, AllocError>
+    ensures { (key : Key) → AreFit key → primary.now ≡ comparable_of key
+        → IfOk result (λ keys. AllZip (Removes key tuple.now) defs.now keys.items) }
+{
+    let mut keys = Vec::new(alloc);
+    let mut left = defs;
+    while let Some((def, others)) = left.split_first() {
+        keys.push(removal_of(alloc, def, primary, tuple)?)?;
+        left = others;
+    }
+    Ok(keys)
+}
+
+fn removal_of(
+    alloc: Global,
+    def: &IndexDef,
+    primary: &[u8],
+    tuple: &[u8],
+) -> Result<Option<Bytes>, AllocError>
+    ensures { (key : Key) → AreFit key → primary.now ≡ comparable_of key → IfOk result (λ removed. Removes key tuple.now def.now removed) }
+{
+    if def.id.0 == 0 {
+        return Ok(None);
+    }
+    Ok(Some(entry_key(alloc, def, primary, tuple)?))
+}
+
+fn change_of(
+    alloc: Global,
+    def: &IndexDef,
+    primary: &[u8],
+    tuple: &[u8],
+    old: Option<&[u8]>,
+) -> Result<Change, AllocError>
+    ensures { (key : Key) → AreFit key → primary.now ≡ comparable_of key
+        → IfOk result (λ change. Puts key tuple.now (option_copied old.entry) def.now change) }
+{
+    if def.id.0 == 0 {
+        return Ok(no_change());
+    }
+    let key = entry_key(alloc, def, primary, tuple)?;
+    let Some(old) = old else {
+        return addition(alloc, key, primary, None);
+    };
+    let removed = entry_key(alloc, def, primary, old)?;
+    if removed == key {
+        return Ok(no_change());
+    }
+    addition(alloc, key, primary, Some(removed))
+}
+
+fn no_change() -> Change
+    ensures { IsNoChange result }
+{
+    Change {
+        added: None,
+        undo: None,
+        removed: None,
+    }
+}
+
+fn addition(
+    alloc: Global,
+    key: Bytes,
+    primary: &[u8],
+    removed: Option<Bytes>,
+) -> Result<Change, AllocError>
+    ensures { IfOk result (λ change. (change.added ≡ Some (record { key = key; primary = primary.now })) × (change.undo ≡ Some key) × (change.removed ≡ removed)) }
+{
+    let undo = Bytes::from_slice(alloc, key.as_slice())?;
+    let primary = Bytes::from_slice(alloc, primary)?;
+    Ok(Change {
+        added: Some(Added { key, primary }),
+        undo: Some(undo),
+        removed,
+    })
+}
+
+/// The comparable bytes of the key of a tuple's entry, of which these are those of its primary key.
+pub(crate) fn entry_key(
+    alloc: Global,
+    def: &IndexDef,
+    primary: &[u8],
+    tuple: &[u8],
+) -> Result<Bytes, AllocError>
+    ensures { (key : Key) → AreFit key → primary.now ≡ comparable_of key
+        → IfOk result (λ bytes. (bytes ≡ comparable_of (kept_key def.now key tuple.now)) × AreFit (kept_key def.now key tuple.now)) }
+{
+    let mut key = parts_or_none(alloc, &def.key, tuple)?;
+    key.extend_from_slice(primary)?;
+    Ok(key)
+}

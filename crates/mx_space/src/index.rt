@@ -1,0 +1,35 @@
+//! The entries of an index.
+
+ghost use Rattle.std.specs.Prelude.{◌≡◌, ℕ, List, OnOk, OnErr};
+ghost use Rattle.std.specs.BTreeMap.{insert_entry, is_at};
+ghost use Rattle.std.specs.Cmp.Lexicographic.{slice_cmp};
+ghost use Rattle.std.specs.Map.{remove_entry};
+ghost use Rattle.std.specs.Option.{option_map};
+ghost use Rattle.std.specs.Ordering.{nat_cmp};
+ghost use Rattle.mx_space.specs.Entries.{IndexEntry, first_from};
+
+use mx_msgpack::Bytes;
+use std::alloc::AllocError;
+
+/// The entries of an index: the comparable bytes of a primary key under those of an index key, which the
+/// primary key follows.
+pub trait Index {
+    /// The entries in the order of their keys.
+    ghost entries: { Self → List IndexEntry };
+
+    /// Puts an entry in the place of the one under its key.
+    ///
+    /// # Errors
+    /// Out of memory. Nothing changed then.
+    fn insert(&mut self, key: Bytes, primary: Bytes) -> Result<(), AllocError>
+        ensures ok { OnOk result (entries self.new ≡ insert_entry (slice_cmp nat_cmp) (entries self.old) key primary) }
+        ensures err { OnErr result (entries self.new ≡ entries self.old) };
+
+    /// Takes the entry under a key out, where there is one.
+    fn remove(&mut self, key: &Bytes)
+        ensures { entries self.new ≡ remove_entry (is_at (slice_cmp nat_cmp key.now)) (entries self.old) };
+
+    /// The first entry whose key isn't below these bytes.
+    fn first_from(&self, key: &Bytes) -> Option<(&Bytes, &Bytes)>
+        ensures { option_map (λ entry. (entry.0.now, entry.1.now)) result ≡ first_from key.now (entries self.now) };
+}

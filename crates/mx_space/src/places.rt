@@ -1,0 +1,84 @@
+//! Where the entries of an index stand among those of the others.
+
+ghost use Rattle.std.specs.Prelude.{◌≡◌, ◌≤◌, length, OnOk, OnErr};
+ghost use Rattle.std.specs.List.{insert, remove};
+ghost use Rattle.std.specs.Option.{option_copied};
+ghost use Rattle.mx_schema.specs.RowParts.{index_place};
+ghost use Rattle.mx_space.specs.Changes.{index_at, index_kept};
+
+use crate::tree_index::TreeIndex;
+use mx_base::IndexId;
+use mx_schema::IndexDef;
+use std::alloc::AllocError;
+
+/// The entries of the index of this number.
+pub(crate) fn find_index<'a>(
+    defs: &[IndexDef],
+    indexes: &'a [TreeIndex],
+    id: IndexId,
+) -> Option<&'a TreeIndex>
+    ensures { option_copied result ≡ index_kept id.0 defs.now indexes.now }
+{
+    let (def, other_defs) = defs.split_first()?;
+    let (index, other_indexes) = indexes.split_first()?;
+    if def.id.0 == id.0 {
+        return Some(index);
+    }
+    find_index(other_defs, other_indexes, id)
+}
+
+/// The place behind the indexes whose numbers aren't greater.
+pub(crate) fn place_behind(defs: &[IndexDef], id: IndexId) -> usize
+    ensures place { result ≡ index_place id.0 defs.now }
+    ensures bound { result ≤ length defs.now }
+{
+    let Some((def, others)) = defs.split_first() else {
+        return 0;
+    };
+    if id.0 < def.id.0 {
+        return 0;
+    }
+    place_behind(others, id) + 1
+}
+
+/// The place of the index of this number.
+pub(crate) fn place_at(defs: &[IndexDef], id: IndexId) -> usize
+    ensures place { result ≡ index_at id.0 defs.now }
+    ensures bound { result ≤ length defs.now }
+{
+    let Some((def, others)) = defs.split_first() else {
+        return 0;
+    };
+    if def.id.0 == id.0 {
+        return 0;
+    }
+    place_at(others, id) + 1
+}
+
+/// Puts the entries of an index at a place, where there are so many before it.
+///
+/// # Errors
+/// Out of memory. Nothing changed then.
+pub(crate) fn insert_index(
+    indexes: &mut Vec<TreeIndex>,
+    place: usize,
+    index: TreeIndex,
+) -> Result<(), AllocError>
+    ensures ok { OnOk result (indexes.new.items ≡ insert indexes.old.items place index) }
+    ensures err { OnErr result (indexes.new.items ≡ indexes.old.items) }
+{
+    if place > indexes.len() {
+        return Err(AllocError);
+    }
+    indexes.insert(place, index)?;
+    Ok(())
+}
+
+/// Takes the entries at a place out, where there are any.
+pub(crate) fn remove_index(indexes: &mut Vec<TreeIndex>, place: usize)
+    ensures { indexes.new.items ≡ remove indexes.old.items place }
+{
+    if place < indexes.len() {
+        indexes.remove(place);
+    }
+}

@@ -1,0 +1,212 @@
+//! A space with its indexes.
+
+ghost use Rattle.std.specs.Prelude.{◌≡◌, ◌≢◌, ◌⊎◌, ℕ, List, Option, Some, None, Ok, IfOk, MatchOption, MatchResult};
+ghost use Rattle.std.specs.FinMap as finite;
+ghost use Rattle.std.specs.List.{AllZip};
+ghost use Rattle.std.specs.Option.{option_copied};
+ghost use Rattle.mx_key.specs.Comparable.{comparable_of};
+ghost use Rattle.mx_key.specs.Keys.{Key, AreFit};
+ghost use Rattle.mx_schema.specs.declared.index_def.IndexDef as indexed;
+ghost use Rattle.mx_schema.specs.declared.schema.Schema as described;
+ghost use Rattle.mx_schema.specs.Catalogues.{index_with};
+ghost use Rattle.mx_schema.specs.Picks.{tuples_by_index};
+ghost use Rattle.mx_schema.specs.State as plain;
+ghost use Rattle.mx_schema.specs.State.{key_in};
+ghost use Rattle.mx_schema.specs.Stored.{StoresTuples};
+ghost use Rattle.mx_schema.specs.SchemaChecks.{indexes_with};
+ghost use Rattle.mx_space.specs.declared.build.BuildFault.TheVariants.{NoMemory};
+ghost use Rattle.mx_space.specs.Builds.{build_fault};
+ghost use Rattle.mx_space.specs.Changes.{Puts, Removes, index_kept};
+ghost use Rattle.mx_space.specs.Kept.{HoldsOneEach, StoresIndexed, without_first_index};
+
+use crate::build::{BuildFault, build};
+use crate::change::{Change, put_all, remove_all};
+use crate::changes::{changes_of, removals_of};
+use crate::entries::is_joined;
+use crate::index::Index;
+use crate::places::{find_index, insert_index, place_at, place_behind, remove_index};
+use crate::tree_index::TreeIndex;
+use mx_base::IndexId;
+use mx_msgpack::Bytes;
+use mx_schema::{IndexDef, Keyed, Schema};
+use std::alloc::{AllocError, Global};
+use std::collections::BTreeMap;
+
+/// A space: what describes it, its tuples by the comparable bytes of their primary keys, and the entries of
+/// each index, where that of the number 0 has none.
+#[derive(Drop)]
+pub struct Space {
+    schema: Schema,
+    tuples: BTreeMap<Bytes, Bytes>,
+    indexes: Vec<TreeIndex>,
+}
+
+impl Space {
+    /// A space that is described so, without tuples.
+    pub fn new(alloc: Global, schema: Schema) -> Result<Space, AllocError>
+        ensures { IfOk result (λ space. StoresIndexed (Some schema) space finite.empty) }
+    {
+        let mut indexes = Vec::new(alloc);
+        let mut left = schema.indexes.as_slice();
+        while let Some((_, others)) = left.split_first() {
+            indexes.push(TreeIndex::new(alloc))?;
+            left = others;
+        }
+        Ok(Space {
+            schema,
+            tuples: BTreeMap::new(alloc),
+            indexes,
+        })
+    }
+
+    /// What describes the space.
+    pub fn schema(&self) -> &Schema
+        ensures { result.now ≡ self.now.schema }
+    {
+        &self.schema
+    }
+
+    /// The tuple whose primary key has these comparable bytes.
+    pub fn tuple(&self, key: &Bytes) -> Option<&[u8]>
+        ensures { (all : plain.Tuples) (wanted : Key) → StoresTuples self.now.tuples.entries all → AreFit wanted → key.now ≡ comparable_of wanted
+            → option_copied result ≡ finite.get all wanted }
+    {
+        let tuple = self.tuples.get(key)?;
+        Some(tuple.as_slice())
+    }
+
+    /// The tuple that has the key of these comparable bytes in a unique index, or in that of the number 0,
+    /// where each tuple has a key in the index and no two have one.
+    pub fn holder(&self, def: &IndexDef, key: &Bytes) -> Option<&[u8]>
+        ensures { (schema : Option described.Schema) (all : plain.Tuples) (primary : indexed.IndexDef) (wanted : Key) → StoresIndexed schema self.now all
+            → index_with 0 self.now.schema.indexes ≡ Some primary → index_with def.now.id.0 self.now.schema.indexes ≡ Some def.now
+            → HoldsOneEach def.now all → AreFit wanted → key.now ≡ comparable_of wanted
+            → option_copied result ≡ finite.get (tuples_by_index def.now all) wanted }
+    {
+        if def.id.0 == 0 {
+            return self.tuple(key);
+        }
+        let index = self.index(def.id)?;
+        let (entry, primary) = index.first_from(key)?;
+        if !is_joined(entry.as_slice(), key.as_slice(), primary.as_slice()) {
+            return None;
+        }
+        self.tuple(primary)
+    }
+
+    /// Puts a tuple in the place of the one that has its primary key, in every index. The space has an index
+    /// of the number 0, and the key is the tuple's in it.
+    ///
+    /// # Errors
+    /// Out of memory. Nothing changed then.
+    pub fn put(&mut self, alloc: Global, keyed: Keyed) -> Result<(), AllocError>
+        ensures schema { self.new.schema ≡ self.old.schema }
+        ensures holds { (schema : Option described.Schema) (all : plain.Tuples) (primary : indexed.IndexDef) (key : Key) → StoresIndexed schema self.old all
+            → index_with 0 self.old.schema.indexes ≡ Some primary → key_in primary.key keyed.tuple ≡ Ok key → AreFit key → keyed.key ≡ comparable_of key
+            → MatchResult result (λ _. StoresIndexed schema self.new (finite.insert all key keyed.tuple)) (λ _. StoresIndexed schema self.new all) }
+    {
+        let mut changes = self.changes(alloc, &keyed)?;
+        put_all(
+            &mut self.tuples,
+            self.indexes.as_mut_slice(),
+            changes.as_mut_slice(),
+            keyed,
+        )?;
+        Ok(())
+    }
+
+    /// Takes the tuple whose primary key has these comparable bytes out of every index, where there is one.
+    ///
+    /// # Errors
+    /// Out of memory. Nothing changed then.
+    pub fn remove(&mut self, alloc: Global, key: &Bytes) -> Result<(), AllocError>
+        ensures schema { self.new.schema ≡ self.old.schema }
+        ensures holds { (schema : Option described.Schema) (all : plain.Tuples) (primary : indexed.IndexDef) (wanted : Key) → StoresIndexed schema self.old all
+            → index_with 0 self.old.schema.indexes ≡ Some primary → AreFit wanted → key.now ≡ comparable_of wanted
+            → MatchResult result (λ _. StoresIndexed schema self.new (finite.remove all wanted)) (λ _. StoresIndexed schema self.new all) }
+    {
+        let Some(keys) = self.removals(alloc, key)? else {
+            return Ok(());
+        };
+        remove_all(self.indexes.as_mut_slice(), keys.as_slice());
+        self.tuples.remove(key);
+        Ok(())
+    }
+
+    /// Describes the space by a schema that has one more index, which has this number, and makes the entries
+    /// of that index.
+    ///
+    /// # Errors
+    /// The fault of the first tuple, in the order of primary keys, that has no key in the index or, in a
+    /// unique one, the key of a tuple before it; or out of memory. Nothing changed then.
+    pub fn add_index(
+        &mut self,
+        alloc: Global,
+        schema: Schema,
+        id: IndexId,
+    ) -> Result<(), BuildFault>
+        ensures { (was : Option described.Schema) (all : plain.Tuples) (primary def : indexed.IndexDef) → StoresIndexed was self.old all
+            → index_with 0 self.old.schema.indexes ≡ Some primary → index_with id.0 self.old.schema.indexes ≡ None
+            → schema.indexes ≡ indexes_with def self.old.schema.indexes → def.id.0 ≡ id.0 → id.0 ≢ 0
+            → MatchResult result
+            (λ _. (build_fault def all ≡ None) × StoresIndexed (Some schema) self.new all)
+            (λ why. ((build_fault def all ≡ Some why) ⊎ (why ≡ NoMemory)) × StoresIndexed was self.new all) }
+    {
+        let Some(def) = schema.index(id) else {
+            return Err(BuildFault::NoMemory);
+        };
+        let index = build(alloc, def, &self.tuples)?;
+        let place = place_behind(self.schema.indexes.as_slice(), id);
+        insert_index(&mut self.indexes, place, index)?;
+        self.schema = schema;
+        Ok(())
+    }
+
+    /// Describes the space by a schema that hasn't got the index of this number, which isn't 0, and drops its
+    /// entries.
+    pub fn drop_index(&mut self, schema: Schema, id: IndexId)
+        ensures { (was : Option described.Schema) (all : plain.Tuples) → StoresIndexed was self.old all → id.0 ≢ 0
+            → schema.indexes ≡ without_first_index id.0 self.old.schema.indexes → StoresIndexed (Some schema) self.new all }
+    {
+        let place = place_at(self.schema.indexes.as_slice(), id);
+        remove_index(&mut self.indexes, place);
+        self.schema = schema;
+    }
+
+    /// What a tuple changes in each index.
+    fn changes(&self, alloc: Global, keyed: &Keyed) -> Result<Vec<Change>, AllocError>
+        ensures { (all : plain.Tuples) (key : Key) → StoresTuples self.now.tuples.entries all → AreFit key → keyed.now.key ≡ comparable_of key
+            → IfOk result (λ changes. AllZip (Puts key keyed.now.tuple (finite.get all key)) self.now.schema.indexes changes.items) }
+    {
+        let old = self.tuple(&keyed.key);
+        let defs = self.schema.indexes.as_slice();
+        changes_of(
+            alloc,
+            defs,
+            keyed.key.as_slice(),
+            keyed.tuple.as_slice(),
+            old,
+        )
+    }
+
+    /// The key that a tuple has in each index.
+    fn removals(&self, alloc: Global, key: &Bytes) -> Result<Option<Vec<Option<Bytes>>>, AllocError>
+        ensures { (all : plain.Tuples) (wanted : Key) → StoresTuples self.now.tuples.entries all → AreFit wanted → key.now ≡ comparable_of wanted
+            → IfOk result (λ found. MatchOption found
+            (finite.get all wanted ≡ None)
+            (λ keys. (tuple : List ℕ) × (finite.get all wanted ≡ Some tuple) × AllZip (Removes wanted tuple) self.now.schema.indexes keys.items)) }
+    {
+        let Some(tuple) = self.tuple(key) else {
+            return Ok(None);
+        };
+        let defs = self.schema.indexes.as_slice();
+        Ok(Some(removals_of(alloc, defs, key.as_slice(), tuple)?))
+    }
+
+    /// The entries of the index of this number.
+    fn index(&self, id: IndexId) -> Option<&TreeIndex>
+        ensures { option_copied result ≡ index_kept id.0 self.now.schema.indexes self.now.indexes.items }
+    {
+        find_index(self.schema.indexes.as_slice(), self.indexes.as_slice(), id)
+    }
+}

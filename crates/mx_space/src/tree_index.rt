@@ -1,0 +1,55 @@
+//! An index in the order of its keys.
+
+ghost use Rattle.std.specs.Prelude.{◌≡◌, []};
+
+use crate::index::Index;
+use mx_msgpack::Bytes;
+use std::alloc::{AllocError, Global};
+use std::collections::BTreeMap;
+use std::marker::Model;
+use std::ops::Bound;
+
+/// The entries of an index in the order of their keys.
+#[derive(Drop)]
+pub struct TreeIndex {
+    entries: BTreeMap<Bytes, Bytes>,
+}
+
+impl Model for TreeIndex {
+    ghost use Rattle.std.specs.Prelude.{List};
+    ghost use Rattle.mx_space.specs.Entries.{IndexEntry};
+
+    ghost Value = { List IndexEntry };
+
+    ghost view = { λ t. t.entries.entries };
+}
+
+impl TreeIndex {
+    /// No entries.
+    pub fn new(alloc: Global) -> TreeIndex
+        ensures { result ≡ [] }
+    {
+        TreeIndex {
+            entries: BTreeMap::new(alloc),
+        }
+    }
+}
+
+impl Index for TreeIndex {
+    ghost entries = { λ t. t };
+
+    fn insert(&mut self, key: Bytes, primary: Bytes) -> Result<(), AllocError> {
+        self.entries.insert(key, primary)?;
+        Ok(())
+    }
+
+    fn remove(&mut self, key: &Bytes) {
+        self.entries.remove(key);
+    }
+
+    fn first_from(&self, key: &Bytes) -> Option<(&Bytes, &Bytes)> {
+        self.entries
+            .range((Bound::Included(key), Bound::Unbounded))
+            .next()
+    }
+}
