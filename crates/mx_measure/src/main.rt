@@ -2,12 +2,17 @@
 //! `mx_measure TIMES` steps over all values so many times, and prints how many there were.
 //! `mx_measure TIMES apply` applies the operations behind a tuple so many times, and prints the new
 //! tuple's size.
+//! `mx_measure TIMES select` makes a state of the spaces that are described, puts a tuple, asks for it so
+//! many times by a key, and prints how many tuples were found.
 #![tactic(auto)]
+
+mod select;
 
 ghost use Rattle.std.specs.Prelude.{◌≤◌, length, IsTrue};
 ghost use Rattle.mx_msgpack.specs.Items.{IsArray};
 ghost use Rattle.mx_tuple.specs.Fields.{max_tuple_size};
 
+use crate::select::found_after;
 use mx_msgpack::{array_of, parted, skip};
 use mx_tuple::MAX_TUPLE_SIZE;
 use mx_update::{apply, read_ops};
@@ -22,6 +27,7 @@ use std::process::ExitCode;
 enum Work {
     Skip,
     Apply,
+    Select,
 }
 
 fn main(rt: HostRuntime) -> ExitCode {
@@ -46,8 +52,15 @@ fn asked<R: Env + AllocGlobal>(rt: &R) -> Option<(Work, u32)> {
     let times = words.first()?.parse().ok()?;
     match words.get(1) {
         None => Some((Work::Skip, times)),
-        Some(word) if word.as_str() == "apply" => Some((Work::Apply, times)),
-        Some(_) => None,
+        Some(word) => Some((work_of(word.as_str())?, times)),
+    }
+}
+
+fn work_of(word: &str) -> Option<Work> {
+    match word {
+        "apply" => Some(Work::Apply),
+        "select" => Some(Work::Select),
+        _ => None,
     }
 }
 
@@ -56,6 +69,7 @@ fn number_after(alloc: Global, work: Work, times: u32, bytes: &[u8]) -> Option<u
     match work {
         Work::Skip => Some(count_after(times, bytes)),
         Work::Apply => size_after(alloc, times, bytes),
+        Work::Select => found_after(alloc, times, bytes),
     }
 }
 

@@ -1,0 +1,85 @@
+#!/usr/bin/env python3
+"""Counts the instructions of a SELECT by a full key in a state with one space, and with more.
+
+`mx_measure` makes a state of the spaces that its input describes, puts a tuple into one of them, and
+asks for it as often as its argument says: it looks up the space, its index, and the tuple, as the
+engine does. What it takes for many times, less what it takes for none, is divided by the times. The
+seven spaces are those of a new database. All is counted by valgrind's callgrind.
+"""
+
+import re
+import subprocess
+import sys
+import tempfile
+from pathlib import Path
+
+ROOT = Path(__file__).resolve().parent.parent
+sys.path.append(str(ROOT / "tests"))
+
+from iproto import pack  # noqa: E402
+
+CRATE = ROOT / "crates" / "mx_measure"
+PROGRAM = CRATE / "out" / "mx_measure"
+TIMES = 1_000
+MANY = 1_000
+# The first number that a space of a user may have.
+USER = 512
+OWNER = 1
+# The spaces of a new database: a number, a name, the parts of the primary key.
+FIRST = (
+    (272, "_schema", [[0, "string"]]),
+    (280, "_space", [[0, "unsigned"]]),
+    (281, "_vspace", [[0, "unsigned"]]),
+    (288, "_index", [[0, "unsigned"], [1, "unsigned"]]),
+    (289, "_vindex", [[0, "unsigned"], [1, "unsigned"]]),
+    (320, "_cluster", [[0, "unsigned"]]),
+    (USER, "test", [[0, "unsigned"]]),
+)
+USERS = [(USER + at, f"space_{at}", [[0, "unsigned"]]) for at in range(MANY)]
+# A name, the spaces, and the number of the one with the tuple.
+STATES = (
+    ("one space", FIRST[-1:], USER),
+    ("the last of seven spaces", FIRST, USER),
+    (f"the first of {MANY:,} spaces", USERS, USER),
+    (f"the last of {MANY:,} spaces", USERS, USER + MANY - 1),
+)
+
+
+def given(spaces, number):
+    """The program's input: the space's number, rows of spaces and of their indexes, a tuple and its key."""
+    rows = [[at, OWNER, name, "memtx", 0, {}, []] for at, name, _ in spaces]
+    indexes = [[at, 0, "primary", "tree", {"unique": True}, parts] for at, _, parts in spaces]
+    return b"".join(map(pack, (number, rows, indexes, [7, "value"], [7])))
+
+
+def instructions(times, asked):
+    """How many instructions the program takes to ask so many times."""
+    with tempfile.TemporaryFile() as file:
+        file.write(asked)
+        file.seek(0)
+        tool = ["valgrind", "--tool=callgrind", "--callgrind-out-file=/dev/null"]
+        ended = subprocess.run([*tool, PROGRAM, str(times), "select"], stdin=file, capture_output=True)
+    report = ended.stderr.decode(errors="replace")
+    collected = re.search(r"Collected : (\d+)", report)
+    if ended.returncode != 0 or collected is None or ended.stdout.strip() != (b"1" if times else b"0"):
+        sys.exit(f"the run ended with status {ended.returncode}:\n{report}")
+    return int(collected.group(1))
+
+
+def build():
+    run = subprocess.run(["rt", "run", "--", "0"], cwd=CRATE, stdin=subprocess.DEVNULL, capture_output=True)
+    if run.returncode != 0:
+        sys.exit(run.stdout.decode(errors="replace") + run.stderr.decode(errors="replace"))
+
+
+def main():
+    build()
+    costs = []
+    for name, spaces, number in STATES:
+        asked = given(spaces, number)
+        costs.append((instructions(TIMES, asked) - instructions(0, asked)) / TIMES)
+        print(f"{name}: {costs[-1]:,.1f} instructions a SELECT, ratio {costs[-1] / costs[0]:.3f}", flush=True)
+
+
+if __name__ == "__main__":
+    main()
