@@ -1,5 +1,14 @@
-mod StageLaws
-mod TargetLaws
-mod MadeLaws
-mod UniqueLaws
+mod AskedLaws
+pub mod ViewLaws
+pub mod StageLaws
+pub mod TargetLaws
+pub mod MadeLaws
+pub mod UniqueLaws
+pub mod WrittenLaws
+pub mod InstallLaws
 pub mod RowJudgeLaws
+pub mod RowLaws
+pub mod SoundLaws
+mod EntryLaws
+pub mod PlaceLaws
+pub mod FieldLaws

@@ -1,34 +1,57 @@
 -- What a write makes, its row makes again: judged as a row of a journal, it comes to the same.
-use Rattle.std.proofs.Common.{◌≡◌, ℕ, Bool, true, false, List, Option, Some, None, Ok, refl, ◌∙◌}
-use Rattle.std.specs.Prelude.{◌==◌, if◌then◌else◌}
+use Rattle.std.proofs.Common.{◌≡◌, ℕ, ◌≤◌, Bool, true, false, List, [], ◌∷◌, length, Option, Some, None, Ok, refl, sym, ap, ◌∙◌, arith}
+use Rattle.std.specs.Prelude.{◌==◌, ◌||◌, if◌then◌else◌}
+use Rattle.std.specs.Option.{option_map}
 use Rattle.mx_base.specs.declared.kinds.Unsupported.TheVariants.{SystemSpaceWrite}
 use Rattle.mx_base.specs.declared.refusal.Refusal.{Refusal}
 use Rattle.mx_base.specs.declared.refusal.Refusal.TheVariants.{Unsupported}
-use Rattle.mx_row.specs.Rows.{insert_type, replace_type, upsert_type}
+use Rattle.mx_base.specs.declared.refusal.Refusal.TheVariants.{IndexMissing, IndexNotUnique, SpaceMissing}
+use Rattle.mx_key.specs.Arrays.{key_array}
+use Rattle.mx_key.specs.Keys.{Key}
+use Rattle.mx_key.specs.Parts.{whole_key}
+use Rattle.mx_key.proofs.KeyArrayLaws.{whole_again}
+use Rattle.mx_row.specs.declared.row.Row.{Row}
+use Rattle.mx_row.specs.Rows.{delete_row, delete_type, insert_type, max_body_size, replace_type, row_body_text, update_row, update_type, upsert_type}
+use Rattle.mx_row.proofs.SizeLaws.{delete_size, update_size}
+use Rattle.mx_schema.specs.declared.index_def.IndexDef.{IndexDef}
+use Rattle.mx_schema.specs.declared.schema.Schema.{Schema}
 use Rattle.mx_schema.specs.Bootstrap.{settings}
+use Rattle.mx_schema.specs.Catalogues.{index_with, schema_of}
+use Rattle.mx_schema.specs.Picks.{Indexed}
+use Rattle.mx_schema.specs.Sound.{IsSound}
 use Rattle.mx_schema.specs.State.{State}
+use Rattle.mx_schema.proofs.SoundLaws.{sound_key}
+use Rattle.mx_tuple.specs.Fields.{tuple_of}
 use Rattle.mx_write.specs.declared.writable.Writer.TheVariants.{Client, Journal}
+use Rattle.mx_write.specs.Delete.{delete_found, deletes}
 use Rattle.mx_write.specs.Insert.{inserts}
-use Rattle.mx_write.specs.Judged.{unless}
-use Rattle.mx_write.specs.Lookup.{the_space}
-use Rattle.mx_write.specs.Made.{Made}
+use Rattle.mx_write.specs.Judge.{change_in, judged_row, judged_write, refusal_in, row_change, row_refusal}
+use Rattle.mx_write.specs.Judged.{found, judged_as, unless}
+use Rattle.mx_write.specs.Lookup.{entry_under, entry_with, holder_of, key_or_refusal, primary_key_of, the_index, the_key, the_primary, the_space, the_unique_index, tuple_under, unless_unique}
+use Rattle.mx_write.specs.Made.{Made, nothing, row_with}
 use Rattle.mx_write.specs.Replace.{replaces}
+use Rattle.mx_update.specs.Updates.{updated}
+use Rattle.mx_write.specs.Update.{the_operations, tuple_or_refusal, update_found, updates}
 use Rattle.mx_write.specs.Upsert.{upserts}
-use Rattle.mx_write.specs.Writable.{describes_schema, is_read_only, schema_refusal, leader_refusal, write_refusal}
-use Rattle.mx_write.proofs.StageLaws.{came_by, goes_on, none_refuses, passed_so}
+use Rattle.mx_write.specs.Writable.{describes_schema, found_name, is_read_only, primary_name, schema_refusal, leader_refusal, write_refusal}
+use Rattle.mx_write.specs.Writes.{Write, Insert, Replace, Update, Delete, Upsert}
+use Rattle.mx_write.proofs.StageLaws.{came_by, goes_on, is_found, none_refuses, passed_so}
+use Rattle.mx_write.proofs.UniqueLaws.{number_is}
+use Rattle.mx_write.proofs.WrittenLaws.{Sought, SoughtSo, entry_there, makes, no_schema, no_schema_found, placed, sought_by, sought_so, wrote_row}
 
 -- ---- what a client may write, a journal may
 
 -- by the tests of a space
-may_by : (schema read_only setting : Bool) (one other : Refusal) (client : Option Refusal) (why : Refusal)
-    → (if schema then Some one else if read_only then Some why else if setting then client else None) ≡ None
-    → (if schema then Some other else if read_only then Some why else if setting then None else None) ≡ None
-may_by true read_only setting one other client why e = absurd cc
-may_by false true setting one other client why e = absurd cc
-may_by false false true one other client why e = refl
-may_by false false false one other client why e = refl
+may_by : (schema read_only setting : Bool) (one other : Option Refusal) (client : Option Refusal) (why : Refusal) → schema ≡ false
+    → (if schema then one else if read_only then Some why else if setting then client else None) ≡ None
+    → (if schema then other else if read_only then Some why else if setting then None else None) ≡ None
+may_by true read_only setting one other client why elsewhere e = absurd cc
+may_by false true setting one other client why elsewhere e = absurd cc
+may_by false false true one other client why elsewhere e = refl
+may_by false false false one other client why elsewhere e = refl
 
-pub journal_may : (space type : ℕ) (named other : Option (List ℕ)) → write_refusal Client space type named ≡ None → write_refusal Journal space type other ≡ None
+pub journal_may : (space type : ℕ) (named other : Option (List ℕ)) → describes_schema space ≡ false → write_refusal Client space type named ≡ None
+    → write_refusal Journal space type other ≡ None
 journal_may space type named other =
     may_by (describes_schema space) (is_read_only space) (space == settings) (schema_refusal type named) (schema_refusal type other) (leader_refusal Client named) (Unsupported SystemSpaceWrite)
 
@@ -40,7 +63,8 @@ module _ (before : State) (space : ℕ) (tuple : List ℕ) (is : Made) where
   inserted_again e =
       let (schema, e1, r1) = came_by (the_space before space) _ is e in
       let (u2, e2, r2) = came_by (unless (write_refusal Client space insert_type (Some tuple))) _ is r1 in
-      let may = none_refuses _ (journal_may space insert_type (Some tuple) (Some tuple) (passed_so _ u2 e2)) in
+      let writable = passed_so _ u2 e2 in
+      let may = none_refuses _ (journal_may space insert_type (Some tuple) (Some tuple) (no_schema Client space insert_type tuple writable) writable) in
       goes_on (the_space before space) _ schema e1 ∙ goes_on (unless (write_refusal Journal space insert_type (Some tuple))) _ tt may ∙ r2
 
   pub replaced_again : (replaces Client before space tuple).outcome ≡ Ok is → (replaces Journal before space tuple).outcome ≡ Ok is
@@ -48,7 +72,8 @@ module _ (before : State) (space : ℕ) (tuple : List ℕ) (is : Made) where
   replaced_again e =
       let (schema, e1, r1) = came_by (the_space before space) _ is e in
       let (u2, e2, r2) = came_by (unless (write_refusal Client space replace_type (Some tuple))) _ is r1 in
-      let may = none_refuses _ (journal_may space replace_type (Some tuple) (Some tuple) (passed_so _ u2 e2)) in
+      let writable = passed_so _ u2 e2 in
+      let may = none_refuses _ (journal_may space replace_type (Some tuple) (Some tuple) (no_schema Client space replace_type tuple writable) writable) in
       goes_on (the_space before space) _ schema e1 ∙ goes_on (unless (write_refusal Journal space replace_type (Some tuple))) _ tt may ∙ r2
 
   pub upserted_again : (base : ℕ) (operations : List ℕ) → (upserts Client before space base tuple operations).outcome ≡ Ok is
@@ -57,5 +82,136 @@ module _ (before : State) (space : ℕ) (tuple : List ℕ) (is : Made) where
   upserted_again base operations e =
       let (schema, e1, r1) = came_by (the_space before space) _ is e in
       let (u2, e2, r2) = came_by (unless (write_refusal Client space upsert_type (Some tuple))) _ is r1 in
-      let may = none_refuses _ (journal_may space upsert_type (Some tuple) (Some tuple) (passed_so _ u2 e2)) in
+      let writable = passed_so _ u2 e2 in
+      let may = none_refuses _ (journal_may space upsert_type (Some tuple) (Some tuple) (no_schema Client space upsert_type tuple writable) writable) in
       goes_on (the_space before space) _ schema e1 ∙ goes_on (unless (write_refusal Journal space upsert_type (Some tuple))) _ tt may ∙ r2
+
+-- ---- UPDATE and DELETE, whose rows have the primary key
+
+module _ (before : State) (space : ℕ) (schema : Schema) (primary : IndexDef) (own : Key) (old : List ℕ) (described : schema_of before space ≡ Some schema)
+    (there : index_with 0 schema.indexes ≡ Some primary) (stands : tuple_under before space own ≡ Some old) (whole : whole_key primary.key (key_array own) ≡ Ok own) where
+  first : (primary.id.0 == 0) ≡ true
+  first = number_is 0 schema.indexes primary there
+
+  -- the primary index is there, and unique
+  primary_there : (the_unique_index space schema 0).outcome ≡ Ok primary
+  primary_there =
+      goes_on (the_index space schema 0) _ primary (is_found (IndexMissing (record { 0 = 0 }) schema.def.name) (index_with 0 schema.indexes) primary there)
+      ∙ goes_on (unless (unless_unique schema primary)) (λ _. found primary) tt (none_refuses _ unique)
+    where
+      unique : unless_unique schema primary ≡ None
+      unique = ap (λ b. if b || primary.unique then None else Some (IndexNotUnique primary.name schema.def.name)) first
+
+  -- the tuple is found under its own key
+  found_under : entry_with before space primary primary own ≡ Some (own, old)
+  found_under =
+      ap (λ b. entry_under before space (if b then Some own else primary_key_of primary (holder_of before space primary own))) first
+      ∙ ap (option_map (λ (tuple : List ℕ). (own, tuple))) stands
+
+  sought_again : (type : ℕ) (named : Option (List ℕ)) (stage : Sought) → describes_schema space ≡ false → write_refusal Client space type named ≡ None
+      → (sought_by Journal before space type 0 (key_array own) stage).outcome ≡ (stage schema primary (Some (own, old))).outcome
+  sought_again type named stage elsewhere may =
+      goes_on (the_space before space) _ schema (is_found (SpaceMissing (record { 0 = space })) (schema_of before space) schema described)
+      ∙ goes_on (unless (write_refusal Journal space type (primary_name 0 (key_array own)))) _ tt (none_refuses _ (journal_may space type named (primary_name 0 (key_array own)) elsewhere may))
+      ∙ goes_on (the_unique_index space schema 0) _ primary primary_there
+      ∙ goes_on (the_primary schema) _ primary (is_found (IndexMissing (record { 0 = 0 }) schema.def.name) (index_with 0 schema.indexes) primary there)
+      ∙ goes_on (the_key primary (key_array own)) _ own (ap (key_or_refusal (length primary.key)) whole)
+      ∙ ap (λ entry. (stage schema primary entry).outcome) found_under
+
+-- the key that is in a row of so many bytes at most is read again
+key_whole : (before : State) (space : ℕ) (schema : Schema) (primary : IndexDef) (own : Key) (old : List ℕ) → IsSound before → schema_of before space ≡ Some schema
+    → index_with 0 schema.indexes ≡ Some primary → tuple_under before space own ≡ Some old → length (key_array own) ≤ max_body_size
+    → whole_key primary.key (key_array own) ≡ Ok own
+key_whole before space schema primary own old sound described there stands few =
+    let (keyed, fit) = sound_key before space schema primary own old sound described there stands in
+    whole_again primary.key (tuple_of old).fields own keyed fit (omega arith)
+
+-- a row is longer than the key in it
+pub delete_key_short : (space : ℕ) (key : List ℕ) → length (row_body_text (delete_row space key)) ≤ max_body_size → length key ≤ max_body_size
+delete_key_short space key short = let size = delete_size (delete_row space key) _ refl (λ e. absurd (omega (arith, e))) refl in omega arith
+
+pub update_key_short : (space base : ℕ) (key operations : List ℕ) → length (row_body_text (update_row space base key operations)) ≤ max_body_size → length key ≤ max_body_size
+update_key_short space base key operations short = let size = update_size (update_row space base key operations) _ refl _ refl refl in omega arith
+
+no_row : (row : Row) (is : Made) → is ≡ nothing → is.row ≡ Some row → ⊥
+no_row row is none left = let no : ◌≡◌ {A = Option Row} None (Some row) = ap (λ (m : Made). m.row) (sym none) ∙ left in absurd cc
+
+pub one_row : (row other : Row) (is : Made) → is.row ≡ Some other → is.row ≡ Some row → row ≡ other
+one_row row other is e left = let same : Some row ≡ Some other = sym left ∙ e in cc
+
+module _ (before : State) (space : ℕ) (is : Made) (row : Row) (sound : IsSound before) (left : is.row ≡ Some row) where
+  deleted_again : (index : ℕ) (key : List ℕ) → (deletes Client before space index key).outcome ≡ Ok is → (judged_row before row).outcome ≡ Ok is
+  unfolding deletes
+  deleted_again index key e =
+      let so = sought_so Client before space delete_type index key (λ schema primary. delete_found Client before space index key) is e in
+      by_entry so (entry_with before space so.primary so.def so.asked) refl so.rest
+    where
+      by_entry : (so : SoughtSo Client before space delete_type index key (λ schema primary. delete_found Client before space index key) is) (entry : Option Indexed)
+          → entry_with before space so.primary so.def so.asked ≡ entry → (delete_found Client before space index key entry).outcome ≡ Ok is
+          → (judged_row before row).outcome ≡ Ok is
+      by_entry so None at e = let none : is ≡ nothing = cc in absurd (no_row row is none left)
+      by_entry so (Some (own, old)) at e =
+          let (u1, e1, r1) = came_by (unless (write_refusal Client space delete_type (found_name index old))) _ is e in
+          let found = passed_so _ u1 e1 in
+          let elsewhere = no_schema_found Client space delete_type index key old so.writable found in
+          let (short, is_so) = makes space (Delete index key) own None (old ∷ []) is r1 in
+          let stands = entry_there before space so.primary so.def so.asked own old at in
+          let whole = key_whole before space so.schema so.primary own old sound so.described so.there stands (delete_key_short space (key_array own) short) in
+          let again : (deletes Journal before space 0 (key_array own)).outcome ≡ Ok is =
+          sought_again before space so.schema so.primary own old so.described so.there stands whole delete_type (primary_name index key)
+          (λ schema primary. delete_found Journal before space 0 (key_array own)) elsewhere so.writable
+          ∙ goes_on (unless (write_refusal Journal space delete_type (found_name 0 old))) _ tt
+          (none_refuses _ (journal_may space delete_type (found_name index old) (found_name 0 old) elsewhere found))
+          ∙ r1 in
+          ap (λ r. (judged_row before r).outcome) (one_row row (delete_row space (key_array own)) is (ap (λ (m : Made). m.row) is_so) left) ∙ again
+
+  updated_again : (index base : ℕ) (key operations : List ℕ) → (updates Client before space index base key operations).outcome ≡ Ok is → (judged_row before row).outcome ≡ Ok is
+  unfolding updates
+  updated_again index base key operations e =
+      let so = sought_so Client before space update_type index key (update_found Client before space index base key operations) is e in
+      by_entry so (entry_with before space so.primary so.def so.asked) refl so.rest
+    where
+      by_entry : (so : SoughtSo Client before space update_type index key (update_found Client before space index base key operations) is) (entry : Option Indexed)
+          → entry_with before space so.primary so.def so.asked ≡ entry
+          → (update_found Client before space index base key operations so.schema so.primary entry).outcome ≡ Ok is
+          → (judged_row before row).outcome ≡ Ok is
+      by_entry so None at e = let none : is ≡ nothing = cc in absurd (no_row row is none left)
+      by_entry so (Some (own, old)) at e =
+          let (u1, e1, r1) = came_by (unless (write_refusal Client space update_type (found_name index old))) _ is e in
+          let found = passed_so _ u1 e1 in
+          let elsewhere = no_schema_found Client space update_type index key old so.writable found in
+          let (applied, e2, r2) = came_by (the_operations operations) _ is r1 in
+          let (new, e3, r3) = came_by (judged_as (tuple_or_refusal (updated base old applied))) _ is r2 in
+          let (keyed, at_last) = placed Client before space is so.schema so.primary (Update index base key operations) own new (new ∷ []) r3 in
+          let (short, is_so) = makes space (Update index base key operations) own (Some new) (new ∷ []) is at_last in
+          let stands = entry_there before space so.primary so.def so.asked own old at in
+          let whole = key_whole before space so.schema so.primary own old sound so.described so.there stands (update_key_short space base (key_array own) operations short) in
+          let again : (updates Journal before space 0 base (key_array own) operations).outcome ≡ Ok is =
+          sought_again before space so.schema so.primary own old so.described so.there stands whole update_type (primary_name index key)
+          (update_found Journal before space 0 base (key_array own) operations) elsewhere so.writable
+          ∙ goes_on (unless (write_refusal Journal space update_type (found_name 0 old))) _ tt
+          (none_refuses _ (journal_may space update_type (found_name index old) (found_name 0 old) elsewhere found))
+          ∙ r1 in
+          ap (λ r. (judged_row before r).outcome) (one_row row (update_row space base (key_array own) operations) is (ap (λ (m : Made). m.row) is_so) left) ∙ again
+
+-- ---- all writes
+
+module _ (before : State) (space : ℕ) (is : Made) (row : Row) (sound : IsSound before) (left : is.row ≡ Some row) where
+  -- the row of a write that was judged again as it was sent
+  as_sent : (write : Write) → (judged_write Client before space write).outcome ≡ Ok is → ((key : List ℕ) → (judged_row before (row_with space write key)).outcome ≡ Ok is)
+      → (judged_row before row).outcome ≡ Ok is
+  as_sent write e again =
+      let so = wrote_row Client before space is write row e left in
+      let (short, is_so) = makes space write so.key so.tuple so.shown is so.made in
+      ap (λ r. (judged_row before r).outcome) (one_row row (row_with space write (key_array so.key)) is (ap (λ (m : Made). m.row) is_so) left) ∙ again (key_array so.key)
+
+  pub made_again : (write : Write) → (judged_write Client before space write).outcome ≡ Ok is → (judged_row before row).outcome ≡ Ok is
+  made_again (Insert tuple) e = as_sent (Insert tuple) e (λ key. inserted_again before space tuple is e)
+  made_again (Replace tuple) e = as_sent (Replace tuple) e (λ key. replaced_again before space tuple is e)
+  made_again (Update index base key operations) e = updated_again before space is row sound left index base key operations e
+  made_again (Delete index key) e = deleted_again before space is row sound left index key e
+  made_again (Upsert base tuple operations) e = as_sent (Upsert base tuple operations) e (λ key. upserted_again before space tuple is base operations e)
+
+  -- so a state takes the row of a write, and changes as by the write
+  pub takes_again : (write : Write) → (judged_write Client before space write).outcome ≡ Ok is → (row_refusal before row ≡ None) × (row_change before row ≡ is.change)
+  takes_again write e = let again = made_again write e in (ap refusal_in again, ap change_in again)

@@ -43,6 +43,24 @@ module _ {X Y : Type 0} (judged : Judged X) (stage : X → Judged Y) where
       by_outcome (Err why) is e = absurd cc
       by_outcome (Ok x) is e = (x, is, e)
 
+-- a stage after two that are one
+module _ {X Y Z : Type 0} (judged : Judged X) (stage : X → Judged Y) (last : Y → Judged Z) where
+  abbrev pub in_three : Judged Z
+  in_three = judged >>= λ x. (stage x >>= last)
+
+  pub goes_on_after : (y : Y) → (judged >>= stage).outcome ≡ Ok y → in_three.outcome ≡ (last y).outcome
+  goes_on_after y is =
+      let (x, first, second) = came_by judged stage y is in
+      goes_on judged (λ x. stage x >>= last) x first ∙ goes_on (stage x) last y second
+
+  pub refused_before : (why : Refusal) → IsRefusedBy why (judged >>= stage) → IsRefusedBy why in_three
+  refused_before why (inr none) = inr none
+  refused_before why (inl is) = by_outcome judged.outcome refl is
+    where
+      by_outcome : (outcome : Result X Refusal) → judged.outcome ≡ outcome → (next_stage judged.reads outcome stage).outcome ≡ Err why → IsRefusedBy why in_three
+      by_outcome (Err other) e is = let same : other ≡ why = cc in refused_here judged (λ x. stage x >>= last) why (inl (e ∙ ap (λ w. Err w) same))
+      by_outcome (Ok x) e is = refused_later judged (λ x. stage x >>= last) x why e (refused_here (stage x) last why (inl is))
+
 -- ---- one stage
 
 pub none_refuses : (fault : Option Refusal) → fault ≡ None → (unless fault).outcome ≡ Ok tt

@@ -1,5 +1,6 @@
 -- What can't be written so, whatever else is wrong with a tuple or a key.
 use Rattle.std.specs.Prelude.{ℕ, Bool, false, ◌||◌, List, ◌∷◌, Option, Some, None, nat_lt, ◌==◌, if◌then◌else◌}
+use Rattle.std.specs.Option.{option_map}
 use Rattle.mx_msgpack.specs.Items.{items_of}
 use Rattle.mx_msgpack.specs.Readers.{unsigned_in}
 use Rattle.mx_base.specs.declared.kinds.Unsupported.TheVariants.{SchemaInPlace, SystemSpaceWrite}
@@ -31,20 +32,18 @@ begins_with_system_number (Some (field ∷ others)) = is_system_number (unsigned
 begins_with_system_number _ = false
 
 -- the array by which a row is named: its tuple or its primary key; none where it is named by another index
-abbrev pub names_system_space : Option (List ℕ) → Bool
-names_system_space None = false
-names_system_space (Some array) = begins_with_system_number (items_of array)
-
 abbrev pub names_leader : Option (List ℕ) → Bool
 names_leader None = false
 names_leader (Some array) = is_leader array
 
 -- a row that describes a space or an index: those of the database's own spaces stay, and further ones can't be added and dropped yet
-abbrev pub schema_refusal : (type : ℕ) → (named : Option (List ℕ)) → Refusal
+abbrev pub described_refusal : (type : ℕ) → (named : List ℕ) → Refusal
+described_refusal type named = if begins_with_system_number (items_of named) then Unsupported SystemSpaceWrite else UnknownRequestType type
+
+-- one that is dropped by another index is known once it is found
+abbrev pub schema_refusal : (type : ℕ) → (named : Option (List ℕ)) → Option Refusal
 schema_refusal type named =
-    if (type == insert_type) || (type == delete_type)
-    then (if names_system_space named then Unsupported SystemSpaceWrite else UnknownRequestType type)
-    else Unsupported SchemaInPlace
+    if (type == insert_type) || (type == delete_type) then option_map (described_refusal type) named else Some (Unsupported SchemaInPlace)
 
 -- the leader's setting isn't written by clients
 abbrev pub leader_refusal : Writer → (named : Option (List ℕ)) → Option Refusal
@@ -54,7 +53,7 @@ leader_refusal Journal named = None
 -- why a write of this type can't be made in a space, of the row that is named so
 abbrev pub write_refusal : Writer → (space type : ℕ) → (named : Option (List ℕ)) → Option Refusal
 write_refusal writer space type named =
-    if describes_schema space then Some (schema_refusal type named)
+    if describes_schema space then schema_refusal type named
     else if is_read_only space then Some (Unsupported SystemSpaceWrite)
     else if space == settings then leader_refusal writer named
     else None

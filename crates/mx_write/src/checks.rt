@@ -1,25 +1,25 @@
 //! What a space asks of a tuple: its size, its format, and a key in each index.
 
-ghost use Rattle.std.specs.Prelude.{◌≡◌, ◌⊎◌, Ok, Err, Some, None, MatchResult};
-ghost use Rattle.mx_base.specs.declared.refusal.Refusal.TheVariants.{OutOfMemory};
+ghost use Rattle.std.specs.Prelude.{◌≡◌, ◌⊎◌, Ok, Err, Some, None, MatchResult, false, true, length, nat_lt};
+ghost use Rattle.mx_base.specs.declared.refusal.Refusal.TheVariants.{OutOfMemory, TupleTooLong};
 ghost use Rattle.mx_key.specs.declared.fault.KeyFault.TheVariants.{NoMemory};
 ghost use Rattle.mx_key.specs.declared.fault.NoKey.{NoKey};
 ghost use Rattle.mx_key.specs.Comparable.{comparable_of};
 ghost use Rattle.mx_key.specs.Faults.{key_fault_of};
 ghost use Rattle.mx_key.specs.Keys.{Key, AreFit};
 ghost use Rattle.mx_msgpack.specs.Items.{IsArray};
-ghost use Rattle.mx_tuple.specs.Fields.{tuple_of};
+ghost use Rattle.mx_tuple.specs.Fields.{max_tuple_size, tuple_of};
 ghost use Rattle.mx_tuple.specs.Formats.{checked};
 ghost use Rattle.mx_schema.specs.State.{key_in};
 ghost use Rattle.mx_write.specs.Checks as spec;
-ghost use Rattle.mx_write.specs.Lookup.{other_indexes};
+ghost use Rattle.mx_write.specs.Lookup.{all_indexes, other_indexes};
 ghost use Rattle.mx_write.specs.Steps.{Checks, ChecksKey};
 
 use crate::lookup::type_of;
 use mx_base::{Refusal, TypeName};
 use mx_key::{KeyFault, NoKey, key_of_tuple};
 use mx_msgpack::Bytes;
-use mx_schema::{IndexDef, IndexDefs, Schema};
+use mx_schema::{IndexDef, IndexDefs, Schema, array_or_empty};
 use mx_tuple::{FieldFault, FieldKind, Format, MAX_TUPLE_SIZE, TupleBad, check, from_bytes};
 use std::alloc::Global;
 
@@ -36,10 +36,50 @@ pub(crate) fn check_tuple(
     requires array { IsArray tuple.now }
     ensures { ChecksKey result (spec.tuple_fault schema.now primary.now tuple.now) primary.now tuple.now }
 {
+    check_size(tuple)?;
+    check_fields(alloc, schema, primary, tuple)
+}
+
+/// As `check_tuple`, of any bytes; those that are no array have no fields.
+///
+/// # Errors
+/// As of `check_tuple`.
+pub fn check_bytes(
+    alloc: Global,
+    schema: &Schema,
+    primary: &IndexDef,
+    bytes: &[u8],
+) -> Result<Bytes, Refusal>
+    ensures { ChecksKey result (spec.tuple_fault schema.now primary.now bytes.now) primary.now bytes.now }
+{
+    check_size(bytes)?;
+    check_fields(alloc, schema, primary, array_or_empty(bytes))
+}
+
+fn check_size(tuple: &[u8]) -> Result<(), Refusal>
+    ensures { MatchResult result
+        (λ _. nat_lt max_tuple_size (length tuple.now) ≡ false)
+        (λ why. (nat_lt max_tuple_size (length tuple.now) ≡ true) × (why ≡ TupleTooLong (length tuple.now))) }
+{
     if tuple.len() > MAX_TUPLE_SIZE {
         let bytes = tuple.len() as u64;
         return Err(Refusal::TupleTooLong { bytes });
     }
+    Ok(())
+}
+
+/// The comparable bytes of a tuple's primary key, where its fields meet the format and all keys.
+fn check_fields(
+    alloc: Global,
+    schema: &Schema,
+    primary: &IndexDef,
+    tuple: &[u8],
+) -> Result<Bytes, Refusal>
+    requires array { IsArray tuple.now }
+    ensures { ChecksKey result
+        (spec.format_fault (checked schema.now.def.format (tuple_of tuple.now).fields) (spec.keys_fault (all_indexes primary.now schema.now) tuple.now))
+        primary.now tuple.now }
+{
     check_format(alloc, &schema.def.format, tuple)?;
     let key = check_key(alloc, primary, tuple)?;
     check_other_keys(alloc, &schema.indexes, tuple)?;

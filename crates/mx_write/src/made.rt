@@ -61,7 +61,10 @@ pub fn row_of<'a, 'w: 'a>(space: SpaceId, write: &Write<'w>, key: &'a [u8]) -> R
 }
 
 /// What a write makes, unless its row is too long.
-pub(crate) fn make(
+///
+/// # Errors
+/// The refusal of a row that is too long.
+pub fn make(
     space: SpaceId,
     write: &Write<'_>,
     key: Bytes,

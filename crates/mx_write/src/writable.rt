@@ -9,7 +9,7 @@ ghost use Rattle.mx_write.specs.Writable as spec;
 
 use crate::lookup::not_built;
 use crate::write::{DELETE, INSERT};
-use mx_base::{Refusal, SpaceId, Unsupported};
+use mx_base::{IndexId, Refusal, SpaceId, Unsupported};
 use mx_msgpack::{array_of, parted, unsigned_in};
 use mx_schema::{
     CLUSTER, INDEX_ROWS, SETTINGS, SHOWN_INDEX_ROWS, SHOWN_SPACE_ROWS, SPACE_ROWS, is_leader,
@@ -28,7 +28,7 @@ pub enum Writer {
 
 /// Why a write of this type can't be made in a space, of the row that this array names: its tuple or its
 /// primary key, and none where it is named by another index.
-pub(crate) fn write_refusal(
+pub fn write_refusal(
     writer: Writer,
     space: SpaceId,
     kind: u8,
@@ -37,23 +37,47 @@ pub(crate) fn write_refusal(
     ensures { result ≡ spec.write_refusal writer space.0 kind (option_copied named.entry) }
 {
     match space.0 {
-        SPACE_ROWS | INDEX_ROWS => Some(schema_refusal(kind, named)),
+        SPACE_ROWS | INDEX_ROWS => schema_refusal(kind, named),
         SHOWN_SPACE_ROWS | SHOWN_INDEX_ROWS | CLUSTER => Some(system_write()),
         SETTINGS => leader_refusal(writer, named),
         _ => None,
     }
 }
 
-/// A row that describes a space or an index. Further ones can't be added and dropped yet.
-fn schema_refusal(kind: u8, named: Option<&[u8]>) -> Refusal
+/// The key by which a row is named, where it is a primary key.
+pub fn primary_name(index: IndexId, key: &[u8]) -> Option<&[u8]>
+    ensures { option_copied result ≡ spec.primary_name index.0 key.now }
+{
+    if index.0 == 0 { Some(key) } else { None }
+}
+
+/// The tuple by which a row is named that another index found.
+pub fn found_name(index: IndexId, tuple: &[u8]) -> Option<&[u8]>
+    ensures { option_copied result ≡ spec.found_name index.0 tuple.now }
+{
+    if index.0 == 0 { None } else { Some(tuple) }
+}
+
+/// A row that describes a space or an index. One that is dropped by another index is known once it is found.
+fn schema_refusal(kind: u8, named: Option<&[u8]>) -> Option<Refusal>
     ensures { result ≡ spec.schema_refusal kind (option_copied named.entry) }
 {
     if kind != INSERT && kind != DELETE {
-        return Refusal::Unsupported {
+        return Some(Refusal::Unsupported {
             what: Unsupported::SchemaInPlace,
-        };
+        });
     }
-    if names_system_space(named) {
+    match named {
+        Some(array) => Some(described_refusal(kind, array)),
+        None => None,
+    }
+}
+
+/// Further spaces and indexes can't be added and dropped yet.
+fn described_refusal(kind: u8, named: &[u8]) -> Refusal
+    ensures { result ≡ spec.described_refusal kind named.now }
+{
+    if begins_with_system_number(named) {
         return system_write();
     }
     not_built(kind)
@@ -81,15 +105,6 @@ fn names_leader(named: Option<&[u8]>) -> bool
 {
     match named {
         Some(array) => is_leader(array),
-        None => false,
-    }
-}
-
-fn names_system_space(named: Option<&[u8]>) -> bool
-    ensures { result ≡ spec.names_system_space (option_copied named.entry) }
-{
-    match named {
-        Some(array) => begins_with_system_number(array),
         None => false,
     }
 }

@@ -1,27 +1,30 @@
 //! Writes: the requests that change the tuples of one space.
 
-ghost use Rattle.std.specs.Prelude.{◌≡◌};
+ghost use Rattle.std.specs.Prelude.{◌≡◌, IfSome};
 ghost use Rattle.std.specs.Option.{option_map};
+ghost use Rattle.mx_msgpack.specs.Spelling.{AreBytes};
 ghost use Rattle.mx_request.specs.InPlace.{request_view};
 ghost use Rattle.mx_row.specs.Views.{row_value};
 ghost use Rattle.mx_write.specs.Made.{write_of};
-ghost use Rattle.mx_write.specs.Views.{write_view};
-ghost use Rattle.mx_write.specs.Writes.{write_in};
+ghost use Rattle.mx_request.specs.Spelling.{IsAskable};
+ghost use Rattle.mx_write.specs.Views.{AreArrays, write_view};
+ghost use Rattle.mx_write.specs.Writes.{TupleIsBytes, write_in};
 
 use mx_base::{IndexId, SpaceId};
-use mx_request::RequestRef;
+use mx_request::{Request, RequestRef};
 use mx_row::RowRef;
+use mx_schema::array_or_empty;
 
 /// The numbers of the types of writes.
-pub(crate) const INSERT: u8 = 2;
+pub const INSERT: u8 = 2;
 
-pub(crate) const REPLACE: u8 = 3;
+pub const REPLACE: u8 = 3;
 
-pub(crate) const UPDATE: u8 = 4;
+pub const UPDATE: u8 = 4;
 
-pub(crate) const DELETE: u8 = 5;
+pub const DELETE: u8 = 5;
 
-pub(crate) const UPSERT: u8 = 9;
+pub const UPSERT: u8 = 9;
 
 /// What a write does in its space. Keys, tuples and operations are arrays of MessagePack, and `base` is
 /// the number of a first field.
@@ -52,11 +55,18 @@ pub enum Write<'a> {
 
 /// The write that a request in place is, and its space; `None` where it is none.
 pub fn write_in<'a>(request: &RequestRef<'a>) -> Option<(SpaceId, Write<'a>)>
-    ensures { option_map (λ x. (x.0.0, write_view x.1)) result ≡ write_in (request_view request.now) }
+    ensures value { option_map (λ x. (x.0.0, write_view x.1)) result ≡ write_in (request_view request.now) }
+    ensures bytes { TupleIsBytes (write_in (request_view request.now)) }
 {
     match *request {
-        RequestRef::Insert { space, tuple } => Some((space, Write::Insert { tuple })),
-        RequestRef::Replace { space, tuple } => Some((space, Write::Replace { tuple })),
+        RequestRef::Insert { space, tuple } => {
+            let tuple = known_bytes(tuple);
+            Some((space, Write::Insert { tuple }))
+        }
+        RequestRef::Replace { space, tuple } => {
+            let tuple = known_bytes(tuple);
+            Some((space, Write::Replace { tuple }))
+        }
         RequestRef::Update {
             space,
             index,
@@ -82,6 +92,7 @@ pub fn write_in<'a>(request: &RequestRef<'a>) -> Option<(SpaceId, Write<'a>)>
             tuple,
             ops,
         } => {
+            let tuple = known_bytes(tuple);
             let operations = ops;
             Some((
                 space,
@@ -94,6 +105,14 @@ pub fn write_in<'a>(request: &RequestRef<'a>) -> Option<(SpaceId, Write<'a>)>
         }
         _ => None,
     }
+}
+
+/// The same bytes. A list of numbers, as a contract sees them, may have larger ones.
+fn known_bytes(bytes: &[u8]) -> &[u8]
+    ensures value { result.now ≡ bytes.now }
+    ensures each { AreBytes bytes.now }
+{
+    bytes
 }
 
 /// The write that a row of a journal is.
@@ -118,5 +137,60 @@ pub fn write_of<'a>(row: &RowRef<'a>) -> Write<'a>
             tuple: row.tuple,
             operations: row.ops,
         },
+    }
+}
+
+/// The write that a request is, and its space; `None` where it is none. A tuple or key that is no array
+/// is taken as one without items.
+pub fn write_of_request(request: &Request) -> Option<(SpaceId, Write<'_>)>
+    ensures arrays { IfSome result (λ x. AreArrays x.1) }
+    ensures bytes { TupleIsBytes (write_in request.now) }
+    ensures value { IsAskable request.now → option_map (λ x. (x.0.0, write_view x.1)) result ≡ write_in request.now }
+{
+    match request {
+        Request::Insert { space, tuple } => {
+            let tuple = array_or_empty(known_bytes(tuple.as_slice()));
+            Some((*space, Write::Insert { tuple }))
+        }
+        Request::Replace { space, tuple } => {
+            let tuple = array_or_empty(known_bytes(tuple.as_slice()));
+            Some((*space, Write::Replace { tuple }))
+        }
+        Request::Update {
+            space,
+            index,
+            base,
+            key,
+            ops,
+        } => {
+            let write = Write::Update {
+                index: *index,
+                base: *base,
+                key: array_or_empty(key.as_slice()),
+                operations: ops.as_slice(),
+            };
+            Some((*space, write))
+        }
+        Request::Delete { space, index, key } => {
+            let write = Write::Delete {
+                index: *index,
+                key: array_or_empty(key.as_slice()),
+            };
+            Some((*space, write))
+        }
+        Request::Upsert {
+            space,
+            base,
+            tuple,
+            ops,
+        } => {
+            let write = Write::Upsert {
+                base: *base,
+                tuple: array_or_empty(known_bytes(tuple.as_slice())),
+                operations: ops.as_slice(),
+            };
+            Some((*space, write))
+        }
+        _ => None,
     }
 }

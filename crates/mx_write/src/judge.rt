@@ -1,0 +1,41 @@
+//! Any write.
+
+ghost use Rattle.mx_schema.specs.State as plain;
+ghost use Rattle.mx_schema.specs.Stored.{Holds};
+ghost use Rattle.mx_write.specs.Judge.{judged_write};
+ghost use Rattle.mx_write.specs.Makes.{JudgesFound};
+ghost use Rattle.mx_write.specs.Views.{AreArrays, write_view};
+
+use crate::made::Made;
+use crate::scope::Scope;
+use crate::write::Write;
+use mx_base::Refusal;
+
+impl Scope<'_> {
+    /// What a write makes; `None` where it finds no tuple to change.
+    ///
+    /// # Errors
+    /// Why it is refused.
+    pub fn judge(self, write: &Write<'_>) -> Result<Option<Made>, Refusal>
+        requires arrays { AreArrays write.now }
+        ensures { (before : plain.State) → Holds self.entry.state.now before
+            → JudgesFound before self.entry.space.0 (write_view write.now) result (judged_write self.entry.writer before self.entry.space.0 (write_view write.now)) }
+    {
+        match *write {
+            Write::Insert { tuple } => Ok(Some(self.insert(tuple)?)),
+            Write::Replace { tuple } => Ok(Some(self.replace(tuple)?)),
+            Write::Update {
+                index,
+                base,
+                key,
+                operations,
+            } => self.update(index, base, key, operations),
+            Write::Delete { index, key } => self.delete(index, key),
+            Write::Upsert {
+                base,
+                tuple,
+                operations,
+            } => Ok(Some(self.upsert(base, tuple, operations)?)),
+        }
+    }
+}

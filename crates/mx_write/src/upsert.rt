@@ -1,0 +1,107 @@
+//! UPSERT.
+
+ghost use Rattle.std.specs.Prelude.{None, Some};
+ghost use Rattle.mx_msgpack.specs.Items.{IsArray};
+ghost use Rattle.mx_schema.specs.State as plain;
+ghost use Rattle.mx_schema.specs.Stored.{Holds};
+ghost use Rattle.mx_write.specs.Makes.{JudgesMade};
+ghost use Rattle.mx_write.specs.Steps.{HasOwnKey, IsTarget};
+ghost use Rattle.mx_write.specs.Upsert.{upsert_found, upserts};
+ghost use Rattle.mx_write.specs.Writes as statement;
+
+use crate::checks::check_tuple;
+use crate::lookup::{find_index, find_space};
+use crate::made::{Effect, Made, make};
+use crate::operations::upsert_tuple;
+use crate::place::put_in_place;
+use crate::scope::{Scope, Target};
+use crate::unique::duplicate_in_others;
+use crate::writable::write_refusal;
+use crate::write::{UPSERT, Write};
+use mx_base::{IndexId, Refusal};
+use mx_msgpack::Bytes;
+use mx_schema::array_or_empty;
+
+impl Scope<'_> {
+    /// What an UPSERT makes of the tuple that has the primary key of this one, which is an array: the
+    /// operations change it, and their fields count from `base`. Where there is none, this one is put.
+    ///
+    /// # Errors
+    /// Why it is refused.
+    #[tactic(auto, unfolding(crate::specs::Upsert::upserts))]
+    pub fn upsert(self, base: u32, tuple: &[u8], operations: &[u8]) -> Result<Made, Refusal>
+        requires array { IsArray tuple.now }
+        ensures { (before : plain.State) → Holds self.entry.state.now before
+            → JudgesMade before self.entry.space.0 (statement.Upsert base tuple.now operations.now) result
+            (upserts self.entry.writer before self.entry.space.0 base tuple.now operations.now) }
+    {
+        let table = find_space(self.state, self.space)?;
+        if let Some(refusal) = write_refusal(self.writer, self.space, UPSERT, Some(tuple)) {
+            return Err(refusal);
+        }
+        let schema = table.schema();
+        let primary = find_index(self.alloc, schema, IndexId(0))?;
+        let key = check_tuple(self.alloc, schema, primary, tuple)?;
+        let target = Target {
+            scope: self,
+            table,
+            schema,
+            primary,
+        };
+        match table.tuple(&key) {
+            Some(old) => change(&target, base, tuple, operations, key, old),
+            None => put(&target, base, tuple, operations, key),
+        }
+    }
+}
+
+/// What an UPSERT of a tuple makes whose primary key, which is this, no other one has.
+fn put(
+    target: &Target<'_>,
+    base: u32,
+    tuple: &[u8],
+    operations: &[u8],
+    key: Bytes,
+) -> Result<Made, Refusal>
+    ensures { (before : plain.State) → IsTarget before target.now → HasOwnKey target.now.primary.now tuple.now key
+        → JudgesMade before target.now.scope.space.0 (statement.Upsert base tuple.now operations.now) result
+        (upsert_found target.now.scope.writer before target.now.scope.space.0 base tuple.now operations.now target.now.schema.now target.now.primary.now None) }
+{
+    if let Some(refusal) = duplicate_in_others(target, Some(&key), tuple)? {
+        return Err(refusal);
+    }
+    let alloc = target.scope.alloc;
+    let effect = Effect::Put {
+        tuple: Bytes::from_slice(alloc, tuple)?,
+        is_shown: false,
+    };
+    let write = Write::Upsert {
+        base,
+        tuple,
+        operations,
+    };
+    make(target.scope.space, &write, key, Bytes::new(alloc), effect)
+}
+
+/// What an UPSERT of a tuple makes of the one that has its primary key, which is this.
+fn change(
+    target: &Target<'_>,
+    base: u32,
+    tuple: &[u8],
+    operations: &[u8],
+    key: Bytes,
+    old: &[u8],
+) -> Result<Made, Refusal>
+    ensures { (before : plain.State) → IsTarget before target.now → HasOwnKey target.now.primary.now tuple.now key
+        → JudgesMade before target.now.scope.space.0 (statement.Upsert base tuple.now operations.now) result
+        (upsert_found target.now.scope.writer before target.now.scope.space.0 base tuple.now operations.now target.now.schema.now target.now.primary.now (Some old.now)) }
+{
+    let alloc = target.scope.alloc;
+    let new = upsert_tuple(alloc, base, array_or_empty(old), operations)?;
+    let write = Write::Upsert {
+        base,
+        tuple,
+        operations,
+    };
+    put_in_place(target, &write, key, Bytes::new(alloc), new, false)
+}
