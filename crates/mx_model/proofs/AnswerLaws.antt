@@ -1,36 +1,34 @@
 -- What a request is answered on a state, by the first test that it fails.
-use Rattle.std.proofs.Common.{◌≡◌, ◌⊎◌, inl, inr, ℕ, Bool, true, false, List, [], ◌∷◌, ◌++◌, refl, sym, ap, ◌∙◌, length, ◌<◌, ◌≤◌}
+use Rattle.std.proofs.Common.{◌≡◌, ◌⊎◌, inl, inr, ℕ, Bool, true, false, List, [], ◌∷◌, ◌++◌, refl, sym, ap, ◌∙◌, length, subst, ◌<◌, ◌≤◌, ◌^◌}
 use Rattle.std.specs.Prelude.{Option, Some, None, Ok, Err, Result, nat_lt, if◌then◌else◌}
 use Rattle.std.proofs.lemmas.Bool.{lt-ltb, le-ltb}
 use Rattle.mx_base.specs.declared.refusal.Refusal.{Refusal}
-use Rattle.mx_base.specs.declared.refusal.Refusal.TheVariants.{OutOfMemory, SpaceMissing, IndexMissing, ResultTooLong, TupleTooLong}
-use Rattle.mx_key.specs.declared.fault.KeyFault.{KeyFault}
-use Rattle.mx_key.specs.declared.fault.KeyFault.TheVariants.{NoMemory}
-use Rattle.mx_key.specs.declared.fault.NoKey.{NoKey}
-use Rattle.mx_key.specs.Faults.{key_fault_of}
+use Rattle.mx_base.specs.declared.refusal.Refusal.TheVariants.{SpaceMissing, IndexMissing, ResultTooLong}
 use Rattle.mx_key.specs.declared.fault.Misfit.{Misfit}
 use Rattle.mx_key.specs.declared.iterator.IterKind.{IterKind}
-use Rattle.mx_key.specs.Comparable.{comparable_of}
-use Rattle.mx_key.specs.Keys.{Key, AreFit}
-use Rattle.mx_schema.specs.declared.keyed.Keyed.{Keyed}
-use Rattle.mx_model.specs.statements.Replaces.{IsRefused, Replaces, TakesTuple}
+use Rattle.mx_key.specs.Keys.{Key}
 use Rattle.mx_key.specs.Parts.{key_of_array}
 use Rattle.mx_key.specs.Ranges.{Range, range_of}
 use Rattle.mx_request.specs.declared.request.Request.{Request}
 use Rattle.mx_request.specs.declared.request.Request.TheVariants as request
+use Rattle.mx_request.specs.Spelling.{IsAskable}
 use Rattle.mx_row.specs.declared.row.Row.{Row}
-use Rattle.mx_row.specs.Rows.{replace_row}
 use Rattle.mx_model.specs.Answers.{answer_to, state_after_row}
-use Rattle.mx_write.specs.Change.{state_after_change}
-use Rattle.mx_model.specs.statements.Change.{change_of}
-use Rattle.mx_tuple.specs.Fields.{max_tuple_size}
+use Rattle.mx_model.specs.Histories.{is_write}
+use Rattle.mx_write.specs.Change.{state_after_changed}
+use Rattle.mx_write.specs.Judge.{judged_write, row_change}
+use Rattle.mx_write.specs.Made.{Made}
+use Rattle.mx_write.specs.Writes.{Write, Insert, Replace, Update, Delete, Upsert, IsWellFormed, write_in}
+use Rattle.mx_write.specs.declared.writable.Writer.TheVariants.{Client}
+use Rattle.mx_model.specs.statements.Write.{answer_of_outcome, write_answer_in}
+use Rattle.mx_model.proofs.HistoryLaws.{select_no_row}
+use Rattle.mx_model.proofs.WriteLaws.{changes_again, changes_nothing}
 use Rattle.mx_schema.specs.declared.index_def.IndexDef.{IndexDef}
 use Rattle.mx_schema.specs.declared.schema.Schema.{Schema}
 use Rattle.mx_schema.specs.Catalogues.{index_with, schema_of}
 use Rattle.mx_schema.specs.Picks.{Selection, pick, entries_of, total_bytes, max_result_size}
-use Rattle.mx_schema.specs.State.{State, key_in, source_of}
-use Rattle.mx_write.specs.Checks.{fault_refusal}
-use Rattle.mx_model.specs.statements.Replace.{replace_by_key, replace_in_index, replace_unless, replace_answer, replace_answer_in, replaced, unwritable}
+use Rattle.mx_schema.specs.Sound.{IsSound}
+use Rattle.mx_schema.specs.State.{State, source_of}
 use Rattle.mx_write.specs.Lookup.{misfit_refusal}
 use Rattle.mx_model.specs.statements.Select.{range_reads, select_found, select_by_key, iterator_of, select_in_index, select_answer, select_answer_in}
 use Rattle.mx_write.specs.Reads.{space_read, schema_reads}
@@ -105,152 +103,24 @@ module _ (before : State) (space index limit offset : ℕ) (iterator : IterKind)
             → select ≡ tuples_after (schema_reads space ++ range_reads (source_of space) def.id.0 found.read) found.tuples
         tuples_are_picked short = by_range ∙ ap answer_by (le-ltb max_result_size (total_bytes found.tuples) short)
 
--- ---- a REPLACE
-
-module _ (before : State) (space : ℕ) (tuple : List ℕ) where
-  abbrev put : Answer
-  put = replace_answer_in before space tuple
-
-  abbrev by_primary : IndexDef → Answer
-  by_primary = replace_in_index before space tuple
-
-  pub replace_misses_space : schema_of before space ≡ None → put ≡ refusal_after (space_read space ∷ []) (SpaceMissing (record { 0 = space }))
-  replace_misses_space none = space_is_missing before space (replace_answer before space tuple) none
-
-  module _ (schema : Schema) (described : schema_of before space ≡ Some schema) where
-    in_schema_of : put ≡ replace_unless before space tuple schema (unwritable space tuple)
-    in_schema_of = space_is_there before space (replace_answer before space tuple) schema described
-
-    pub replace_is_unwritable : (refusal : Refusal) → unwritable space tuple ≡ Some refusal → put ≡ refusal_after (space_read space ∷ []) refusal
-    replace_is_unwritable refusal is = in_schema_of ∙ ap (replace_unless before space tuple schema) is
-
-    module _ (writable : unwritable space tuple ≡ None) where
-      in_space_of : put ≡ in_index space schema 0 by_primary
-      in_space_of = in_schema_of ∙ ap (replace_unless before space tuple schema) writable
-
-      pub replace_misses_index : index_with 0 schema.indexes ≡ None → put ≡ refusal_after (schema_reads space) (IndexMissing (record { 0 = 0 }) schema.def.name)
-      replace_misses_index none = in_space_of ∙ index_is_missing space schema 0 by_primary none
-
-      -- as the call tells it, which may also run out of memory
-      pub replace_misses_index_so : (shown : Schema) → shown ≡ schema → (refusal : Refusal)
-          → ((index_with 0 shown.indexes ≡ None) × (refusal ≡ IndexMissing (record { 0 = 0 }) shown.def.name)) ⊎ (refusal ≡ OutOfMemory) → IsRefused before space tuple refusal
-      replace_misses_index_so shown same refusal (inl (none, is)) =
-          inl (
-            schema_reads space,
-            replace_misses_index (sym (ap (λ (s : Schema). index_with 0 s.indexes) same) ∙ none)
-                ∙ ap (refusal_after (schema_reads space)) (sym (is ∙ ap (λ (s : Schema). IndexMissing (record { 0 = 0 }) s.def.name) same)),
-          )
-      replace_misses_index_so shown same refusal (inr none) = inr none
-
-      module _ (def : IndexDef) (is : index_with 0 schema.indexes ≡ Some def) where
-        abbrev put_by : Bool → Answer
-        put_by long =
-            if long then refusal_after (schema_reads space) (TupleTooLong (length tuple)) else replace_by_key before space tuple (key_in def.key tuple)
-
-        in_primary : put ≡ by_primary def
-        in_primary = in_space_of ∙ index_is_there space schema 0 by_primary def is
-
-        pub tuple_is_too_long : max_tuple_size < length tuple → put ≡ refusal_after (schema_reads space) (TupleTooLong (length tuple))
-        tuple_is_too_long above = in_primary ∙ ap put_by (lt-ltb max_tuple_size (length tuple) above)
-
-        module _ (short : length tuple ≤ max_tuple_size) where
-          by_primary_key : put ≡ replace_by_key before space tuple (key_in def.key tuple)
-          by_primary_key = in_primary ∙ ap put_by (le-ltb max_tuple_size (length tuple) short)
-
-          pub tuple_has_no_key : (why : NoKey) → key_in def.key tuple ≡ Err why → put ≡ refusal_after (schema_reads space) (fault_refusal why)
-          tuple_has_no_key why unkeyed = by_primary_key ∙ ap (replace_by_key before space tuple) unkeyed
-
-          pub tuple_is_replaced : (key : Key) → key_in def.key tuple ≡ Ok key → put ≡ replaced before space tuple
-          tuple_is_replaced key keyed = by_primary_key ∙ ap (replace_by_key before space tuple) keyed
-
--- a REPLACE writes no row, or it is no error
-pub replace_cases : (before : State) (space : ℕ) (tuple : List ℕ) → ((replace_answer_in before space tuple).row ≡ None)
-    ⊎ ((replace_answer_in before space tuple ≡ replaced before space tuple) × (nat_lt max_tuple_size (length tuple) ≡ false))
-replace_cases before space tuple = by_schema (schema_of before space)
-  where
-    no_row_or : Answer → Type 0
-    no_row_or answer = (answer.row ≡ None) ⊎ ((answer ≡ replaced before space tuple) × (nat_lt max_tuple_size (length tuple) ≡ false))
-
-    by_key : (key : Result Key NoKey) → nat_lt max_tuple_size (length tuple) ≡ false → no_row_or (replace_by_key before space tuple key)
-    by_key (Err why) short = inl refl
-    by_key (Ok key) short = inr (refl, short)
-
-    by_length : (def : IndexDef) (long : Bool) → nat_lt max_tuple_size (length tuple) ≡ long
-        → no_row_or (if long then refusal_after (schema_reads space) (TupleTooLong (length tuple)) else replace_by_key before space tuple (key_in def.key tuple))
-    by_length def true test = inl refl
-    by_length def false test = by_key (key_in def.key tuple) test
-
-    by_def : (schema : Schema) (def : Option IndexDef) → no_row_or (in_def space schema 0 def (replace_in_index before space tuple))
-    by_def schema None = inl refl
-    by_def schema (Some def) = by_length def (nat_lt max_tuple_size (length tuple)) refl
-
-    by_refusal : (schema : Schema) (refusal : Option Refusal) → no_row_or (replace_unless before space tuple schema refusal)
-    by_refusal schema (Some refusal) = inl refl
-    by_refusal schema None = by_def schema (index_with 0 schema.indexes)
-
-    by_schema : (schema : Option Schema) → no_row_or (in_schema space schema (replace_answer before space tuple))
-    by_schema None = inl refl
-    by_schema (Some schema) = by_refusal schema (unwritable space tuple)
-
--- ---- a tuple that its space takes
-
-module _ (before : State) (space : ℕ) (tuple : List ℕ) (def : IndexDef) (takes : TakesTuple before space tuple def) where
-  -- with its key it is no error
-  pub with_key : (keyed : Keyed) → (key : Key) × (key_in def.key tuple ≡ Ok key) × AreFit key × (keyed.key ≡ comparable_of key) × (keyed.tuple ≡ tuple)
-      → Replaces before space tuple keyed
-  with_key keyed (key, has, fit, bytes, copied) = record {
-    schema = takes.schema;
-    def = def;
-    key = key;
-    described = takes.described;
-    writable = takes.writable;
-    primary = takes.primary;
-    has = has;
-    fit = fit;
-    bytes = bytes;
-    copied = copied;
-    answer = tuple_is_replaced before space tuple takes.schema takes.described takes.writable def takes.primary takes.short key has;
-  }
-
-  -- without one it is refused
-  pub without_key : (fault : KeyFault) (refusal : Refusal) → ((why : NoKey) → fault ≡ key_fault_of why → refusal ≡ fault_refusal why) → (fault ≡ NoMemory → refusal ≡ OutOfMemory)
-      → ((why : NoKey) × (fault ≡ key_fault_of why) × (key_in def.key tuple ≡ Err why)) ⊎ (fault ≡ NoMemory) → IsRefused before space tuple refusal
-  without_key fault refusal refuses stops (inl (why, is, unkeyed)) =
-      inl (
-        schema_reads space,
-        tuple_has_no_key before space tuple takes.schema takes.described takes.writable def takes.primary takes.short why unkeyed
-            ∙ ap (refusal_after (schema_reads space)) (sym (refuses why is)),
-      )
-  without_key fault refusal refuses stops (inr none) = inr (stops none)
-
 -- ---- rows and changes
 
--- an answer writes nothing and changes nothing, or it writes a row and changes what that row does
+-- an answer writes nothing and changes nothing, or it writes a row and, on a sound state, changes what that row does
 abbrev pub Agrees : State → Answer → Type 0
-Agrees before answer = ((answer.row ≡ None) × (answer.change ≡ None)) ⊎ ((row : Row) × (answer.row ≡ Some row) × (answer.change ≡ Some (change_of before row)))
+Agrees before answer =
+    ((answer.row ≡ None) × (answer.change ≡ None)) ⊎ ((row : Row) × (answer.row ≡ Some row) × (IsSound before → answer.change ≡ row_change before row))
 
-replace_agrees : (before : State) (space : ℕ) (tuple : List ℕ) → Agrees before (replace_answer_in before space tuple)
-replace_agrees before space tuple = by_schema (schema_of before space)
+write_agrees : (before : State) (space : ℕ) (write : Write) → Agrees before (write_answer_in before space write)
+write_agrees before space write = by_outcome (judged_write Client before space write).outcome refl
   where
-    by_key : (key : Result Key NoKey) → Agrees before (replace_by_key before space tuple key)
-    by_key (Err why) = inl (refl, refl)
-    by_key (Ok key) = inr (replace_row space tuple, refl, refl)
-
-    by_length : (def : IndexDef) (long : Bool) → Agrees before (if long then refusal_after (schema_reads space) (TupleTooLong (length tuple)) else replace_by_key before space tuple (key_in def.key tuple))
-    by_length def true = inl (refl, refl)
-    by_length def false = by_key (key_in def.key tuple)
-
-    by_def : (schema : Schema) (def : Option IndexDef) → Agrees before (in_def space schema 0 def (replace_in_index before space tuple))
-    by_def schema None = inl (refl, refl)
-    by_def schema (Some def) = by_length def (nat_lt max_tuple_size (length tuple))
-
-    by_refusal : (schema : Schema) (refusal : Option Refusal) → Agrees before (replace_unless before space tuple schema refusal)
-    by_refusal schema (Some refusal) = inl (refl, refl)
-    by_refusal schema None = by_def schema (index_with 0 schema.indexes)
-
-    by_schema : (schema : Option Schema) → Agrees before (in_schema space schema (replace_answer before space tuple))
-    by_schema None = inl (refl, refl)
-    by_schema (Some schema) = by_refusal schema (unwritable space tuple)
+    by_outcome : (outcome : Result Made Refusal) → (judged_write Client before space write).outcome ≡ outcome
+        → Agrees before (answer_of_outcome (judged_write Client before space write).reads outcome)
+    by_outcome (Err refusal) is = inl (refl, refl)
+    by_outcome (Ok made) is = by_row made.row refl
+      where
+        by_row : (row : Option Row) → made.row ≡ row → Agrees before (answer_of_outcome (judged_write Client before space write).reads (Ok made))
+        by_row None none = inl (none, changes_nothing before space write made is none)
+        by_row (Some row) its = inr (row, its, λ sound. sym (changes_again before space write made row sound is its))
 
 select_agrees : (before : State) (space index limit offset : ℕ) (iterator : IterKind) (key : List ℕ) → Agrees before (select_answer_in before space index limit offset iterator key)
 select_agrees before space index limit offset iterator key = by_schema (schema_of before space)
@@ -278,11 +148,11 @@ select_agrees before space index limit offset iterator key = by_schema (schema_o
 answer_agrees : (before : State) (asked : Request) → Agrees before (answer_to before asked)
 unfolding answer_to
 answer_agrees before (request.Select space index limit offset iterator key) = select_agrees before space.0 index.0 limit offset (iterator_of iterator) key
-answer_agrees before (request.Replace space tuple) = replace_agrees before space.0 tuple
-answer_agrees before (request.Insert space tuple) = inl (refl, refl)
-answer_agrees before (request.Update space index first key operations) = inl (refl, refl)
-answer_agrees before (request.Delete space index key) = inl (refl, refl)
-answer_agrees before (request.Upsert space first tuple operations) = inl (refl, refl)
+answer_agrees before (request.Insert space tuple) = write_agrees before space.0 (Insert tuple)
+answer_agrees before (request.Replace space tuple) = write_agrees before space.0 (Replace tuple)
+answer_agrees before (request.Update space index first key operations) = write_agrees before space.0 (Update index.0 first key operations)
+answer_agrees before (request.Delete space index key) = write_agrees before space.0 (Delete index.0 key)
+answer_agrees before (request.Upsert space first tuple operations) = write_agrees before space.0 (Upsert first tuple operations)
 answer_agrees before request.Nop = inl (refl, refl)
 answer_agrees before request.Ping = inl (refl, refl)
 answer_agrees before request.Begin = inl (refl, refl)
@@ -293,14 +163,18 @@ answer_agrees before (request.Join instance) = inl (refl, refl)
 answer_agrees before (request.Subscribe instance set clock) = inl (refl, refl)
 answer_agrees before (request.Ack clock) = inl (refl, refl)
 
-pub row_changes : (before : State) (asked : Request) (row : Row) → (answer_to before asked).row ≡ Some row
-    → ((answer_to before asked).change ≡ Some (change_of before row)) × (state_after_row before row ≡ state_after_change before (change_of before row))
+pub row_changes : (before : State) (asked : Request) (row : Row) → IsSound before → (answer_to before asked).row ≡ Some row
+    → ((answer_to before asked).change ≡ row_change before row) × (state_after_row before row ≡ state_after_changed before (answer_to before asked).change)
 unfolding state_after_row
-row_changes before asked row is = by_answer (answer_agrees before asked)
+row_changes before asked row sound is = by_answer (answer_agrees before asked)
   where
-    by_answer : Agrees before (answer_to before asked) → ((answer_to before asked).change ≡ Some (change_of before row)) × (state_after_row before row ≡ state_after_change before (change_of before row))
+    by_answer : Agrees before (answer_to before asked)
+        → ((answer_to before asked).change ≡ row_change before row) × (state_after_row before row ≡ state_after_changed before (answer_to before asked).change)
     by_answer (inl (none, change)) = absurd cc
-    by_answer (inr (other, its, change)) = let same : other ≡ row = cc in (change ∙ ap (λ r. Some (change_of before r)) same, refl)
+    by_answer (inr (other, its, change)) =
+        let same : other ≡ row = cc in
+        let changes : (answer_to before asked).change ≡ row_change before row = change sound ∙ ap (row_change before) same in
+        (changes, ap (state_after_changed before) (sym changes))
 
 pub no_row_no_change : (before : State) (asked : Request) → (answer_to before asked).row ≡ None → (answer_to before asked).change ≡ None
 no_row_no_change before asked none = by_answer (answer_agrees before asked)
@@ -308,3 +182,85 @@ no_row_no_change before asked none = by_answer (answer_agrees before asked)
     by_answer : Agrees before (answer_to before asked) → (answer_to before asked).change ≡ None
     by_answer (inl (also, change)) = change
     by_answer (inr (row, its, change)) = absurd cc
+
+-- ---- which requests are writes
+
+one_write : (one other : ℕ × Write) → Some one ≡ Some other → one ≡ other
+one_write one other e = cc
+
+-- a write is answered as it is judged
+pub write_answered : (before : State) (asked : Request) (space : ℕ) (write : Write) → write_in asked ≡ Some (space, write)
+    → answer_to before asked ≡ write_answer_in before space write
+unfolding answer_to
+write_answered before (request.Insert in_space tuple) space write e = ap (λ w. write_answer_in before w.0 w.1) (one_write _ _ e)
+write_answered before (request.Replace in_space tuple) space write e = ap (λ w. write_answer_in before w.0 w.1) (one_write _ _ e)
+write_answered before (request.Update in_space index first key operations) space write e = ap (λ w. write_answer_in before w.0 w.1) (one_write _ _ e)
+write_answered before (request.Delete in_space index key) space write e = ap (λ w. write_answer_in before w.0 w.1) (one_write _ _ e)
+write_answered before (request.Upsert in_space first tuple operations) space write e = ap (λ w. write_answer_in before w.0 w.1) (one_write _ _ e)
+write_answered before (request.Select in_space index limit offset iterator key) space write e = absurd cc
+write_answered before request.Nop space write e = absurd cc
+write_answered before request.Ping space write e = absurd cc
+write_answered before request.Begin space write e = absurd cc
+write_answered before request.Commit space write e = absurd cc
+write_answered before request.Rollback space write e = absurd cc
+write_answered before request.Id space write e = absurd cc
+write_answered before (request.Join instance) space write e = absurd cc
+write_answered before (request.Subscribe instance set clock) space write e = absurd cc
+write_answered before (request.Ack clock) space write e = absurd cc
+
+-- it is a request that writes, and well formed where it can be asked
+pub write_writes : (asked : Request) (space : ℕ) (write : Write) → write_in asked ≡ Some (space, write) → is_write asked ≡ true
+write_writes (request.Insert in_space tuple) space write e = refl
+write_writes (request.Replace in_space tuple) space write e = refl
+write_writes (request.Update in_space index first key operations) space write e = refl
+write_writes (request.Delete in_space index key) space write e = refl
+write_writes (request.Upsert in_space first tuple operations) space write e = refl
+write_writes (request.Select in_space index limit offset iterator key) space write e = absurd cc
+write_writes request.Nop space write e = absurd cc
+write_writes request.Ping space write e = absurd cc
+write_writes request.Begin space write e = absurd cc
+write_writes request.Commit space write e = absurd cc
+write_writes request.Rollback space write e = absurd cc
+write_writes request.Id space write e = absurd cc
+write_writes (request.Join instance) space write e = absurd cc
+write_writes (request.Subscribe instance set clock) space write e = absurd cc
+write_writes (request.Ack clock) space write e = absurd cc
+
+abbrev Fits : ℕ × Write → Type 0
+Fits (space, write) = (space < 2 ^ 32) × IsWellFormed write
+
+pub write_fits : (asked : Request) (space : ℕ) (write : Write) → IsAskable asked → write_in asked ≡ Some (space, write) → (space < 2 ^ 32) × IsWellFormed write
+write_fits (request.Insert in_space tuple) space write can e = subst Fits (one_write _ _ e) (can.0, can.1)
+write_fits (request.Replace in_space tuple) space write can e = subst Fits (one_write _ _ e) (can.0, can.1)
+write_fits (request.Update in_space index first key operations) space write can e = subst Fits (one_write _ _ e) (can.0, (can.2, can.3, can.4))
+write_fits (request.Delete in_space index key) space write can e = subst Fits (one_write _ _ e) (can.0, can.2)
+write_fits (request.Upsert in_space first tuple operations) space write can e = subst Fits (one_write _ _ e) (can.0, (can.1, can.2, can.3))
+write_fits (request.Select in_space index limit offset iterator key) space write can e = absurd cc
+write_fits request.Nop space write can e = absurd cc
+write_fits request.Ping space write can e = absurd cc
+write_fits request.Begin space write can e = absurd cc
+write_fits request.Commit space write can e = absurd cc
+write_fits request.Rollback space write can e = absurd cc
+write_fits request.Id space write can e = absurd cc
+write_fits (request.Join instance) space write can e = absurd cc
+write_fits (request.Subscribe instance set clock) space write can e = absurd cc
+write_fits (request.Ack clock) space write can e = absurd cc
+
+-- what is no write leaves no row
+pub no_write_no_row : (before : State) (asked : Request) → write_in asked ≡ None → (answer_to before asked).row ≡ None
+unfolding answer_to
+no_write_no_row before (request.Select space index limit offset iterator key) none = select_no_row before space.0 index.0 limit offset (iterator_of iterator) key
+no_write_no_row before (request.Insert space tuple) none = absurd cc
+no_write_no_row before (request.Replace space tuple) none = absurd cc
+no_write_no_row before (request.Update space index first key operations) none = absurd cc
+no_write_no_row before (request.Delete space index key) none = absurd cc
+no_write_no_row before (request.Upsert space first tuple operations) none = absurd cc
+no_write_no_row before request.Nop none = refl
+no_write_no_row before request.Ping none = refl
+no_write_no_row before request.Begin none = refl
+no_write_no_row before request.Commit none = refl
+no_write_no_row before request.Rollback none = refl
+no_write_no_row before request.Id none = refl
+no_write_no_row before (request.Join instance) none = refl
+no_write_no_row before (request.Subscribe instance set clock) none = refl
+no_write_no_row before (request.Ack clock) none = refl

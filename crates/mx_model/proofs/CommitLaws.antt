@@ -1,35 +1,37 @@
 -- What a legal history commits can be written and read again.
 use Rattle.std.proofs.Common.{◌≡◌, ◌⊎◌, inl, inr, ℕ, suc, ◌+◌, ◌-◌, ◌^◌, ◌<◌, ◌≤◌, Bool, true, false, not, List, [], ◌∷◌, ◌++◌, length, refl, sym, ap, ◌∙◌, subst, arith}
-use Rattle.std.specs.Prelude.{◌==◌, ◌&&◌, Some, None, is_some, nat_lt, nat_le, slice_index, if◌then◌else◌}
+use Rattle.std.specs.Prelude.{◌==◌, ◌&&◌, Option, Some, None, Result, Ok, Err, is_none, nat_lt, nat_le, slice_index, if◌then◌else◌}
 use Rattle.std.proofs.lemmas.Bool.{eq-eqb}
 use Rattle.std.proofs.lemmas.Bool.Decides.{nat_tests}
 use Rattle.mx_vclock.specs.Vclocks.{max_lsn}
 use Rattle.mx_base.specs.declared.refusal.Refusal.TheVariants.{ReadOnly, LsnsUsedUp}
-use Rattle.mx_msgpack.proofs.SpellingLaws.{shortest_length}
-use Rattle.mx_msgpack.specs.Spelling.{shortest_unsigned}
 use Rattle.mx_base.specs.declared.ids.TxnName.{TxnName}
 use Rattle.mx_request.specs.declared.request.Ask.{Ask}
 use Rattle.mx_request.specs.declared.request.Ask.TheVariants as ask
 use Rattle.mx_request.specs.declared.request.Request.{Request}
 use Rattle.mx_request.specs.declared.request.Request.TheVariants as request
-use Rattle.mx_request.specs.Spelling.{IsAskable, IsInnerArray}
+use Rattle.mx_base.specs.declared.refusal.Refusal.{Refusal}
+use Rattle.mx_row.specs.declared.row.Row.{Row}
+use Rattle.mx_schema.specs.Sound.{IsSound}
+use Rattle.mx_write.specs.Change.{Change, state_after_changed}
+use Rattle.mx_write.specs.Judge.{judged_write, row_refusal}
+use Rattle.mx_write.specs.Made.{Made}
+use Rattle.mx_write.specs.Writes.{HasBytes, Write, Insert, Replace, Update, Delete, Upsert, IsWellFormed}
+use Rattle.mx_write.specs.declared.writable.Writer.TheVariants.{Client}
+use Rattle.mx_model.specs.statements.Write.{answer_of_outcome, write_answer_in}
+use Rattle.mx_model.proofs.WriteLaws.{changes_again, row_written, stays_sound, takes_again}
 use Rattle.mx_row.specs.declared.tx.Tx.{Tx}
 use Rattle.mx_model.specs.declared.reply.Reply.{Reply}
 use Rattle.mx_schema.specs.State.{State}
-use Rattle.mx_model.specs.Answers.{answer_to, state_after_rows}
-use Rattle.mx_model.specs.statements.Replace.{replace_answer_in, replaced}
-use Rattle.mx_tuple.specs.Fields.{max_tuple_size}
+use Rattle.mx_model.specs.Answers.{answer_to, state_after_row, state_after_rows}
 use Rattle.mx_model.specs.statements.Select.{iterator_of}
-use Rattle.mx_write.specs.Reads.{schema_reads}
 use Rattle.mx_model.specs.statements.Answer.{Answer, refusal_alone, refusal_after}
 use Rattle.mx_model.specs.Transactions.{state_after}
 use Rattle.mx_row.specs.Clocks.{clock_after, clock_after_one}
-use Rattle.mx_row.specs.Rows.{IsRow, replace_row}
-use Rattle.mx_row.proofs.SizeLaws.{tuple_size}
-use Rattle.mx_model.specs.Directories.{AllFollow, takes_row}
-use Rattle.mx_model.specs.Histories.{Base, History, Asked, Left, Took, Confirmed, Looked, Ledger, IsLegal, IsReply, is_out_of_memory, writable_node, with_lsn, commit_of, commits_of, ledger_of, journal_of, ledger_state, ledger_clock, next_lsn}
-use Rattle.mx_model.proofs.AnswerLaws.{replace_cases}
-use Rattle.mx_model.proofs.HistoryLaws.{base_of_ledger, committed-no_row, select_no_row, node_no_row}
+use Rattle.mx_row.specs.Rows.{IsRow}
+use Rattle.mx_model.specs.Directories.{AllFollow}
+use Rattle.mx_model.specs.Histories.{Base, History, Asked, Left, Took, Confirmed, Looked, Ledger, CanBeAsked, IsLegal, IsReply, is_out_of_memory, writable_node, with_lsn, commit_of, commits_of, is_write, ledger_of, journal_of, state_of, ledger_state, ledger_clock, next_lsn}
+use Rattle.mx_model.proofs.HistoryLaws.{base_of_ledger, committed-no_row, select_no_row, node_no_row, state_after-append}
 
 -- transactions that follow, and then others that follow those
 pub all_follow-append : (now : State) (clock : List ℕ) (xs ys : List Tx) → AllFollow now clock xs
@@ -44,125 +46,160 @@ not_above most lsn test = grind (arith, nat_tests)
 below : (most lsn : ℕ) → nat_lt most lsn ≡ false → lsn ≤ most
 below most lsn test = grind (arith, nat_tests)
 
--- no row, no commit
-no_commit : (now : State) (clock : List ℕ) (replica lsn : ℕ) (without_memory : Bool) → AllFollow now clock (commit_of replica lsn without_memory None)
-no_commit now clock replica lsn without_memory = subst (AllFollow now clock) (sym (committed-no_row replica lsn without_memory)) tt
+writable : (me : ℕ) → not (me == writable_node) ≡ false → me ≡ writable_node
+writable me test = grind (arith, nat_tests)
 
 -- the next lsn of a replica
 abbrev lsn_of : List ℕ → ℕ → ℕ
 lsn_of clock replica = suc (slice_index clock replica)
 
-writable : (me : ℕ) → not (me == writable_node) ≡ false → me ≡ writable_node
-writable me test = grind (arith, nat_tests)
+-- transactions that follow, and leave a sound state
+abbrev Goes : State → List ℕ → List Tx → Type 0
+Goes now clock transactions = AllFollow now clock transactions × IsSound (state_after now transactions)
 
--- a tuple that isn't too long makes a row that can be written
-row_can_be_written : (space : ℕ) (tuple : List ℕ) → space < 2 ^ 32 → IsInnerArray tuple → nat_lt max_tuple_size (length tuple) ≡ false
-    → IsRow (replace_row space tuple)
-row_can_be_written space tuple fits inner short =
-    let most = below max_tuple_size (length tuple) short in
-    let number = shortest_length space in
-    let size = tuple_size (replace_row space tuple) (length (shortest_unsigned space)) refl (λ is. omega (arith, is)) (λ is. omega (arith, is)) (λ is. omega (arith, is)) in
-    record { space = fits; parts = inr (inl (refl, inner)); short = omega arith }
+-- ---- the row that a request leaves
 
-module _ (now : State) (clock : List ℕ) (replica space : ℕ) (tuple : List ℕ) (without_memory : Bool)
-    (fits : space < 2 ^ 32) (inner : IsInnerArray tuple) where
-  -- the transactions that an answer commits
-  abbrev commits : Answer → List Tx
-  commits answer = commit_of replica (lsn_of clock replica) without_memory answer.row
+-- it can be written, the state takes it, and stays sound
+record LeavesRow (before : State) (row : Row) : Type 0 where
+  can : IsRow row
+  takes : row_refusal before row ≡ None
+  sound : IsSound (state_after_row before row)
 
-  -- a commit of the row
-  one_follows : (w : Bool) → IsRow (replace_row space tuple) → replica ≡ writable_node → takes_row now (replace_row space tuple) ≡ true
-      → nat_lt max_lsn (lsn_of clock replica) ≡ false
-      → AllFollow now clock (commit_of replica (lsn_of clock replica) w (Some (replace_row space tuple)))
-  one_follows true can node takes within = tt
-  one_follows false can node takes within = (
-    record { replica = omega arith; first = (omega arith, below max_lsn (lsn_of clock replica) within); row = (replace_row space tuple, refl, can) },
-    ap (λ me. not (me == 0)) node,
-    (ap (λ b. b && nat_le ((lsn_of clock replica + 1) - 1) max_lsn) (eq-eqb (lsn_of clock replica) (lsn_of clock replica) refl) ∙ not_above max_lsn (lsn_of clock replica) within),
-    (ap (λ b. b && true) takes),
-    tt,
-  )
+write_leaves : (before : State) (space : ℕ) (write : Write) (row : Row) → IsSound before → IsWellFormed write → HasBytes write → space < 2 ^ 32
+    → (write_answer_in before space write).row ≡ Some row → LeavesRow before row
+unfolding state_after_row
+write_leaves before space write row sound well bytes fits = by_outcome (judged_write Client before space write).outcome refl
+  where
+    by_outcome : (outcome : Result Made Refusal) → (judged_write Client before space write).outcome ≡ outcome
+        → (answer_of_outcome (judged_write Client before space write).reads outcome).row ≡ Some row → LeavesRow before row
+    by_outcome (Err refusal) is e = absurd cc
+    by_outcome (Ok made) is e = record {
+      can = row_written before space write made row sound well fits is e;
+      takes = takes_again before space write made row sound is e;
+      sound = subst (λ (change : Option Change). IsSound (state_after_changed before change)) (sym (changes_again before space write made row sound is e))
+          (stays_sound before space write made sound bytes is);
+    }
 
-  numbered_follows : (above : Bool) → IsRow (replace_row space tuple) → replica ≡ writable_node → takes_row now (replace_row space tuple) ≡ true
-      → nat_lt max_lsn (lsn_of clock replica) ≡ above
-      → AllFollow now clock (commits (if above then refusal_after (schema_reads space) LsnsUsedUp else replaced now space tuple))
-  numbered_follows true can node takes test = no_commit now clock replica (lsn_of clock replica) without_memory
-  numbered_follows false can node takes test = one_follows without_memory can node takes test
+request_leaves : (before : State) (asked : Request) (row : Row) → IsSound before → CanBeAsked asked → (answer_to before asked).row ≡ Some row
+    → LeavesRow before row × (is_write asked ≡ true)
+unfolding answer_to
+request_leaves before (request.Select space index limit offset iterator key) row sound can is =
+    let none = select_no_row before space.0 index.0 limit offset (iterator_of iterator) key in absurd cc
+request_leaves before (request.Insert space tuple) row sound can is = (write_leaves before space.0 (Insert tuple) row sound can.0.1 can.1 can.0.0 is, refl)
+request_leaves before (request.Replace space tuple) row sound can is = (write_leaves before space.0 (Replace tuple) row sound can.0.1 can.1 can.0.0 is, refl)
+request_leaves before (request.Update space index first key operations) row sound can is =
+    (write_leaves before space.0 (Update index.0 first key operations) row sound (can.0.2, can.0.3, can.0.4) can.1 can.0.0 is, refl)
+request_leaves before (request.Delete space index key) row sound can is = (write_leaves before space.0 (Delete index.0 key) row sound can.0.2 can.1 can.0.0 is, refl)
+request_leaves before (request.Upsert space first tuple operations) row sound can is =
+    (write_leaves before space.0 (Upsert first tuple operations) row sound (can.0.1, can.0.2, can.0.3) can.1 can.0.0 is, refl)
+request_leaves before request.Nop row sound can is = absurd cc
+request_leaves before request.Ping row sound can is = absurd cc
+request_leaves before request.Begin row sound can is = absurd cc
+request_leaves before request.Commit row sound can is = absurd cc
+request_leaves before request.Rollback row sound can is = absurd cc
+request_leaves before request.Id row sound can is = absurd cc
+request_leaves before (request.Join instance) row sound can is = absurd cc
+request_leaves before (request.Subscribe instance set clock) row sound can is = absurd cc
+request_leaves before (request.Ack clock) row sound can is = absurd cc
 
-  abbrev put : Answer
-  put = replace_answer_in now space tuple
+-- ---- its commit
 
-  -- what a REPLACE commits
-  replaced_follows : (read_only : Bool) → not (replica == writable_node) ≡ read_only
-      → AllFollow now clock (commits (if read_only then refusal_alone (ReadOnly (record { 0 = writable_node })) else with_lsn (lsn_of clock replica) put put.row))
-  replaced_follows true node = no_commit now clock replica (lsn_of clock replica) without_memory
-  replaced_follows false node = by_answer (replace_cases now space tuple)
-    where
-      by_answer : ((put.row ≡ None) ⊎ ((put ≡ replaced now space tuple) × (nat_lt max_tuple_size (length tuple) ≡ false)))
-          → AllFollow now clock (commits (with_lsn (lsn_of clock replica) put put.row))
-      by_answer (inl none) =
-          subst (λ row. AllFollow now clock (commit_of replica (lsn_of clock replica) without_memory row))
-          (sym (ap (λ row. (with_lsn (lsn_of clock replica) put row).row) none ∙ none))
-          (no_commit now clock replica (lsn_of clock replica) without_memory)
-      by_answer (inr (is, short)) =
-          let takes : takes_row now (replace_row space tuple) ≡ true = ap (λ (answer : Answer). is_some answer.row) is in
-          subst (λ (answer : Answer). AllFollow now clock (commits (with_lsn (lsn_of clock replica) answer answer.row))) (sym is)
-          (numbered_follows (nat_lt max_lsn (lsn_of clock replica)) (row_can_be_written space tuple fits inner short) (writable replica node) takes refl)
+module _ (now : State) (clock : List ℕ) (replica : ℕ) (sound : IsSound now) where
+  abbrev lsn : ℕ
+  lsn = lsn_of clock replica
+
+  no_commit : (without_memory : Bool) → Goes now clock (commit_of replica lsn without_memory None)
+  no_commit without_memory = subst (Goes now clock) (sym (committed-no_row replica lsn without_memory)) (tt, sound)
+
+  module _ (row : Row) (leaves : LeavesRow now row) (without_memory : Bool) where
+    one_commit : (w : Bool) → replica ≡ writable_node → nat_lt max_lsn lsn ≡ false → Goes now clock (commit_of replica lsn w (Some row))
+    one_commit true node within = (tt, sound)
+    one_commit false node within = (
+      (
+        record { replica = omega arith; first = (omega arith, below max_lsn lsn within); row = (row, refl, leaves.can) },
+        ap (λ me. not (me == 0)) node,
+        (ap (λ b. b && nat_le ((lsn + 1) - 1) max_lsn) (eq-eqb lsn lsn refl) ∙ not_above max_lsn lsn within),
+        (ap (λ refusal. is_none refusal && true) leaves.takes),
+        tt,
+      ),
+      leaves.sound,
+    )
+
+    numbered : (answer : Answer) → answer.row ≡ Some row → replica ≡ writable_node → (above : Bool) → nat_lt max_lsn lsn ≡ above
+        → Goes now clock (commit_of replica lsn without_memory (if above then refusal_after answer.reads LsnsUsedUp else answer).row)
+    numbered answer is node true test = no_commit without_memory
+    numbered answer is node false test = subst (λ r. Goes now clock (commit_of replica lsn without_memory r)) (sym is) (one_commit without_memory node test)
+
+    -- on a node that may be written or not
+    on_node : (answer : Answer) → answer.row ≡ Some row → (read_only : Bool) → not (replica == writable_node) ≡ read_only
+        → Goes now clock (commit_of replica lsn without_memory
+        (if read_only then refusal_alone (ReadOnly (record { 0 = writable_node })) else with_lsn lsn answer answer.row).row)
+    on_node answer is true node = no_commit without_memory
+    on_node answer is false node =
+        subst (λ r. Goes now clock (commit_of replica lsn without_memory (with_lsn lsn answer r).row)) (sym is)
+        (numbered answer is (writable replica node) (nat_lt max_lsn lsn) refl)
 
 -- a request that writes no row commits nothing
-none_follows : (ledger : Ledger) (name : TxnName) (asked : Request) (reply : Reply) → (answer_to (ledger_state ledger) asked).row ≡ None
-    → AllFollow (ledger_state ledger) (ledger_clock ledger) (commits_of ledger name (ask.Request asked) reply)
-none_follows ledger name asked reply none =
+none_goes : (ledger : Ledger) (name : TxnName) (asked : Request) (reply : Reply) → IsSound (ledger_state ledger) → (answer_to (ledger_state ledger) asked).row ≡ None
+    → Goes (ledger_state ledger) (ledger_clock ledger) (commits_of ledger name (ask.Request asked) reply)
+none_goes ledger name asked reply sound none =
     let lsn = next_lsn ledger in
-    subst (λ row. AllFollow (ledger_state ledger) (ledger_clock ledger) (commit_of ledger.base.ids.me lsn (is_out_of_memory reply) row))
+    subst (λ row. Goes (ledger_state ledger) (ledger_clock ledger) (commit_of ledger.base.ids.me lsn (is_out_of_memory reply) row))
     (sym (node_no_row ledger.base.ids (ledger_state ledger) lsn asked none))
-    (no_commit (ledger_state ledger) (ledger_clock ledger) ledger.base.ids.me lsn (is_out_of_memory reply))
+    (no_commit (ledger_state ledger) (ledger_clock ledger) ledger.base.ids.me sound (is_out_of_memory reply))
 
 -- what a request commits
-request_follows : (ledger : Ledger) (name : TxnName) (asked : Request) (reply : Reply) → IsAskable asked
-    → AllFollow (ledger_state ledger) (ledger_clock ledger) (commits_of ledger name (ask.Request asked) reply)
-unfolding answer_to
-request_follows ledger name (request.Select space index limit offset iterator key) reply can =
-    none_follows ledger name (request.Select space index limit offset iterator key) reply
-    (select_no_row (ledger_state ledger) space.0 index.0 limit offset (iterator_of iterator) key)
-request_follows ledger name (request.Replace space tuple) reply can =
-    replaced_follows (ledger_state ledger) (ledger_clock ledger) ledger.base.ids.me space.0 tuple (is_out_of_memory reply) can.0 can.1
-    (not (ledger.base.ids.me == writable_node)) refl
-request_follows ledger name (request.Insert space tuple) reply can = none_follows ledger name (request.Insert space tuple) reply refl
-request_follows ledger name (request.Update space index first key operations) reply can =
-    none_follows ledger name (request.Update space index first key operations) reply refl
-request_follows ledger name (request.Delete space index key) reply can = none_follows ledger name (request.Delete space index key) reply refl
-request_follows ledger name (request.Upsert space first tuple operations) reply can =
-    none_follows ledger name (request.Upsert space first tuple operations) reply refl
-request_follows ledger name request.Nop reply can = none_follows ledger name request.Nop reply refl
-request_follows ledger name request.Ping reply can = none_follows ledger name request.Ping reply refl
-request_follows ledger name request.Begin reply can = none_follows ledger name request.Begin reply refl
-request_follows ledger name request.Commit reply can = none_follows ledger name request.Commit reply refl
-request_follows ledger name request.Rollback reply can = none_follows ledger name request.Rollback reply refl
-request_follows ledger name request.Id reply can = none_follows ledger name request.Id reply refl
-request_follows ledger name (request.Join instance) reply can = none_follows ledger name (request.Join instance) reply refl
-request_follows ledger name (request.Subscribe instance set clock) reply can =
-    none_follows ledger name (request.Subscribe instance set clock) reply refl
-request_follows ledger name (request.Ack clock) reply can = none_follows ledger name (request.Ack clock) reply refl
+request_goes : (ledger : Ledger) (name : TxnName) (asked : Request) (reply : Reply) → IsSound (ledger_state ledger) → CanBeAsked asked
+    → Goes (ledger_state ledger) (ledger_clock ledger) (commits_of ledger name (ask.Request asked) reply)
+request_goes ledger name asked reply sound can = by_row (answer_to now asked).row refl
+  where
+    now : State
+    now = ledger_state ledger
+
+    me : ℕ
+    me = ledger.base.ids.me
+
+    by_test : Bool → Type 0
+    by_test read_only =
+        Goes now (ledger_clock ledger) (commit_of me (next_lsn ledger) (is_out_of_memory reply)
+        (if read_only then refusal_alone (ReadOnly (record { 0 = writable_node })) else with_lsn (next_lsn ledger) (answer_to now asked) (answer_to now asked).row).row)
+
+    by_row : (row : Option Row) → (answer_to now asked).row ≡ row → Goes now (ledger_clock ledger) (commits_of ledger name (ask.Request asked) reply)
+    by_row None none = none_goes ledger name asked reply sound none
+    by_row (Some row) is =
+        let (leaves, writes) = request_leaves now asked row sound can is in
+        subst by_test (ap (λ w. w && not (me == writable_node)) (sym writes))
+        (on_node now (ledger_clock ledger) me sound row leaves (is_out_of_memory reply) (answer_to now asked) is (not (me == writable_node)) refl)
 
 -- what an ask commits
-step_follows : (ledger : Ledger) (name : TxnName) (asked : Ask) (reply : Reply) → IsReply ledger name asked reply
-    → AllFollow (ledger_state ledger) (ledger_clock ledger) (commits_of ledger name asked reply)
-step_follows ledger name (ask.Refused refusal) reply told = tt
-step_follows ledger name ask.Leave reply told = tt
-step_follows ledger name (ask.Request asked) reply told = request_follows ledger name asked reply told.0
+step_goes : (ledger : Ledger) (name : TxnName) (asked : Ask) (reply : Reply) → IsSound (ledger_state ledger) → IsReply ledger name asked reply
+    → Goes (ledger_state ledger) (ledger_clock ledger) (commits_of ledger name asked reply)
+step_goes ledger name (ask.Refused refusal) reply sound told = (tt, sound)
+step_goes ledger name ask.Leave reply sound told = (tt, sound)
+step_goes ledger name (ask.Request asked) reply sound told = request_goes ledger name asked reply sound told.0
 
--- what a legal history commits follows the base
-pub commits_follow : (base : Base) (history : History) → IsLegal base history
-    → AllFollow base.state base.clock (journal_of base history)
-commits_follow base [] legal = tt
-commits_follow base (Asked name ask reply ∷ earlier) legal =
+-- what a legal history commits follows the base, and leaves a sound state
+history_goes : (base : Base) (history : History) → IsLegal base history → Goes base.state base.clock (journal_of base history)
+history_goes base [] legal = (tt, legal)
+history_goes base (Asked name ask reply ∷ earlier) legal =
     let ledger = ledger_of base earlier in
+    let journal = journal_of base earlier in
     let commits = commits_of ledger name ask reply in
-    all_follow-append base.state base.clock (journal_of base earlier) commits (commits_follow base earlier legal.0)
-    (subst (λ b. AllFollow (state_after b.state (journal_of base earlier)) (clock_after b.clock (journal_of base earlier)) commits)
-    (base_of_ledger base earlier) (step_follows ledger name ask reply legal.1))
-commits_follow base (Left connection ∷ earlier) legal = commits_follow base earlier legal.0
-commits_follow base (Took transactions upto ∷ earlier) legal = commits_follow base earlier legal.0
-commits_follow base (Confirmed upto ∷ earlier) legal = commits_follow base earlier legal.0
-commits_follow base (Looked ∷ earlier) legal = commits_follow base earlier legal.0
+    let (follow, sound) = history_goes base earlier legal.0 in
+    let before = subst (λ (b : Base). IsSound (state_after b.state journal)) (sym (base_of_ledger base earlier)) sound in
+    let (more, after) = subst (λ (b : Base). Goes (state_after b.state journal) (clock_after b.clock journal) commits) (base_of_ledger base earlier)
+    (step_goes ledger name ask reply before legal.1) in (
+      all_follow-append base.state base.clock journal commits follow more,
+      subst IsSound (sym (state_after-append base.state journal commits)) after,
+    )
+history_goes base (Left connection ∷ earlier) legal = history_goes base earlier legal.0
+history_goes base (Took transactions upto ∷ earlier) legal = history_goes base earlier legal.0
+history_goes base (Confirmed upto ∷ earlier) legal = history_goes base earlier legal.0
+history_goes base (Looked ∷ earlier) legal = history_goes base earlier legal.0
+
+pub commits_follow : (base : Base) (history : History) → IsLegal base history → AllFollow base.state base.clock (journal_of base history)
+commits_follow base history legal = (history_goes base history legal).0
+
+pub stays_sound_after : (base : Base) (history : History) → IsLegal base history → IsSound (state_of base history)
+stays_sound_after base history legal =
+    subst (λ (b : Base). IsSound (state_after b.state (journal_of base history))) (sym (base_of_ledger base history)) (history_goes base history legal).1

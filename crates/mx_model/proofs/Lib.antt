@@ -7,10 +7,10 @@ pub mod TransactionLaws
 pub mod CommitLaws
 pub mod BlockLaws
 pub mod OnceLaws
+pub mod WriteLaws
+mod ApplyLaws
 pub mod AnswerLaws
 pub mod FirstRowLaws
-pub mod PutLaws
-pub mod NoKeyLaws
 mod NodeLaws
 pub mod CountLaws
 pub mod DamageLaws
@@ -20,3 +20,9 @@ pub mod GateLaws
 pub mod ReadLaws
 pub mod ToldLaws
 pub mod SlowLaws
+pub mod SlowListLaws
+pub mod SlowSiteLaws
+pub mod SlowMakeLaws
+pub mod SlowWriteLaws
+pub mod SlowStageLaws
+pub mod SlowReadLaws

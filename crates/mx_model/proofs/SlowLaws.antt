@@ -1,86 +1,106 @@
 -- What the plain slow program finds and keeps is what the definitions say.
-use Rattle.std.proofs.Common.{◌≡◌, ◌⊎◌, inl, inr, ℕ, suc, ◌+◌, ◌-◌, Bool, true, false, cond, not, ◌&&◌, List, [], ◌∷◌, ◌++◌, map, drop, get_or, length, ◌<◌, ◌≤◌, refl, sym, ap, ◌∙◌, subst, append-nil, arith, add-one, ne_eqb, eq-eqb, nat_cmp}
-use Rattle.std.specs.Prelude.{Option, Some, None, Result, Ok, Err, IfOk, IfSome, MatchResult, OnOk, nat_lt, slice_index, slice_set, ◌==◌, if◌then◌else◌}
-use Rattle.std.specs.List.{AllByRecursion}
-use Rattle.std.specs.BTreeMap.{get_by, insert_entry, is_at}
-use Rattle.std.specs.FinMap.{empty, entries, insert}
+use Rattle.std.proofs.Common.{◌≡◌, inl, inr, ℕ, suc, ◌+◌, Bool, true, false, cond, not, ◌&&◌, List, [], ◌∷◌, ◌++◌, map, drop, get_or, length, ◌<◌, ◌≤◌, refl, sym, ap, ◌∙◌, subst, append-nil, append_assoc, arith, add-one, ne_eqb, eq-eqb, nat_cmp}
+use Rattle.std.specs.Prelude.{Option, Some, None, Result, Ok, Err, IfOk, IfSome, MatchResult, OnOk, ◌==◌, if◌then◌else◌}
+use Rattle.std.specs.BTreeMap.{insert_entry, is_at}
+use Rattle.std.specs.FinMap.{empty, entries, insert, remove}
 use Rattle.std.specs.Cmp.Lexicographic.{slice_cmp}
-use Rattle.std.proofs.lemmas.Bool.{eqb-true, lt-ltb, le-ltb}
+use Rattle.std.proofs.lemmas.Bool.{eqb-true}
 use Rattle.std.proofs.lemmas.Bool.Decides.{nat_tests}
 use Rattle.std.proofs.lemmas.List.{drop_all}
 use Rattle.std.proofs.Math.Seq.{drop-cons}
-use Rattle.mx_vclock.specs.Vclocks.{max_lsn, IsNext}
 use Rattle.mx_base.specs.declared.ids.IndexId.{IndexId}
 use Rattle.mx_base.specs.declared.ids.SpaceId.{SpaceId}
 use Rattle.mx_base.specs.declared.ids.TxnName.{TxnName}
-use Rattle.mx_base.specs.declared.refusal.Refusal.{Refusal}
-use Rattle.mx_base.specs.declared.refusal.Refusal.TheVariants.{LsnsUsedUp, ReadOnly}
+use Rattle.mx_base.specs.declared.refusal.Refusal.TheVariants.{ReadOnly}
 use Rattle.mx_request.specs.declared.request.Ask.TheVariants as ask
 use Rattle.mx_request.specs.declared.request.Request.{Request}
 use Rattle.mx_request.specs.declared.request.Request.TheVariants as request
 use Rattle.mx_key.specs.declared.edge.KeyRange.{KeyRange}
-use Rattle.mx_key.specs.declared.fault.KeyFault.{KeyFault}
-use Rattle.mx_key.specs.declared.fault.KeyFault.TheVariants.{NoMemory as NoKeyMemory}
-use Rattle.mx_key.specs.declared.fault.NoKey.{NoKey}
 use Rattle.mx_key.specs.declared.iterator.IterKind.{IterKind}
 use Rattle.mx_key.specs.Comparable.{comparable_of, edges_of}
-use Rattle.mx_key.specs.Faults.{key_fault_of}
 use Rattle.mx_key.specs.Keys.{Key, AreFit}
 use Rattle.mx_key.specs.Ranges.{range_of}
 use Rattle.mx_key.proofs.RangeLaws.{range_holds}
-use Rattle.mx_row.specs.Rows.{replace_row}
-use Rattle.mx_row.specs.declared.tx.Tx.{Tx}
-use Rattle.mx_row.specs.Clocks.{clock_after, clock_after_one}
-use Rattle.mx_row.proofs.ClockLaws.{clock_after-append}
+use Rattle.mx_row.specs.Clocks.{clock_after}
 use Rattle.mx_schema.specs.declared.index_def.IndexDef.{IndexDef}
 use Rattle.mx_schema.specs.declared.keyed.Keyed.{Keyed}
 use Rattle.mx_schema.specs.declared.pick.Pick.{Pick}
 use Rattle.mx_schema.specs.declared.pick.SelectStop.{SelectStop}
 use Rattle.mx_schema.specs.declared.schema.Schema.{Schema}
-use Rattle.mx_schema.specs.declared.state.Table.{Table}
-use Rattle.mx_schema.specs.Catalogues.{index_with, schema_of}
-use Rattle.mx_schema.specs.Picks.{Indexed, entry_key, indexed_with, total_bytes, max_result_size}
+use Rattle.mx_schema.specs.declared.tables.TableEntry.{TableEntry}
+use Rattle.mx_schema.specs.Catalogues.{index_with}
+use Rattle.mx_schema.specs.Picks.{entry_key, indexed_with, total_bytes, max_result_size}
 use Rattle.mx_schema.specs.Scans.{picked_of}
 use Rattle.mx_schema.specs.Selecting.{found_in}
 use Rattle.mx_schema.specs.State as plain
-use Rattle.mx_schema.specs.State.{State, key_in, tuples_in, with_tuple}
+use Rattle.mx_schema.specs.State.{State, key_in, tuples_in, with_tuple, without_tuple}
 use Rattle.mx_schema.specs.Stored.{StandByPrimary, StoredTuple, StoresSpace, StoresTuples, stored_list, stored_view}
+use Rattle.mx_schema.specs.Tables.{table_of}
 use Rattle.mx_schema.proofs.PickLaws as picks
 use Rattle.mx_schema.proofs.PickLaws.{fit_ends}
-use Rattle.mx_schema.proofs.StateLaws.{stands_after, tuples_after}
+use Rattle.mx_schema.proofs.StateLaws.{stands_after, stands_left, tuples_set}
 use Rattle.mx_schema.proofs.StoredLaws.{PartIndexed, one_indexed, all_indexed, stores_none}
 use Rattle.mx_model.specs.declared.reply.Reply.{Reply}
-use Rattle.mx_model.specs.declared.reply.Reply.TheVariants.{Tuples, Refused}
+use Rattle.mx_model.specs.declared.reply.Reply.TheVariants.{Refused}
 use Rattle.mx_model.specs.declared.slow.Slow.{Slow}
 use Rattle.mx_model.specs.declared.slow.SlowSpace.{SlowSpace}
-use Rattle.mx_model.specs.Answers.{answer_to, state_after_row}
+use Rattle.mx_model.specs.Answers.{answer_to}
 use Rattle.mx_model.specs.Histories.{Ledger, Asked, answer_in, commit_of, commits_of, is_out_of_memory, is_write, ledger_after, ledger_state, next_lsn, with_lsn, writable_node}
 use Rattle.mx_model.specs.Slow.{Answers, IsSlow, KeepsSpace, KeepsTuples, Takes}
-use Rattle.mx_model.specs.SlowSteps.{Finds, Gathers, KeepsBy, MovesTable}
+use Rattle.mx_model.specs.SlowSteps.{Finds, Gathers, IsMoved, KeepsBy, MovesTable}
 use Rattle.mx_model.specs.Transactions.{state_after}
-use Rattle.mx_write.specs.Reads.{Read}
-use Rattle.mx_model.specs.statements.Answer.{Answer, refusal_after, refusal_alone}
-use Rattle.mx_write.specs.Reads.{schema_reads}
-use Rattle.mx_write.specs.Checks.{fault_refusal}
-use Rattle.mx_model.specs.statements.Replace.{replace_answer_in, replaced}
-use Rattle.mx_model.specs.statements.Replaces.{Replaces, TakesTuple}
+use Rattle.mx_model.specs.statements.Answer.{Answer, refusal_alone}
 use Rattle.mx_model.specs.statements.Select.{iterator_of, select_answer_in}
-use Rattle.mx_model.proofs.AnswerLaws.{tuple_has_no_key}
-use Rattle.mx_model.proofs.HistoryLaws.{committed-no_row, select_no_row, state_after-append}
-use Rattle.mx_model.proofs.NoKeyLaws.{is_no_memory, same_why}
-use Rattle.mx_model.proofs.PutLaws.{row_puts, schema_stays}
+use Rattle.mx_model.proofs.HistoryLaws.{committed-no_row, select_no_row}
 
 -- ---- the tables of a state
 
--- a table was moved, or is still to come
-abbrev pub PartMoved : (whole : Option Table) → Option SlowSpace → (left : Option Table) → Type 0
-PartMoved whole None left = left ≡ whole
-PartMoved whole (Some space) left = (table : Table) × (whole ≡ Some table) × MovesTable table space × (left ≡ None)
+-- the last tables were moved, and the others are still to come
+pub record PartMoved (whole left : List TableEntry) (spaces : ℕ → Option SlowSpace) : Type 0 where
+  pub moved : List TableEntry
+  pub same : left ++ moved ≡ whole
+  pub are : (q : ℕ) → IsMoved (table_of q moved) (spaces q)
 
--- ---- a tuple more
+-- one more was
+pub one_moved : (whole left rest : List TableEntry) (entry : TableEntry) (space : SlowSpace) (was now : ℕ → Option SlowSpace) → left ≡ rest ++ entry ∷ []
+    → MovesTable entry.table space → ((q : ℕ) → now q ≡ cond (is_at (nat_cmp entry.space.0) q) (Some space) (was q)) → PartMoved whole left was → PartMoved whole rest now
+one_moved whole left rest entry space was now next moves updates part = record {
+  moved = entry ∷ part.moved;
+  same = sym (append_assoc rest (entry ∷ []) part.moved) ∙ ap (λ l. l ++ part.moved) (sym next) ∙ part.same;
+  are = λ q. subst (IsMoved (table_of q (entry ∷ part.moved))) (sym (updates q ∙ ap (λ b. cond b (Some space) (was q)) (tie_same entry.space.0 q))) (by_test q (entry.space.0 == q));
+}
+  where
+    tie_same : (a b : ℕ) → is_at (nat_cmp a) b ≡ (a == b)
+    tie_same a b = grind (arith, nat_tests)
+
+    by_test : (q : ℕ) (b : Bool) → IsMoved (cond b (Some entry.table) (table_of q part.moved)) (cond b (Some space) (was q))
+    by_test q true = moves
+    by_test q false = part.are q
+
+-- ---- a tuple more, and one less
 
 at_same : (a b : ℕ) → is_at (nat_cmp a) b ≡ (b == a)
 at_same a b = grind (arith, nat_tests)
+
+-- one space has other tuples, and the others are as before
+keeps_changed : (schemas : ℕ → Option Schema) (before : State) (space : ℕ) (all : plain.Tuples) (old new : ℕ → Option SlowSpace) (was now : SlowSpace) → old space ≡ Some was
+    → (KeepsSpace (schemas space) (Some was) (tuples_in before space) → KeepsSpace (schemas space) (Some now) all)
+    → ((q : ℕ) → new q ≡ cond (is_at (nat_cmp space) q) (Some now) (old q)) → KeepsBy schemas old before → KeepsBy schemas new (insert before space all)
+keeps_changed schemas before space all old new was now there changes updates keeps q = by_test (q == space) refl
+  where
+    by_test : (b : Bool) → (q == space) ≡ b → KeepsSpace (schemas q) (new q) (tuples_in (insert before space all) q)
+    by_test true e =
+        let found : new q ≡ Some now = updates q ∙ ap (λ b. cond b (Some now) (old q)) (at_same space q ∙ e) in
+        let tuples : tuples_in (insert before space all) q ≡ all = tuples_set before space all q ∙ ap (λ b. if b then all else tuples_in before q) e in
+        let had : KeepsSpace (schemas space) (Some was) (tuples_in before space) = subst (λ o. KeepsSpace (schemas space) o (tuples_in before space)) there (keeps space) in
+        subst (λ o. KeepsSpace (schemas q) o (tuples_in (insert before space all) q)) (sym found)
+        (subst (λ t. KeepsSpace (schemas q) (Some now) t) (sym tuples)
+        (subst (λ s. KeepsSpace (schemas s) (Some now) all) (sym (eqb-true q space e)) (changes had)))
+    by_test false e =
+        let found : new q ≡ old q = updates q ∙ ap (λ b. cond b (Some now) (old q)) (at_same space q ∙ e) in
+        let tuples : tuples_in (insert before space all) q ≡ tuples_in before q = tuples_set before space all q ∙ ap (λ b. if b then all else tuples_in before q) e in
+        subst (λ o. KeepsSpace (schemas q) o (tuples_in (insert before space all) q)) (sym found)
+        (subst (λ t. KeepsSpace (schemas q) (old q) t) (sym tuples) (keeps q))
 
 module _ (schemas : ℕ → Option Schema) (before : State) (space : ℕ) (schema : Schema) (key : Key) (tuple : List ℕ) (is : schemas space ≡ Some schema)
     (keyed : IfSome (index_with 0 schema.indexes) (λ def. key_in def.key tuple ≡ Ok key)) where
@@ -109,21 +129,20 @@ module _ (schemas : ℕ → Option Schema) (before : State) (space : ℕ) (schem
   pub keeps_put : (old new : ℕ → Option SlowSpace) (was now : SlowSpace) → old space ≡ Some was → now.schema ≡ was.schema
       → ((tuples : plain.Tuples) → StoresTuples (stored_list was.tuples.items) tuples → StoresTuples (stored_list now.tuples.items) (insert tuples key tuple))
       → ((q : ℕ) → new q ≡ cond (is_at (nat_cmp space) q) (Some now) (old q)) → KeepsBy schemas old before → KeepsBy schemas new put_into
-  keeps_put old new was now there same put updates keeps q = by_test (q == space) refl
-    where
-      by_test : (b : Bool) → (q == space) ≡ b → KeepsSpace (schemas q) (new q) (tuples_in put_into q)
-      by_test true e =
-          let found : new q ≡ Some now = updates q ∙ ap (λ b. cond b (Some now) (old q)) (at_same space q ∙ e) in
-          let tuples : tuples_in put_into q ≡ with_it = tuples_after before space key tuple q ∙ ap (λ b. if b then with_it else tuples_in before q) e in
-          let had : KeepsSpace (schemas space) (Some was) (tuples_in before space) = subst (λ o. KeepsSpace (schemas space) o (tuples_in before space)) there (keeps space) in
-          subst (λ o. KeepsSpace (schemas q) o (tuples_in put_into q)) (sym found)
-          (subst (λ t. KeepsSpace (schemas q) (Some now) t) (sym tuples)
-          (subst (λ s. KeepsSpace (schemas s) (Some now) with_it) (sym (eqb-true q space e)) (has_more was now same (put (tuples_in before space) had.keeps) had)))
-      by_test false e =
-          let found : new q ≡ old q = updates q ∙ ap (λ b. cond b (Some now) (old q)) (at_same space q ∙ e) in
-          let tuples : tuples_in put_into q ≡ tuples_in before q = tuples_after before space key tuple q ∙ ap (λ b. if b then with_it else tuples_in before q) e in
-          subst (λ o. KeepsSpace (schemas q) o (tuples_in put_into q)) (sym found)
-          (subst (λ t. KeepsSpace (schemas q) (old q) t) (sym tuples) (keeps q))
+  keeps_put old new was now there same put =
+      keeps_changed schemas before space with_it old new was now there (λ had. has_more was now same (put (tuples_in before space) had.keeps) had)
+
+-- one space has a tuple less
+pub keeps_left : (schemas : ℕ → Option Schema) (before : State) (space : ℕ) (key : Key) (old new : ℕ → Option SlowSpace) (was now : SlowSpace) → old space ≡ Some was → now.schema ≡ was.schema
+    → ((tuples : plain.Tuples) → StoresTuples (stored_list was.tuples.items) tuples → StoresTuples (stored_list now.tuples.items) (remove tuples key))
+    → ((q : ℕ) → new q ≡ cond (is_at (nat_cmp space) q) (Some now) (old q)) → KeepsBy schemas old before → KeepsBy schemas new (without_tuple before space key)
+keeps_left schemas before space key old new was now there same keep =
+    let all : plain.Tuples = remove (tuples_in before space) key in
+    keeps_changed schemas before space all old new was now there (λ had. record {
+      is = had.is ∙ ap (λ s. Some s) (sym same);
+      keeps = keep (tuples_in before space) had.keeps;
+      stands = subst (λ (s : Schema). StandByPrimary s all) (sym same) (stands_left was.schema (tuples_in before space) key had.stands);
+    })
 
 -- what follows from a call that succeeds
 pub where_ok : {X E P R : Type 0} (Q : Type 0) (result : Result X E) → MatchResult result (λ _. P) (λ _. Q) → (P → R) → OnOk result R
@@ -209,7 +228,7 @@ stays_slow slow ledger name asked reply none is =
     }
 
 -- the answer to a request is this one, which writes no row
-told_alone : (slow : Slow) (ledger : Ledger) (name : TxnName) (asked : Request) (answer : Answer) (reply : Reply) → IsSlow slow ledger
+pub told_alone : (slow : Slow) (ledger : Ledger) (name : TxnName) (asked : Request) (answer : Answer) (reply : Reply) → IsSlow slow ledger
     → answer_in ledger name asked ≡ answer → reply ≡ answer.reply → answer.row ≡ None → Answers slow ledger name asked reply
 told_alone slow ledger name asked answer reply is gives tells none = record {
   told = tells ∙ sym (ap (λ a. a.reply) gives);
@@ -238,7 +257,7 @@ takes_it slow ledger asked is (inr here) =
     never false = refl
 
 -- what it is answered then
-answer_taken : (slow : Slow) (ledger : Ledger) (name : TxnName) (asked : Request) (answer : Answer) → IsSlow slow ledger → Takes slow asked
+pub answer_taken : (slow : Slow) (ledger : Ledger) (name : TxnName) (asked : Request) (answer : Answer) → IsSlow slow ledger → Takes slow asked
     → answer_to (ledger_state ledger) asked ≡ answer → answer_in ledger name asked ≡ with_lsn (next_lsn ledger) answer answer.row
 answer_taken slow ledger name asked answer is takes gives =
     ap (λ refuses. node_by refuses (next_lsn ledger) (answer_to (ledger_state ledger) asked)) (takes_it slow ledger asked is takes)
@@ -266,87 +285,3 @@ slow_selects slow ledger name is asked space index limit offset iterator key sou
     ∙ ap (λ k. select_answer_in before space.0 index.0 limit offset kind k) (sym sought_is) in
     slow_is_told slow ledger name is asked _ reply (inl (ap is_write same)) answer tells
     (select_no_row before space.0 index.0 limit offset kind sought)
-
--- ---- a REPLACE
-
--- why a tuple has no key, by the fault that tells it
-pub fault_is_told : (before : State) (space : ℕ) (tuple : List ℕ) (def : IndexDef) → TakesTuple before space tuple def → (fault : KeyFault) (why : NoKey) (refusal : Refusal)
-    → fault ≡ key_fault_of why → refusal ≡ fault_refusal why → ((told : NoKey) × (fault ≡ key_fault_of told) × (key_in def.key tuple ≡ Err told)) ⊎ (fault ≡ NoKeyMemory)
-    → (reads : List Read) × (replace_answer_in before space tuple ≡ refusal_after reads refusal)
-fault_is_told before space tuple def takes fault why refusal by is (inl (found, also, unkeyed)) =
-    let same : found ≡ why = same_why found why (sym also ∙ by) in (
-      schema_reads space,
-      tuple_has_no_key before space tuple takes.schema takes.described takes.writable def takes.primary takes.short found unkeyed
-          ∙ ap (refusal_after (schema_reads space)) (ap fault_refusal same ∙ sym is),
-    )
-fault_is_told before space tuple def takes fault why refusal by is (inr none) = absurd (is_no_memory why (sym by ∙ none))
-
--- spaces that have a tuple that was put have what its row makes of the state
-keeps_after : (before : State) (space : ℕ) (tuple : List ℕ) (keyed : Keyed) (replaces : Replaces before space tuple keyed) (spaces : ℕ → Option SlowSpace)
-    → KeepsBy (schema_of before) spaces (with_tuple before space replaces.key keyed.tuple)
-    → KeepsBy (schema_of (state_after_row before (replace_row space tuple))) spaces (state_after_row before (replace_row space tuple))
-keeps_after before space tuple keyed replaces spaces keeps =
-    let put = with_tuple before space replaces.key keyed.tuple in
-    subst (λ (s : State). KeepsBy (schema_of s) spaces s) (row_puts before space tuple keyed replaces)
-    (λ q. subst (λ (s : Option Schema). KeepsSpace s (spaces q) (tuples_in put q)) (sym (schema_stays before space tuple keyed replaces q)) (keeps q))
-
-module _ (slow : Slow) (ledger : Ledger) (name : TxnName) (is : IsSlow slow ledger) (space : SpaceId) (tuple : List ℕ) (here : slow.ids.me ≡ writable_node) where
-  abbrev before : State
-  before = ledger_state ledger
-
-  abbrev asked : Request
-  asked = request.Replace space tuple
-
-  asked_put : answer_to before asked ≡ replace_answer_in before space.0 tuple
-  unfolding answer_to
-  asked_put = refl
-
-  -- it is refused
-  pub slow_refuses : (refusal : Refusal) → (reads : List Read) × (replace_answer_in before space.0 tuple ≡ refusal_after reads refusal) → Answers slow ledger name asked (Refused refusal)
-  slow_refuses refusal (reads, answer) =
-      slow_is_told slow ledger name is asked (refusal_after reads refusal) (Refused refusal) (inr here) (asked_put ∙ answer) refl refl
-
-  -- it is no error
-  module _ (keyed : Keyed) (replaces : Replaces before space.0 tuple keyed) where
-    -- the lsn of the node
-    lsn_is : suc (slice_index slow.clock writable_node) ≡ next_lsn ledger
-    lsn_is = ap (λ id. suc (slice_index slow.clock id)) (sym here ∙ ap (λ ids. ids.me) is.ids) ∙ ap (λ clock. suc (slice_index clock ledger.base.ids.me)) is.clock
-
-    abbrev answer : Bool → Answer
-    answer used_up = if used_up then refusal_after (schema_reads space.0) LsnsUsedUp else replaced before space.0 tuple
-
-    answer_by : (used_up : Bool) → nat_lt max_lsn (next_lsn ledger) ≡ used_up → answer_in ledger name asked ≡ answer used_up
-    answer_by used_up test = answer_taken slow ledger name asked (answer false) is (inr here) (asked_put ∙ replaces.answer) ∙ ap answer test
-
-    pub slow_used_up : max_lsn < suc (slice_index slow.clock writable_node) → Answers slow ledger name asked (Refused LsnsUsedUp)
-    slow_used_up above =
-        told_alone slow ledger name asked (answer true) (Refused LsnsUsedUp) is
-        (answer_by true (ap (nat_lt max_lsn) (sym lsn_is) ∙ lt-ltb max_lsn _ above)) refl refl
-
-    -- the spaces have the tuple
-    pub slow_replaces : (new : Slow) (tuples : List (List ℕ)) (lsn : ℕ) → tuples ≡ tuple ∷ [] → new.ids ≡ slow.ids
-        → KeepsBy (schema_of before) (λ q. get_by (nat_cmp q) new.spaces) (with_tuple before space.0 replaces.key keyed.tuple)
-        → IsNext slow.clock writable_node lsn → new.clock ≡ slice_set slow.clock writable_node lsn → Answers new ledger name asked (Tuples tuples)
-    slow_replaces new tuples lsn one ids keeps next clock =
-        let number : next_lsn ledger ≡ lsn = sym lsn_is ∙ sym next.follows in
-        let me : ledger.base.ids.me ≡ writable_node = ap (λ ids. ids.me) (sym is.ids) ∙ here in
-        let gives = answer_by false (ap (nat_lt max_lsn) number ∙ le-ltb max_lsn lsn next.allowed) in
-        let transaction : Tx = record { replica = record { 0 = writable_node }; first = record { 0 = lsn }; rows = replace_row space.0 tuple ∷ [] } in
-        let commits : transaction ∷ [] ≡ commits_of ledger name (ask.Request asked) (Tuples tuples) =
-        sym (ap (λ a. commit_of ledger.base.ids.me (next_lsn ledger) false a.row) gives
-        ∙ ap (λ id. commit_of id (next_lsn ledger) false (Some (replace_row space.0 tuple))) me
-        ∙ ap (λ first. commit_of writable_node first false (Some (replace_row space.0 tuple))) number) in
-        let last : lsn ≡ (lsn + 1) - 1 = omega arith in
-        let journal = ap (λ more. ledger.journal ++ more) commits in
-        record {
-          told = ap (λ t. Tuples t) one ∙ sym (ap (λ a. a.reply) gives);
-          after = record {
-            keeps = subst (λ (s : State). KeepsBy (schema_of s) (λ q. get_by (nat_cmp q) new.spaces) s)
-                (sym (state_after-append ledger.base.state ledger.journal (transaction ∷ [])) ∙ ap (state_after ledger.base.state) journal)
-                (keeps_after before space.0 tuple keyed replaces (λ q. get_by (nat_cmp q) new.spaces) keeps);
-            clock = clock ∙ ap (slice_set slow.clock writable_node) last ∙ ap (λ c. clock_after_one c transaction) is.clock
-                ∙ sym (clock_after-append ledger.base.clock ledger.journal (transaction ∷ []))
-                ∙ ap (clock_after ledger.base.clock) journal;
-            ids = ids ∙ is.ids;
-          };
-        }

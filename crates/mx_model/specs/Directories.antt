@@ -1,5 +1,5 @@
 -- What the journals of a directory recover to, or what is damaged in them.
-use Rattle.std.specs.Prelude.{◌≡◌, ◌⊎◌, ⊤, ℕ, ◌+◌, Bool, true, false, not, ◌&&◌, List, [], ◌∷◌, ◌++◌, length, map, sum, replicate, Option, Some, None, Result, Ok, Err, is_some, ◌==◌, IfSome, if◌then◌else◌}
+use Rattle.std.specs.Prelude.{◌≡◌, ◌⊎◌, ⊤, ℕ, ◌+◌, Bool, true, false, not, ◌&&◌, List, [], ◌∷◌, ◌++◌, length, map, sum, replicate, Option, Some, None, Result, Ok, Err, is_none, ◌==◌, IfSome, if◌then◌else◌}
 use Rattle.std.specs.List.{filter, last_or, AllByRecursion}
 use Rattle.std.specs.FinMap as finite
 use Rattle.uuid.specs.Text.{hyphenated_text, lower}
@@ -13,10 +13,10 @@ use Rattle.mx_schema.specs.Bootstrap.{first_state}
 use Rattle.mx_schema.specs.State.{State}
 use Rattle.mx_row.specs.declared.row.Row.{Row}
 use Rattle.mx_model.specs.Answers.{state_after_rows}
-use Rattle.mx_model.specs.statements.Replace.{replace_answer_in}
+use Rattle.mx_write.specs.Judge.{row_refusal}
 use Rattle.mx_row.specs.declared.tx.Tx.{Tx}
 use Rattle.mx_row.specs.Clocks.{clock_after_one, follows}
-use Rattle.mx_row.specs.Rows.{IsTransaction, replace_type, transactions_in}
+use Rattle.mx_row.specs.Rows.{IsTransaction, transactions_in}
 use Rattle.mx_model.specs.Histories.{Base}
 use Rattle.mx_files.specs.Names.{is_journal, is_snapshot, journal_name, same_bytes}
 use Rattle.mx_xlog.specs.Files.{FileRead, ReadsAs}
@@ -71,9 +71,9 @@ ids_or ids (Some found) = found
 abbrev pub head_fits : List ℕ → Head → Reached → Bool
 head_fits name head reached = not head.snapshot && same_bytes name (journal_name (sum head.clock)) && are_its_ids reached.ids head
 
--- the state takes the row: it is a REPLACE's, which is no error
+-- the state takes the row: as a write it isn't refused
 abbrev pub takes_row : State → Row → Bool
-takes_row state row = (row.kind == replace_type) && is_some (replace_answer_in state row.space.0 row.tuple).row
+takes_row state row = is_none (row_refusal state row)
 
 -- the state takes the rows, each after those before it
 abbrev pub takes_rows : State → List Row → Bool

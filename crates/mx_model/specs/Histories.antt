@@ -13,6 +13,8 @@ use Rattle.mx_request.specs.declared.request.Request.TheVariants as request
 use Rattle.mx_model.specs.declared.ids.Ids.{Ids}
 use Rattle.mx_row.specs.declared.row.Row.{Row}
 use Rattle.mx_row.specs.declared.tx.Tx.{Tx}
+use Rattle.mx_schema.specs.Sound.{IsSound}
+use Rattle.mx_write.specs.Writes.{TupleIsBytes, write_in}
 use Rattle.mx_schema.specs.State.{State}
 use Rattle.mx_model.specs.declared.reply.Reply.{Reply}
 use Rattle.mx_model.specs.declared.reply.Reply.TheVariants.{Empty, Refused}
@@ -144,12 +146,16 @@ reply_to ledger name (ask.Refused refusal) = Refused refusal
 reply_to ledger name ask.Leave = Empty
 reply_to ledger name (ask.Request request) = (answer_in ledger name request).reply
 
+-- the request can be asked, and has bytes alone
+abbrev pub CanBeAsked : Request → Type 0
+CanBeAsked asked = IsAskable asked × TupleIsBytes (write_in asked)
+
 -- the request can be asked, and the reply is the one that the ledger demands, or out of memory; a disconnect has no reply
 abbrev pub IsReply : Ledger → TxnName → Ask → Reply → Type 0
 IsReply ledger name (ask.Refused refusal) reply = reply ≡ Refused refusal
 IsReply ledger name ask.Leave reply = ⊥
 IsReply ledger name (ask.Request request) reply =
-    IsAskable request × ((reply ≡ (answer_in ledger name request).reply) ⊎ (reply ≡ Refused OutOfMemory))
+    CanBeAsked request × ((reply ≡ (answer_in ledger name request).reply) ⊎ (reply ≡ Refused OutOfMemory))
 
 -- The entry is what the history before it demands: a take has what no earlier one took, and a confirmation names an earlier
 -- take.
@@ -159,9 +165,9 @@ Follows ledger (Took transactions upto) = (transactions ≡ drop ledger.taken le
 Follows ledger (Confirmed upto) = Contains ledger.takes upto
 Follows ledger _ = ⊤
 
--- each entry is what the entries before it demand
+-- The base is sound, and each entry is what the entries before it demand.
 abbrev pub IsLegal : Base → History → Type 0
-IsLegal base [] = Unit {0}
+IsLegal base [] = IsSound base.state
 IsLegal base (entry ∷ earlier) = IsLegal base earlier × Follows (ledger_of base earlier) entry
 
 -- a connection disconnects

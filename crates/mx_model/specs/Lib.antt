@@ -11,3 +11,6 @@ pub mod ReplyStream
 pub mod Survival
 pub mod Slow
 pub mod SlowSteps
+pub mod SlowWrites
+pub mod SlowReads
+pub mod SlowReadSteps

@@ -5,7 +5,7 @@ use Rattle.mx_schema.specs.declared.pick.Pick.{Pick}
 use Rattle.mx_schema.specs.declared.pick.SelectStop.{SelectStop}
 use Rattle.mx_schema.specs.declared.pick.SelectStop.TheVariants.{TooLong, NoMemory}
 use Rattle.mx_schema.specs.declared.schema.Schema.{Schema}
-use Rattle.mx_schema.specs.declared.state.Table.{Table}
+use Rattle.mx_schema.specs.declared.table.Table.{Table}
 use Rattle.mx_schema.specs.Picks.{Indexed, total_bytes, max_result_size}
 use Rattle.mx_schema.specs.Scans.{picked_of}
 use Rattle.mx_schema.specs.Selecting.{IsStopped}

@@ -1,6 +1,7 @@
 //! What a database is and does, apart from how: states, answers, histories, replies.
 #![tactic(auto)]
 
+mod apply;
 mod damage;
 mod ids;
 mod laws;
@@ -12,6 +13,7 @@ mod slow;
 mod statements;
 mod txs;
 
+pub use apply::apply_row;
 pub use damage::{Damage, DamageKind};
 pub use ids::Ids;
 pub use laws::{
@@ -21,7 +23,6 @@ pub use new_database::bootstrap;
 pub use node::{WRITABLE_NODE, is_write, next_lsn};
 pub use out_units::{OutUnit, OutUnits};
 pub use reply::Reply;
-pub use slow::Slow;
-pub use statements::replace::{check_replace, check_replace_of_array};
+pub use slow::{ReadRange, ReadRanges, Slow};
 pub use statements::select::{iterator_of, misfit_refusal};
 pub use txs::Txs;

@@ -7,10 +7,7 @@ ghost use Rattle.std.specs.FinMap.{empty, entries};
 ghost use Rattle.std.specs.Ordering.{nat_cmp, is_lt};
 ghost use Rattle.std.specs.Cmp.Lexicographic.{slice_cmp};
 ghost use Rattle.mx_base.specs.declared.ids.TxnName.{TxnName};
-ghost use Rattle.mx_request.specs.declared.request.Request.TheVariants.{Replace};
-ghost use Rattle.mx_key.specs.declared.fault.NoKey.{NoKey};
 ghost use Rattle.mx_key.specs.Comparable.{comparable_of, edges_of};
-ghost use Rattle.mx_key.specs.Faults.{key_fault_of};
 ghost use Rattle.mx_key.specs.Keys.{Key, AreFit};
 ghost use Rattle.mx_key.specs.Ranges.{range_of};
 ghost use Rattle.mx_schema.specs.declared.schema.Schema.{Schema};
@@ -20,31 +17,37 @@ ghost use Rattle.mx_schema.specs.Selecting.{found_in};
 ghost use Rattle.mx_schema.specs.State as plain;
 ghost use Rattle.mx_schema.specs.State.{key_in, source_of, tuples_in, with_tuple};
 ghost use Rattle.mx_schema.specs.Stored.{Holds, StoresTuples, stored_list};
-ghost use Rattle.mx_write.specs.Reads.{Read};
-ghost use Rattle.mx_model.specs.statements.Answer.{refusal_after};
-ghost use Rattle.mx_model.specs.statements.Replace.{replace_answer_in};
-ghost use Rattle.mx_model.specs.statements.Replaces.{Replaces};
+ghost use Rattle.mx_schema.specs.Tables.{table_of};
 ghost use Rattle.mx_model.specs.statements.Select.{select_answer_in};
 ghost use Rattle.mx_model.specs.Histories.{Base, Ledger, is_write, ledger_of, writable_node};
 ghost use Rattle.mx_model.specs.Slow.{Answers, IsSlow, KeepsTuples, Takes};
 ghost use Rattle.mx_model.specs.SlowSteps.{Finds, Gathers, IsMoved, KeepsBy, MovesTable};
 
+mod changes;
+mod duplicates;
+mod list;
+mod read_ranges;
+mod reads;
+mod site;
+mod updates;
+mod write_reads;
+mod writes;
+
 use crate::ids::Ids;
-use crate::node::{WRITABLE_NODE, is_write, next_lsn};
+use crate::node::{WRITABLE_NODE, is_write};
 use crate::reply::Reply;
-use crate::statements::replace::unwritable;
 use crate::statements::select::{iterator_of, misfit_refusal};
 use mx_base::{IndexId, Refusal, ReplicaId, SpaceId, TxnName};
-use mx_key::{KeyFault, KeyRange, NoKey, misfit, range};
+use mx_key::{KeyRange, misfit, range};
 use mx_msgpack::{Bytes, Tuples};
 use mx_request::Request;
 use mx_schema::{
-    IndexDef, Keyed, MAX_RESULT_SIZE, Pick, Schema, SelectStop, State, Table, index_tuple,
-    key_tuple, source_of,
+    IndexDef, Keyed, MAX_RESULT_SIZE, Pick, Schema, SelectStop, State, Table, TableEntry,
+    index_tuple, source_of,
 };
-use mx_tuple::MAX_TUPLE_SIZE;
 use mx_vclock::Vclock;
-use mx_write::{fault_refusal, index_missing, not_built};
+use mx_write::{Write, index_missing, not_built};
+pub use read_ranges::{ReadRange, ReadRanges};
 use std::alloc::{AllocError, Global};
 use std::collections::BTreeMap;
 
@@ -106,14 +109,52 @@ impl Slow {
                 };
                 self.select(*space, *index, &pick)
             }
-            Request::Replace { space, tuple } => self.replace(*space, tuple.as_slice()),
             Request::Nop | Request::Ping => Ok(Reply::Empty),
             Request::Id => Ok(Reply::Id),
-            Request::Insert { .. }
-            | Request::Update { .. }
-            | Request::Delete { .. }
-            | Request::Upsert { .. }
-            | Request::Begin
+            Request::Insert { space, tuple } => {
+                let tuple = tuple.as_slice();
+                self.write(*space, &Write::Insert { tuple })
+            }
+            Request::Replace { space, tuple } => {
+                let tuple = tuple.as_slice();
+                self.write(*space, &Write::Replace { tuple })
+            }
+            Request::Update {
+                space,
+                index,
+                base,
+                key,
+                ops,
+            } => {
+                let write = Write::Update {
+                    index: *index,
+                    base: *base,
+                    key: key.as_slice(),
+                    operations: ops.as_slice(),
+                };
+                self.write(*space, &write)
+            }
+            Request::Delete { space, index, key } => {
+                let write = Write::Delete {
+                    index: *index,
+                    key: key.as_slice(),
+                };
+                self.write(*space, &write)
+            }
+            Request::Upsert {
+                space,
+                base,
+                tuple,
+                ops,
+            } => {
+                let write = Write::Upsert {
+                    base: *base,
+                    tuple: tuple.as_slice(),
+                    operations: ops.as_slice(),
+                };
+                self.write(*space, &write)
+            }
+            Request::Begin
             | Request::Commit
             | Request::Rollback
             | Request::Join { .. }
@@ -161,68 +202,17 @@ impl Slow {
             None => &[],
         }
     }
-
-    fn replace(&mut self, space: SpaceId, tuple: &[u8]) -> Result<Reply, AllocError>
-        requires { self.old.ids.me ≡ writable_node }
-        ensures { (ledger : Ledger) (name : TxnName) → IsSlow self.old ledger → MatchResult result
-            (λ reply. Answers self.new ledger name (Replace space tuple.now) reply)
-            (λ _. IsSlow self.new ledger) }
-    {
-        let keyed = match self.check_replace(space, tuple)? {
-            Ok(keyed) => keyed,
-            Err(refusal) => return Ok(Reply::Refused(refusal)),
-        };
-        let mut clock = self.clock;
-        let Some(_) = next_lsn(&mut clock) else {
-            return Ok(Reply::Refused(Refusal::LsnsUsedUp));
-        };
-        let mut tuples = Tuples::new(self.alloc);
-        tuples.push(tuple)?;
-        put_into(&mut self.spaces, space, keyed)?;
-        self.clock = clock;
-        Ok(Reply::Tuples(tuples))
-    }
-
-    /// A copy of the tuple with its primary key, or why a REPLACE of it is refused.
-    fn check_replace(
-        &self,
-        space: SpaceId,
-        tuple: &[u8],
-    ) -> Result<Result<Keyed, Refusal>, AllocError>
-        ensures { (state : plain.State) → KeepsTuples self.now state → IfOk result (λ checked. MatchResult checked
-            (λ keyed. Replaces state space.0 tuple.now keyed)
-            (λ refusal. (reads : List Read) × (replace_answer_in state space.0 tuple.now ≡ refusal_after reads refusal))) }
-    {
-        let Some(found) = self.spaces.get(&space.0) else {
-            return Ok(Err(Refusal::SpaceMissing { space }));
-        };
-        if let Some(refusal) = unwritable(space, tuple) {
-            return Ok(Err(refusal));
-        }
-        let Some(def) = found.schema.index(IndexId(0)) else {
-            let refusal = index_missing(self.alloc, IndexId(0), &found.schema.def.name)?;
-            return Ok(Err(refusal));
-        };
-        if tuple.len() > MAX_TUPLE_SIZE {
-            let bytes = tuple.len() as u64;
-            return Ok(Err(Refusal::TupleTooLong { bytes }));
-        }
-        match key_tuple(self.alloc, &def.key, tuple) {
-            Ok(keyed) => Ok(Ok(keyed)),
-            Err(fault) => Ok(Err(fault_refusal(no_key(fault)?))),
-        }
-    }
 }
 
 fn move_tables(
     alloc: Global,
-    mut left: BTreeMap<u32, Table>,
+    mut left: Vec<TableEntry>,
 ) -> Result<BTreeMap<u32, SlowSpace>, AllocError>
-    ensures { IfOk result (λ spaces. (space : ℕ) → IsMoved (get_by (nat_cmp space) left) (get_by (nat_cmp space) spaces)) }
+    ensures { IfOk result (λ spaces. (space : ℕ) → IsMoved (table_of space left.items) (get_by (nat_cmp space) spaces)) }
 {
     let mut spaces = BTreeMap::new(alloc);
-    while let Some((space, table)) = left.pop_first() {
-        spaces.insert(space, move_table(alloc, table)?)?;
+    while let Some(TableEntry { space, table }) = left.pop() {
+        spaces.insert(space.0, move_table(alloc, table)?)?;
     }
     Ok(spaces)
 }
@@ -238,18 +228,8 @@ fn move_table(alloc: Global, table: Table) -> Result<SlowSpace, AllocError>
     Ok(SlowSpace { schema, tuples })
 }
 
-fn no_key(fault: KeyFault) -> Result<NoKey, AllocError>
-    ensures { IfOk result (λ why. fault ≡ key_fault_of why) }
-{
-    match fault {
-        KeyFault::Missing { field } => Ok(NoKey::Missing { field }),
-        KeyFault::Wrong { field, expected } => Ok(NoKey::Wrong { field, expected }),
-        KeyFault::NoMemory => Err(AllocError),
-    }
-}
-
 /// Puts a tuple into a space, where that is there.
-fn put_into(
+pub(crate) fn put_into(
     spaces: &mut BTreeMap<u32, SlowSpace>,
     space: SpaceId,
     keyed: Keyed,
@@ -316,7 +296,11 @@ fn gather_by_index(
 }
 
 /// Copies of tuples under their keys in an index.
-fn index_tuples(alloc: Global, def: &IndexDef, kept: &[Keyed]) -> Result<Vec<Keyed>, AllocError>
+pub(crate) fn index_tuples(
+    alloc: Global,
+    def: &IndexDef,
+    kept: &[Keyed],
+) -> Result<Vec<Keyed>, AllocError>
     ensures { (all : plain.Tuples) → StoresTuples (stored_list kept.now) all
         → IfOk result (λ indexed. StoresTuples (stored_list indexed.items) (indexed_with def.now empty (entries all))) }
 {
@@ -328,7 +312,7 @@ fn index_tuples(alloc: Global, def: &IndexDef, kept: &[Keyed]) -> Result<Vec<Key
     Ok(indexed)
 }
 
-fn gather(
+pub(crate) fn gather(
     alloc: Global,
     kept: &[Keyed],
     range: &KeyRange,
@@ -364,7 +348,7 @@ fn gather(
     Ok(tuples)
 }
 
-fn next_of(kept: &[Keyed], down: bool) -> Option<(&Keyed, &[Keyed])>
+pub(crate) fn next_of(kept: &[Keyed], down: bool) -> Option<(&Keyed, &[Keyed])>
     ensures { MatchOption result
         (kept.now ≡ [])
         (λ next. directed down kept.now ≡ next.0.now ∷ directed down next.1.now) }

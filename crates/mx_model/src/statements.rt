@@ -1,4 +1,3 @@
 //! What statements are answered.
 
-pub mod replace;
 pub mod select;

@@ -24,9 +24,9 @@ returns-in-Id c = λ ledger is.
     let told : answer_to (ledger_state ledger) c.args.request.now ≡ reply_alone Id = search rules in
     slow_is_told c.args.self.now ledger c.args._name is c.args.request.now (reply_alone Id) Id (c.takes.ensures.taken c.if-not-takes.false) told refl refl
 
-pub returns-in-Insert : goal.returns-in-Insert
+pub returns-in-Begin : goal.returns-in-Begin
 unfolding answer_to
-returns-in-Insert c = λ ledger is.
+returns-in-Begin c = λ ledger is.
     let none : answer_to (ledger_state ledger) c.args.request.now ≡ not_built c.args.request.now = search rules in
     slow_is_told c.args.self.now ledger c.args._name is c.args.request.now (not_built c.args.request.now) (Refused c.not_built.result)
     (c.takes.ensures.taken c.if-not-takes.false) none (ap (λ refusal. Refused refusal) (c.not_built.ensures ∙ ap (λ kind. UnknownRequestType kind) c.kind.ensures)) refl

@@ -1,31 +1,50 @@
-use Rattle.std.proofs.Common.{[], ◌∷◌, ◌++◌, refl, ap, ◌∙◌}
-use Rattle.mx_schema.specs.Catalogues.{schema_of}
-use Rattle.mx_model.specs.declared.slow.Slow.{Slow}
-use Rattle.mx_model.specs.Histories.{ledger_state}
-use Rattle.mx_model.proofs.PutLaws.{key_stands}
-use Rattle.mx_model.proofs.SlowLaws.{slow_refuses, slow_used_up, slow_replaces}
+use Rattle.std.proofs.Common.{[], ◌∷◌, ℕ, List, Some, refl, sym, ◌∙◌}
+use Rattle.std.proofs.lemmas.Result.{err_from_is_err_and}
+use Rattle.mx_schema.specs.declared.index_def.IndexDef.{IndexDef}
+use Rattle.mx_schema.specs.declared.schema.Schema.{Schema}
+use Rattle.mx_schema.specs.State.{State}
+use Rattle.mx_write.specs.declared.writable.Writer.TheVariants.{Client}
+use Rattle.mx_write.specs.Replace.{replaces}
+use Rattle.mx_write.specs.Judged.{Judged, ◌>>=◌}
+use Rattle.mx_write.specs.Lookup.{other_indexes, own_key}
+use Rattle.mx_write.specs.Made.{Made, made}
+use Rattle.mx_write.specs.Unique.{are_free}
+use Rattle.mx_write.specs.Writes.{Replace}
+use Rattle.mx_write.proofs.TargetLaws.{own_bytes, own_fits}
+use Rattle.mx_model.proofs.SlowMakeLaws.{judged_free, refused_duplicate}
 use Rattle.mx_model.proofs.slow.Slow.replace.Goals as goal
 
-pub returns-in-Err : goal.returns-in-Err
-returns-in-Err c = λ ledger name is.
-    slow_refuses c.args.self.now ledger name is c.args.space c.args.tuple.now c.requires c.in-Err.refusal
-    (rw c.in-Err.is at (c.in_ok-keyed.ensures (ledger_state ledger) is.keeps))
+abbrev free : State → Schema → IndexDef → (tuple : List ℕ) → (space : ℕ) → Judged (Unit {0})
+free before schema primary tuple space = are_free before space schema primary (Some (own_key primary tuple)) tuple (other_indexes schema.indexes)
 
-pub returns-in_default : goal.returns-in_default
-returns-in_default c = λ ledger name is.
-    slow_used_up c.args.self.now ledger name is c.args.space c.args.tuple.now c.requires c.in-Ok.keyed
-    (rw c.in-Ok.is at (c.in_ok-keyed.ensures (ledger_state ledger) is.keeps)) c.in_default.ensures.0
+abbrev last : IndexDef → (tuple : List ℕ) → (space : ℕ) → Judged Made
+last primary tuple space = made space (Replace tuple) (own_key primary tuple) (Some tuple) (tuple ∷ [])
+
+pub returns-in_err-site : goal.returns-in_err-site
+unfolding replaces
+returns-in_err-site c = λ before keeps.
+    let p = err_from_is_err_and c.from_residual.result c.from_residual.ensures.1 in
+    let tuple = c.args.tuple.now in
+    let space = c.args.space.0 in
+    rw (p.1, p.2) (c.in_err-site.ensures before (λ schema primary. free before schema primary tuple space >>= λ _. last primary tuple space) keeps)
+
+pub returns-in-Some : goal.returns-in-Some
+unfolding replaces
+returns-in-Some c = λ before keeps.
+    let tuple = c.args.tuple.now in
+    let space = c.args.space in
+    let site = c.in_ok-site.site in
+    let (same, is, has, reaches) = c.in_ok-site.ensures before (λ schema primary. free before schema primary tuple space.0 >>= λ _. last primary tuple space.0) keeps in
+    refused_duplicate before site.space space same (Replace tuple) (replaces Client before space.0 tuple) (free before site.schema.now site.primary.now tuple)
+    (last site.primary.now tuple) reaches c.in-Some.refusal (sym c.in-Some.is ∙ c.in_ok-refusal.ensures before (Some (own_key site.primary.now tuple)) is (own_fits site.primary.now tuple _ has, own_bytes site.primary.now tuple _ has))
 
 pub returns : goal.returns
-returns c = λ ledger name is.
-    let slow = c.args.self.now in
+unfolding replaces
+returns c = λ before keeps.
     let tuple = c.args.tuple.now in
-    let keyed = c.in-Ok.keyed in
-    let before = ledger_state ledger in
-    let replaces = rw c.in-Ok.is at (c.in_ok-keyed.ensures before is.keeps) in
-    let new : Slow = record { alloc = slow.alloc; spaces = c.put_into.new.spaces; clock = c.next_lsn.new.clock; ids = slow.ids } in
-    slow_replaces slow ledger name is c.args.space tuple c.requires keyed replaces new c.push.new.self c.in-Some.field-0
-    (c.in_ok-push.ensures ∙ ap (λ front. front ++ tuple ∷ []) c.new-tuples.ensures) refl
-    (c.in_ok-put_into.ensures.ok (schema_of before) before replaces.schema replaces.key is.keeps replaces.described
-    (key_stands before c.args.space.0 tuple keyed replaces) replaces.fit replaces.bytes)
-    c.in-Some.ensures.0 c.in-Some.ensures.1
+    let space = c.args.space in
+    let site = c.in_ok-site.site in
+    let (same, is, has, reaches) = c.in_ok-site.ensures before (λ schema primary. free before schema primary tuple space.0 >>= λ _. last primary tuple space.0) keeps in
+    judged_free before site.space space same (Replace tuple) (replaces Client before space.0 tuple) (free before site.schema.now site.primary.now tuple)
+    (last site.primary.now tuple) reaches c.put_copy.result (sym c.in_default.is ∙ c.in_ok-refusal.ensures before (Some (own_key site.primary.now tuple)) is (own_fits site.primary.now tuple _ has, own_bytes site.primary.now tuple _ has))
+    (c.put_copy.ensures before is has refl)

@@ -1,0 +1,26 @@
+use Rattle.std.proofs.Common.{rules, ◌≡◌, ℕ, [], ◌∷◌, Some, None, nat_cmp, sym, ap, ◌∙◌}
+use Rattle.std.specs.BTreeMap.{get_by}
+use Rattle.mx_schema.specs.Catalogues.{index_with, schema_of}
+use Rattle.mx_schema.specs.State.{source_of, tuples_in}
+use Rattle.mx_write.specs.Reads.{index_read, space_read}
+use Rattle.mx_model.specs.SlowReads.{read_view}
+use Rattle.mx_model.proofs.SlowLaws.{space_found}
+use Rattle.mx_model.proofs.SlowReadLaws.{select_reads_range}
+use Rattle.mx_model.proofs.slow.Slow.select_reads.Goals as goal
+
+pub returns : goal.returns
+returns c = λ state keeps.
+    let space = c.args.space.0 in
+    let pick = c.args.pick.now in
+    let def = c.in-Some-index.def.now in
+    let schema = c.in-Some.found.now.schema in
+    let none : c.misfit.result ≡ None = search rules in
+    let (fitting, fits, fit) = rw none at c.misfit.ensures in
+    let stored = space_found (schema_of state space) (tuples_in state space) c.in-Some.found.now (get_by (nat_cmp space) c.args.self.now.spaces) c.in-Some.ensures.value (keeps space) in
+    let there : index_with c.args.index.0 schema.indexes ≡ Some def = search rules in
+    let scanned = sym c.in-Some-scanned.is ∙ c.in_ok-scanned.ensures (tuples_in state (source_of space)) fitting (c.tuples_of.ensures state keeps) fit (c.in_ok-range.ensures.picked fitting fits) in
+    let pushed : c.push.new.self ≡ read_view (space_read space) ∷ read_view (index_read space) ∷ record { space = c.source_of.result; index = def.id; range = c.in-Some-scanned.range } ∷ [] =
+    search rules in
+    pushed
+    ∙ ap (λ (s : ℕ). read_view (space_read space) ∷ read_view (index_read space) ∷ record { space = record { 0 = s }; index = def.id; range = c.in-Some-scanned.range } ∷ []) c.source_of.ensures
+    ∙ sym (select_reads_range state space c.args.index.0 pick schema stored.is def there fitting fits c.in-Some-scanned.range scanned)
