@@ -9,20 +9,34 @@ use Rattle.mx_base.specs.declared.ids.SpaceId.{SpaceId}
 use Rattle.mx_base.specs.declared.ids.IndexId.{IndexId}
 use Rattle.mx_base.specs.declared.ids.TxnName.{TxnName}
 use Rattle.mx_base.specs.declared.refusal.Refusal.{Refusal}
-use Rattle.mx_base.specs.declared.refusal.Refusal.TheVariants.{OutOfMemory, ReadOnly, UnknownRequestType, LsnsUsedUp, ResultTooLong, SpaceMissing, IndexMissing}
+use Rattle.mx_base.specs.declared.refusal.Refusal.TheVariants.{OutOfMemory, ReadOnly, LsnsUsedUp, ResultTooLong, SpaceMissing, IndexMissing}
 use Rattle.mx_request.specs.declared.request.Ask.TheVariants as ask
 use Rattle.mx_request.specs.declared.request.Request.{Request}
 use Rattle.mx_request.specs.declared.request.Request.TheVariants as request
-use Rattle.mx_request.specs.Spelling.{type_number, IsAskable}
 use Rattle.mx_model.specs.declared.reply.Reply.{Reply}
 use Rattle.mx_model.specs.declared.reply.Reply.TheVariants.{Tuples, Refused}
-use Rattle.mx_row.specs.Rows.{replace_row}
+use Rattle.mx_row.specs.declared.row.Row.{Row}
 use Rattle.mx_row.specs.declared.tx.Tx.{Tx}
+use Rattle.mx_write.specs.declared.made.Made as code
+use Rattle.mx_write.specs.declared.write.Write as in_place
+use Rattle.mx_write.specs.declared.writable.Writer.TheVariants.{Client}
+use Rattle.mx_write.specs.Judge.{judged_write}
+use Rattle.mx_write.specs.Judged.{Judged}
+use Rattle.mx_write.specs.Change.{state_after_changed}
+use Rattle.mx_schema.specs.declared.state.State as stored
+use Rattle.mx_schema.proofs.SoundLaws.{sound_held}
+use Rattle.mx_model.proofs.WriteLaws.{changes_again}
+use Rattle.mx_write.specs.Made.{Made, nothing, row_with}
+use Rattle.mx_write.specs.Makes.{IsRefusedBy, tuples_shown}
+use Rattle.mx_write.specs.Views.{write_view}
+use Rattle.mx_write.specs.Writable.{describes_schema}
+use Rattle.mx_write.specs.Writes.{Write, Insert, Replace, Update, Delete, Upsert, TupleIsBytes, write_in}
+use Rattle.mx_write.proofs.RowLaws.{writes_elsewhere}
+use Rattle.mx_model.specs.statements.Write.{answer_of, answer_of_outcome}
 use Rattle.mx_key.specs.declared.iterator.IterKind.{IterKind}
 use Rattle.mx_key.specs.declared.fault.Misfit.{Misfit}
 use Rattle.mx_key.specs.Parts.{key_of_array}
 use Rattle.mx_schema.specs.declared.index_def.IndexDef.{IndexDef}
-use Rattle.mx_schema.specs.declared.keyed.Keyed.{Keyed}
 use Rattle.mx_schema.specs.declared.schema.Schema.{Schema}
 use Rattle.mx_schema.specs.Catalogues.{index_with, schema_of}
 use Rattle.mx_key.specs.declared.edge.KeyRange.{KeyRange}
@@ -35,22 +49,20 @@ use Rattle.mx_schema.specs.declared.pick.Pick.{Pick}
 use Rattle.mx_schema.specs.declared.pick.SelectFault.{SelectFault}
 use Rattle.mx_schema.specs.declared.pick.SelectFault.TheVariants as faults
 use Rattle.mx_model.specs.Answers.{answer_to, state_after_row}
-use Rattle.mx_model.specs.statements.Replace.{replace_answer_in, replaced}
 use Rattle.mx_write.specs.Lookup.{misfit_refusal}
 use Rattle.mx_model.specs.statements.Select.{select_answer_in, select_by_key, iterator_of}
 use Rattle.mx_write.specs.Reads.{schema_reads}
 use Rattle.mx_model.specs.statements.Lookup.{in_index, in_space}
 use Rattle.mx_write.specs.Reads.{Read}
-use Rattle.mx_model.specs.statements.Answer.{Answer, refusal_alone, refusal_after, not_built}
-use Rattle.mx_model.specs.Transactions.{state_after, is_schema_commit, schema_version}
+use Rattle.mx_model.specs.statements.Answer.{Answer, refusal_alone, refusal_after}
+use Rattle.mx_model.specs.Transactions.{state_after, is_schema_commit, is_schema_row, schema_version}
 use Rattle.mx_row.specs.Clocks.{clock_after}
-use Rattle.mx_model.specs.Histories.{Base, History, Asked, Left, node_answer, answer_in, with_lsn, commit_of, is_write, commits_of, writable_node, is_out_of_memory, ledger_of, state_of, clock_of}
-use Rattle.mx_model.proofs.AnswerLaws.{select_misses_space, select_misses_index, key_is_misfit, tuples_are_picked, result_is_too_long}
-use Rattle.mx_model.proofs.PutLaws.{describes_none}
+use Rattle.mx_model.specs.Histories.{Base, CanBeAsked, History, Asked, Left, node_answer, answer_in, with_lsn, commit_of, is_write, commits_of, writable_node, is_out_of_memory, ledger_of, state_of, clock_of}
+use Rattle.mx_model.proofs.AnswerLaws.{no_write_no_row, write_answered, write_writes, select_misses_space, select_misses_index, key_is_misfit, tuples_are_picked, result_is_too_long}
 use Rattle.mx_model.proofs.HistoryLaws.{base_of_ledger, steps_of_ledger, select_no_row, committed-no_row, state_of-asked, clock_of-asked, untaken-asked, untaken}
 use Rattle.mx_engine.specs.declared.engine.Engine.{Engine}
 use Rattle.mx_engine.specs.Standing.{EngineStandsFor}
-use Rattle.mx_engine.specs.Steps.{IsPut, IsReplyOf, SameNode, Stores, AnswersRequest, transaction_of, lsn_after, answer_by, commits_by, accepts}
+use Rattle.mx_engine.specs.Steps.{IsWriteOf, IsReplyOf, SameNode, Stores, AnswersRequest, transaction_of, lsn_after, answer_by, commits_by, accepts}
 
 both_tests : (mine writes : Bool) → (mine || not writes) ≡ true → (writes && not mine) ≡ false
 both_tests true true taken = refl
@@ -67,6 +79,42 @@ writer : (mine writes : Bool) → (mine || not writes) ≡ true → writes ≡ t
 writer true writes taken write = refl
 writer false true taken write = taken
 writer false false taken write = write
+
+-- what doesn't write is no write
+pub no_write : (asked : Request) → is_write asked ≡ false → write_in asked ≡ None
+no_write (request.Select space index limit offset iterator key) e = refl
+no_write (request.Insert space tuple) e = absurd cc
+no_write (request.Replace space tuple) e = absurd cc
+no_write (request.Update space index base key operations) e = absurd cc
+no_write (request.Delete space index key) e = absurd cc
+no_write (request.Upsert space base tuple operations) e = absurd cc
+no_write request.Nop e = refl
+no_write request.Ping e = refl
+no_write request.Begin e = refl
+no_write request.Commit e = refl
+no_write request.Rollback e = refl
+no_write request.Id e = refl
+no_write (request.Join instance) e = refl
+no_write (request.Subscribe instance set clock) e = refl
+no_write (request.Ack clock) e = refl
+
+-- such a request has bytes alone
+pub no_tuple : (asked : Request) → write_in asked ≡ None → TupleIsBytes (write_in asked)
+no_tuple asked none = subst TupleIsBytes (sym none) tt
+
+-- each node accepts it
+pub accepts_read : (engine : Engine) (asked : Request) → is_write asked ≡ false → accepts engine.ids asked ≡ true
+accepts_read engine asked reads = by_test (engine.ids.me == writable_node) ∙ refl
+  where
+    by_test : (mine : Bool) → (mine || not (is_write asked)) ≡ true
+    by_test true = refl
+    by_test false = ap not reads
+
+pub accepts_write : (engine : Engine) (asked : Request) → (engine.ids.me == writable_node) ≡ true → accepts engine.ids asked ≡ true
+accepts_write engine asked mine = ap (λ b. b || not (is_write asked)) mine
+
+pub refuses_write : (engine : Engine) (asked : Request) → (engine.ids.me == writable_node) ≡ false → is_write asked ≡ true → accepts engine.ids asked ≡ false
+refuses_write engine asked mine writes = ap (λ b. b || not (is_write asked)) mine ∙ ap not writes
 
 module _ (engine : Engine) (before : State) (asked : Request) where
   -- what a read-only node answers to a request that writes
@@ -112,11 +160,11 @@ stores_nothing engine before holds = record { holds = holds; pending = sym (appe
 pub stores_same : (old new : Engine) (before : State) → Holds new.state before → new.pending ≡ old.pending → Stores old new before []
 stores_same old new before holds pending = record { holds = holds; pending = pending ∙ sym (append-nil old.pending) }
 
--- the state holds one tuple more, and its transaction waits
-pub stores_one : (old new : Engine) (before : State) (lsn space : ℕ) (tuple : List ℕ) (transaction : Tx) → transaction ≡ transaction_of lsn space tuple
-    → Holds new.state (state_after_row before (replace_row space tuple)) → new.pending ≡ old.pending ++ transaction ∷ []
-    → Stores old new before (transaction_of lsn space tuple ∷ [])
-stores_one old new before lsn space tuple transaction is holds pending = record {
+-- the state holds what the row makes of it, and its transaction waits
+pub stores_one : (old new : Engine) (before : State) (lsn : ℕ) (row : Row) (transaction : Tx) → transaction ≡ transaction_of lsn row
+    → Holds new.state (state_after_row before row) → new.pending ≡ old.pending ++ transaction ∷ []
+    → Stores old new before (transaction_of lsn row ∷ [])
+stores_one old new before lsn row transaction is holds pending = record {
   holds = holds;
   pending = pending ∙ ap (λ t. old.pending ++ t ∷ []) is;
 }
@@ -134,93 +182,118 @@ answers_told engine before asked reply taken holds told none =
     let is = answer_without_row engine before asked (answer_to before asked) taken refl none in
     answers_no_row engine engine before asked reply (subst (IsReplyOf reply) (sym is) told) (ap (λ a. a.row) is ∙ none) (stores_nothing engine before holds) refl
 
--- the same of a request that isn't built
-pub answers_not_built : (engine : Engine) (before : State) (asked : Request) → accepts engine.ids asked ≡ true → Holds engine.state before
-    → answer_to before asked ≡ not_built asked → AnswersRequest engine engine before asked (Refused (UnknownRequestType (type_number asked)))
-answers_not_built engine before asked taken holds is =
-    answers_told engine before asked (Refused (UnknownRequestType (type_number asked))) taken holds (inl (sym (ap (λ a. a.reply) is))) (ap (λ a. a.row) is)
+-- a request that is no write
+pub answers_read : (engine : Engine) (before : State) (asked : Request) (reply : Reply) → accepts engine.ids asked ≡ true → Holds engine.state before
+    → write_in asked ≡ None → IsReplyOf reply (answer_to before asked) → AnswersRequest engine engine before asked reply
+answers_read engine before asked reply taken holds no_write told = answers_told engine before asked reply taken holds told (no_write_no_row before asked no_write)
 
 -- a SELECT by a key that has the same parts
-pub answers_selected : (engine : Engine) (before : State) (asked : Request) (reply : Reply) (space : SpaceId) (index : IndexId)
-    (limit offset iterator : ℕ) (key sought : List ℕ) (kind : IterKind) → accepts engine.ids asked ≡ true → Holds engine.state before
+pub read_selected : (before : State) (asked : Request) (reply : Reply) (space : SpaceId) (index : IndexId)
+    (limit offset iterator : ℕ) (key sought : List ℕ) (kind : IterKind)
     → asked ≡ request.Select space index limit offset iterator key → ((parts : List Part) → key_of_array parts sought ≡ key_of_array parts key)
-    → kind ≡ iterator_of iterator → IsReplyOf reply (select_answer_in before space.0 index.0 limit offset kind sought)
-    → AnswersRequest engine engine before asked reply
+    → kind ≡ iterator_of iterator → IsReplyOf reply (select_answer_in before space.0 index.0 limit offset kind sought) → IsReplyOf reply (answer_to before asked)
 unfolding answer_to
-answers_selected engine before asked reply space index limit offset iterator key sought kind taken holds is same by told =
+read_selected before asked reply space index limit offset iterator key sought kind is same by told =
     let answer : answer_to before asked ≡ select_answer_in before space.0 index.0 limit offset kind sought =
     ap (answer_to before) is
     ∙ ap (λ k. select_answer_in before space.0 index.0 limit offset k key) (sym by)
     ∙ (λ i. in_space before space.0 (λ schema. in_index space.0 schema index.0 (λ def. select_by_key before space.0 limit offset kind def (sym (same def.key) i)))) in
-    answers_told engine before asked reply taken holds (subst (IsReplyOf reply) (sym answer) told)
-    (ap (λ a. a.row) answer ∙ select_no_row before space.0 index.0 limit offset kind sought)
+    subst (IsReplyOf reply) (sym answer) told
 
--- a REPLACE
-module _ (engine : Engine) (before : State) (space : SpaceId) (tuple : List ℕ)
-    (taken : accepts engine.ids (request.Replace space tuple) ≡ true) (holds : Holds engine.state before) where
-  abbrev asked : Request
-  asked = request.Replace space tuple
+-- a write
+module _ (engine : Engine) (before : State) (space : SpaceId) (write : Write) (asked : Request)
+    (taken : accepts engine.ids asked ≡ true) (holds : Holds engine.state before) (is : write_in asked ≡ Some (space.0, write)) where
+  abbrev judged : Judged Made
+  judged = judged_write Client before space.0 write
+
+  answered : answer_to before asked ≡ answer_of judged
+  answered = write_answered before asked space.0 write is
 
   -- it is refused, or out of memory
-  pub answers_unchecked : (refusal : Refusal) → ((reads : List Read) × (replace_answer_in before space.0 tuple ≡ refusal_after reads refusal)) ⊎ (refusal ≡ OutOfMemory)
-      → AnswersRequest engine engine before asked (Refused refusal)
-  unfolding answer_to
-  answers_unchecked refusal (inl (reads, is)) =
-      answers_refused engine before asked reads refusal (answer_without_row engine before asked (refusal_after reads refusal) taken is refl) holds
-  answers_unchecked refusal (inr none) =
+  pub answers_unmade : (refusal : Refusal) → IsRefusedBy refusal judged → AnswersRequest engine engine before asked (Refused refusal)
+  answers_unmade refusal (inl refused) =
+      answers_refused engine before asked judged.reads refusal
+      (answer_without_row engine before asked (refusal_after judged.reads refusal) taken (answered ∙ ap (answer_of_outcome judged.reads) refused) refl) holds
+  answers_unmade refusal (inr none) =
       subst (λ r. AnswersRequest engine engine before asked (Refused r)) (sym none)
       record { told = inr refl; stores = stores_nothing engine before holds; clock = refl; schema = refl }
 
-  module _ (put : replace_answer_in before space.0 tuple ≡ replaced before space.0 tuple) where
-    -- the node is the one that may be written
-    pub writes_here : engine.ids.me ≡ writable_node
-    writes_here = eqb-true engine.ids.me writable_node (writer (engine.ids.me == writable_node) true taken refl)
+  -- it finds no tuple
+  pub answers_nothing : judged.outcome ≡ Ok nothing → (tuples : List (List ℕ)) → tuples ≡ [] → AnswersRequest engine engine before asked (Tuples tuples)
+  answers_nothing none tuples empty =
+      let answer : answer_to before asked ≡ answer_of_outcome judged.reads (Ok nothing) = answered ∙ ap (answer_of_outcome judged.reads) none in
+      answers_told engine before asked (Tuples tuples) taken holds (inl (ap (λ t. Tuples t) empty ∙ sym (ap (λ a. a.reply) answer))) (ap (λ a. a.row) answer)
 
+  -- the node is the one that may be written
+  pub writes_here : engine.ids.me ≡ writable_node
+  writes_here = eqb-true engine.ids.me writable_node (writer (engine.ids.me == writable_node) (is_write asked) taken (write_writes asked space.0 write is))
+
+  module _ (made : Made) (outcome : judged.outcome ≡ Ok made) (row : Row) (leaves : made.row ≡ Some row) where
     abbrev answer : Bool → Answer
-    answer used_up = if used_up then refusal_after (schema_reads space.0) LsnsUsedUp else replaced before space.0 tuple
+    answer used_up = if used_up then refusal_after judged.reads LsnsUsedUp else answer_of_outcome judged.reads (Ok made)
 
-    pub replaced_by : (used_up : Bool) → nat_lt max_lsn (lsn_after engine) ≡ used_up → answer_by engine before asked ≡ answer used_up
-    unfolding answer_to
-    replaced_by used_up test = answer_taken engine before asked (answer false) taken put ∙ ap answer test
+    pub made_by : (used_up : Bool) → nat_lt max_lsn (lsn_after engine) ≡ used_up → answer_by engine before asked ≡ answer used_up
+    made_by used_up test =
+        answer_taken engine before asked (answer false) taken (answered ∙ ap (answer_of_outcome judged.reads) outcome)
+        ∙ ap (λ r. with_lsn (lsn_after engine) (answer false) r) leaves ∙ ap answer test
 
     pub answers_used_up : max_lsn < suc (slice_index engine.clock writable_node) → AnswersRequest engine engine before asked (Refused LsnsUsedUp)
     answers_used_up above =
         let lsn = ap (λ id. suc (slice_index engine.clock id)) writes_here in
-        answers_refused engine before asked (schema_reads space.0) LsnsUsedUp
-        (replaced_by true (ap (nat_lt max_lsn) lsn ∙ lt-ltb max_lsn _ above)) holds
+        answers_refused engine before asked judged.reads LsnsUsedUp (made_by true (ap (nat_lt max_lsn) lsn ∙ lt-ltb max_lsn _ above)) holds
 
 -- out of memory
 pub answers_no_memory : (old new : Engine) (before : State) (request : Request) → Stores old new before [] → new.clock ≡ old.clock
     → AnswersRequest old new before request (Refused OutOfMemory)
 answers_no_memory old new before request stores clock = record { told = inr refl; stores = stores; clock = clock; schema = refl }
 
--- a REPLACE that is taken
-pub answers_replaced : (old put : Engine) (before : State) (clock : List ℕ) (lsn : ℕ) (space : SpaceId) (tuple : List ℕ) (keyed : Keyed) (tuples : List (List ℕ))
-    → IsPut old before space tuple keyed → IsNext old.clock writable_node lsn → tuples ≡ keyed.tuple ∷ []
-    → Stores old put before (transaction_of lsn space.0 keyed.tuple ∷ []) → clock ≡ slice_set old.clock writable_node lsn
-    → AnswersRequest old (record put { clock = clock }) before (request.Replace space tuple) (Tuples tuples)
-answers_replaced old put before clock lsn space tuple keyed tuples is_put next shown stores reached =
-    let asked = request.Replace space tuple in
-    let replaces = is_put.replaces in
-    let copied = replaces.copied in
-    let me = writes_here old before space tuple is_put.accepted is_put.holds replaces.answer in
+-- what was installed is what the row makes of the state
+pub row_is_installed : (engine : Engine) (before : State) (space : SpaceId) (write : in_place.Write) (one : code.Made) (asked : Request)
+    (is_made : IsWriteOf engine before space write one asked) → (memory : stored.State) → Holds memory (state_after_changed before is_made.makes.0.change)
+    → Holds memory (state_after_row before (row_with space.0 (write_view write) one.row_key))
+unfolding state_after_row
+row_is_installed engine before space write one asked is_made memory holds =
+    let (made, outcome, makes) = is_made.makes in
+    let sound = sound_held engine.state before is_made.holds in
+    let again = changes_again before space.0 (write_view write) made (row_with space.0 (write_view write) one.row_key) sound outcome makes.row in
+    subst (λ change. Holds memory (state_after_changed before change)) (sym again) holds
+
+-- a write that is taken
+pub answers_made : (old put : Engine) (before : State) (clock : List ℕ) (lsn : ℕ) (space : SpaceId) (write : in_place.Write) (one : code.Made) (asked : Request) (tuples : List (List ℕ))
+    → IsWriteOf old before space write one asked → IsNext old.clock writable_node lsn → tuples ≡ tuples_shown one.effect
+    → Stores old put before (transaction_of lsn (row_with space.0 (write_view write) one.row_key) ∷ []) → clock ≡ slice_set old.clock writable_node lsn
+    → AnswersRequest old (record put { clock = clock }) before asked (Tuples tuples)
+answers_made old put before clock lsn space write one asked tuples is_made next shown stores reached =
+    let what = write_view write in
+    let (made, outcome, makes) = is_made.makes in
+    let row = row_with space.0 what one.row_key in
+    let me = writes_here old before space what asked is_made.accepted is_made.holds is_made.is in
     let number : lsn_after old ≡ lsn = ap (λ id. suc (slice_index old.clock id)) me ∙ sym next.follows in
-    let is : answer_by old before asked ≡ replaced before space.0 tuple =
-    replaced_by old before space tuple is_put.accepted is_put.holds replaces.answer false
+    let is : answer_by old before asked ≡ answer_of_outcome (judged_write Client before space.0 what).reads (Ok made) =
+    made_by old before space what asked is_made.accepted is_made.holds is_made.is made outcome row makes.row false
     (ap (nat_lt max_lsn) number ∙ le-ltb max_lsn lsn next.allowed) in
-    let commits : transaction_of lsn space.0 keyed.tuple ∷ [] ≡ commits_by old before asked (Tuples tuples) =
-    sym (ap (λ a. commit_of old.ids.me (lsn_after old) false a.row) is
-    ∙ ap (λ id. commit_of id (lsn_after old) false (Some (replace_row space.0 tuple))) me
-    ∙ ap (λ first. commit_of writable_node first false (Some (replace_row space.0 tuple))) number
-    ∙ ap (λ t. commit_of writable_node lsn false (Some (replace_row space.0 t))) (sym copied)) in
+    let commits : transaction_of lsn row ∷ [] ≡ commits_by old before asked (Tuples tuples) =
+    sym (ap (λ (a : Answer). commit_of old.ids.me (lsn_after old) false a.row) is
+    ∙ ap (λ r. commit_of old.ids.me (lsn_after old) false r) makes.row
+    ∙ ap (λ id. commit_of id (lsn_after old) false (Some row)) me
+    ∙ ap (λ first. commit_of writable_node first false (Some row)) number) in
     let last : lsn ≡ (lsn + 1) - 1 = omega arith in
     record {
-      told = inl (ap (λ t. Tuples t) (shown ∙ ap (λ t. t ∷ []) copied) ∙ sym (ap (λ a. a.reply) is));
+      told = inl (ap (λ t. Tuples t) (shown ∙ sym makes.shown) ∙ sym (ap (λ (a : Answer). a.reply) is));
       stores = subst (Stores old (record put { clock = clock }) before) commits record { holds = stores.holds; pending = stores.pending };
       clock = reached ∙ ap (slice_set old.clock writable_node) last ∙ ap (clock_after old.clock) commits;
       schema = ap (filter is_schema_commit) (sym commits)
-          ∙ ap (λ b. if b || false then transaction_of lsn space.0 keyed.tuple ∷ [] else []) (describes_none before space.0 tuple keyed replaces);
+          ∙ ap (λ b. if b || false then transaction_of lsn row ∷ [] else []) (elsewhere space.0 what one.row_key
+          (writes_elsewhere before space.0 what made row outcome makes.row).0);
     }
+  where
+    -- the row of a write in another space describes no space and no index
+    elsewhere : (space : ℕ) (what : Write) (key : List ℕ) → describes_schema space ≡ false → is_schema_row (row_with space what key) ≡ false
+    elsewhere space (Insert tuple) key none = none
+    elsewhere space (Replace tuple) key none = none
+    elsewhere space (Update index base asked operations) key none = none
+    elsewhere space (Delete index asked) key none = none
+    elsewhere space (Upsert base tuple operations) key none = none
 
 -- commits that change no schema leave its version as it is
 schema_stays : (journal more : List Tx) → filter is_schema_commit more ≡ [] → schema_version (journal ++ more) ≡ schema_version journal
@@ -230,7 +303,7 @@ schema_stays journal more none =
 
 -- an engine that answered a request has one step more
 pub stands_answered : (old new : Engine) (base : Base) (history : History) (name : TxnName) (request : Request) (reply : Reply)
-    → EngineStandsFor old base history → IsAskable request → AnswersRequest old new (state_of base history) request reply
+    → EngineStandsFor old base history → CanBeAsked request → AnswersRequest old new (state_of base history) request reply
     → new.ids ≡ old.ids → new.count ≡ old.count + 1 → new.durable ≡ old.durable → new.schema ≡ old.schema
     → EngineStandsFor new base (Asked name (ask.Request request) reply ∷ history)
 stands_answered old new base history name request reply stands can answers ids count durable schema =
@@ -305,7 +378,7 @@ stands_left engine base history connection stands =
 
 -- an engine that counted a request and then answered it has one step more
 pub stands_counted : (engine new : Engine) (base : Base) (history : History) (name : TxnName) (asked : Request) (reply : Reply)
-    → EngineStandsFor engine base history → IsAskable asked → AnswersRequest (counted engine) new (state_of base history) asked reply
+    → EngineStandsFor engine base history → CanBeAsked asked → AnswersRequest (counted engine) new (state_of base history) asked reply
     → SameNode (counted engine) new → EngineStandsFor new base (Asked name (ask.Request asked) reply ∷ history)
 stands_counted engine new base history name asked reply stands can answers keeps =
     stands_answered engine new base history name asked reply stands can
@@ -314,7 +387,7 @@ stands_counted engine new base history name asked reply stands can answers keeps
 
 -- an engine that counted a request that it doesn't take has one step more
 pub stands_read_only : (engine : Engine) (base : Base) (history : History) (name : TxnName) (asked : Request)
-    → EngineStandsFor engine base history → IsAskable asked → accepts engine.ids asked ≡ false
+    → EngineStandsFor engine base history → CanBeAsked asked → accepts engine.ids asked ≡ false
     → EngineStandsFor (counted engine) base (Asked name (ask.Request asked) (Refused (ReadOnly (record { 0 = writable_node }))) ∷ history)
 stands_read_only engine base history name asked stands can other =
     let before = state_of base history in
@@ -405,9 +478,3 @@ module _ (before : State) (space index : ℕ) (wanted : Pick) where
             by_fault (inr (inl (long, fitting, fits, fit, above))) =
                 inl (sym (ap (λ a. a.reply) (result_is_too_long before space index wanted.limit wanted.offset wanted.iterator wanted.key.now schema described def there fitting fits above)))
             by_fault (inr (inr none)) = absurd cc
-
--- a REPLACE as it was asked
-pub answers_asked : (old new : Engine) (before : State) (wanted : Request) (reply : Reply) (space : SpaceId) (tuple shown : List ℕ)
-    → wanted ≡ request.Replace space tuple → shown ≡ tuple → AnswersRequest old new before (request.Replace space shown) reply → AnswersRequest old new before wanted reply
-answers_asked old new before wanted reply space tuple shown same shown_is answers =
-    subst (λ r. AnswersRequest old new before r reply) (ap (request.Replace space) shown_is ∙ sym same) answers

@@ -1,17 +1,22 @@
 -- Only private functions and proofs need these: an engine after a step.
-use Rattle.std.specs.Prelude.{true, ◌≡◌, ◌⊎◌, ℕ, suc, Bool, not, ◌||◌, ◌==◌, List, [], ◌∷◌, ◌++◌, slice_index}
+use Rattle.std.specs.Prelude.{Some, true, ◌≡◌, ◌⊎◌, ℕ, suc, Bool, not, ◌||◌, ◌==◌, List, [], ◌∷◌, ◌++◌, slice_index}
 use Rattle.std.specs.List.{filter}
 use Rattle.mx_base.specs.declared.refusal.Refusal.TheVariants.{OutOfMemory}
 use Rattle.mx_request.specs.declared.request.Request.{Request}
 use Rattle.mx_model.specs.declared.ids.Ids.{Ids}
 use Rattle.mx_model.specs.declared.reply.Reply.{Reply}
 use Rattle.mx_model.specs.declared.reply.Reply.TheVariants.{Refused}
-use Rattle.mx_row.specs.Rows.{replace_row}
+use Rattle.mx_request.specs.Spelling.{IsAskable}
+use Rattle.mx_row.specs.declared.row.Row.{Row}
 use Rattle.mx_row.specs.declared.tx.Tx.{Tx}
+use Rattle.mx_write.specs.declared.made.Made as code
+use Rattle.mx_write.specs.declared.writable.Writer.TheVariants.{Client}
+use Rattle.mx_write.specs.declared.write.Write.{Write}
+use Rattle.mx_write.specs.Judge.{judged_write}
+use Rattle.mx_write.specs.Makes.{MakesOf}
+use Rattle.mx_write.specs.Views.{write_view}
+use Rattle.mx_write.specs.Writes.{write_in}
 use Rattle.mx_base.specs.declared.ids.SpaceId.{SpaceId}
-use Rattle.mx_request.specs.declared.request.Request.TheVariants.{Replace}
-use Rattle.mx_schema.specs.declared.keyed.Keyed.{Keyed}
-use Rattle.mx_model.specs.statements.Replaces.{Replaces}
 use Rattle.mx_schema.specs.State.{State}
 use Rattle.mx_schema.specs.Stored.{Holds}
 use Rattle.mx_model.specs.statements.Answer.{Answer}
@@ -40,9 +45,9 @@ pub record Stores (old new : Engine) (state : State) (transactions : List Tx) : 
   pub holds : Holds new.state (state_after state transactions)
   pub pending : new.pending ≡ old.pending ++ transactions
 
--- the transaction that puts a tuple of a space in its place
-abbrev pub transaction_of : (lsn space : ℕ) → (tuple : List ℕ) → Tx
-transaction_of lsn space tuple = record { replica = record { 0 = writable_node }; first = record { 0 = lsn }; rows = replace_row space tuple ∷ [] }
+-- the commit of a row
+abbrev pub transaction_of : (lsn : ℕ) → Row → Tx
+transaction_of lsn row = record { replica = record { 0 = writable_node }; first = record { 0 = lsn }; rows = row ∷ [] }
 
 -- the node's next lsn
 abbrev pub lsn_after : Engine → ℕ
@@ -64,8 +69,10 @@ pub record AnswersRequest (old new : Engine) (state : State) (request : Request)
   pub clock : new.clock ≡ clock_after old.clock (commits_by old state request reply)
   pub schema : filter is_schema_commit (commits_by old state request reply) ≡ []
 
--- a REPLACE of this tuple is no error on a state that the engine holds, and this is its copy
-pub record IsPut (engine : Engine) (state : State) (space : SpaceId) (tuple : List ℕ) (keyed : Keyed) : Type 0 where
-  pub accepted : accepts engine.ids (Replace space tuple) ≡ true
+-- a request that the node accepts is a write, which was judged to make this on a state that the engine holds
+pub record IsWriteOf (engine : Engine) (state : State) (space : SpaceId) (write : Write) (found : code.Made) (asked : Request) : Type 0 where
+  pub accepted : accepts engine.ids asked ≡ true
   pub holds : Holds engine.state state
-  pub replaces : Replaces state space.0 tuple keyed
+  pub askable : IsAskable asked
+  pub is : write_in asked ≡ Some (space.0, write_view write)
+  pub makes : MakesOf state space.0 (write_view write) found (judged_write Client state space.0 (write_view write))

@@ -1,6 +1,6 @@
 //! The engine.
 
-ghost use Rattle.std.specs.Prelude.{◌≡◌, true, ◌<◌, ◌-◌, ◌^◌, ◌∷◌, [], length, IfOk};
+ghost use Rattle.std.specs.Prelude.{◌≡◌, ◌==◌, None, ◌<◌, ◌-◌, ◌^◌, ◌∷◌, [], length, IfOk};
 ghost use Rattle.std.specs.List.{Contains};
 ghost use Rattle.mx_schema.specs.State as plain;
 ghost use Rattle.mx_schema.specs.Stored.{Holds};
@@ -8,13 +8,14 @@ ghost use Rattle.mx_base.specs.declared.refusal.Refusal.{Refusal};
 ghost use Rattle.mx_request.specs.declared.request.Ask.TheVariants as ask;
 ghost use Rattle.mx_request.specs.declared.request.Request.{Request};
 ghost use Rattle.mx_request.specs.InPlace.{request_view};
-ghost use Rattle.mx_request.specs.Spelling.{IsAskable, type_number};
+ghost use Rattle.mx_request.specs.Spelling.{IsAskable};
 ghost use Rattle.mx_model.specs.declared.reply.Reply.TheVariants.{Refused};
-ghost use Rattle.mx_model.specs.Histories.{Base, History, Asked, Left, Took, Confirmed, ledger_of, journal_of, clock_of};
+ghost use Rattle.mx_model.specs.Answers.{answer_to};
+ghost use Rattle.mx_write.specs.Writes.{write_in};
+ghost use Rattle.mx_model.specs.Histories.{Base, writable_node, History, Asked, Left, Took, Confirmed, ledger_of, journal_of, clock_of};
 ghost use Rattle.mx_model.specs.Transactions.{schema_version};
 ghost use Rattle.mx_engine.specs.Standing.{EngineStandsFor};
-ghost use Rattle.mx_engine.specs.Steps as steps;
-ghost use Rattle.mx_engine.specs.Steps.{SameNode, AnswersRequest};
+ghost use Rattle.mx_engine.specs.Steps.{IsReplyOf};
 ghost use Rattle.mx_engine.specs.Views.{reply_of, reply_view};
 
 use crate::answer::{Answer, Answered};
@@ -25,7 +26,7 @@ use mx_msgpack::Tuples;
 use mx_request::{Request, RequestRef};
 use mx_schema::{Pick, State, array_or_empty};
 use mx_vclock::Vclock;
-use mx_write::not_built;
+use mx_write::{not_built, write_in, write_of_request};
 use std::alloc::{AllocError, Global};
 
 /// A database in memory. Each call that changes it is one step, which the engine counts.
@@ -95,11 +96,18 @@ impl Engine {
             → EngineStandsFor self.new base (Asked _name (ask.Request request.now) (reply_of result found.new) ∷ history) }
     {
         self.count += 1;
-        if !self.takes(request.kind()) {
+        if !is_write(request.kind()) {
+            return self.read(request, found);
+        }
+        let write = write_of_request(request);
+        if !self.is_writable() {
             let writable = ReplicaId(WRITABLE_NODE);
             return Err(Refusal::ReadOnly { writable });
         }
-        self.answer(request, found)
+        match write {
+            Some((space, write)) => self.write(space, &write, found),
+            None => self.read(request, found),
+        }
     }
 
     /// As `request`, of a request that stands in its packet. The answer's tuples go into `found`, in place
@@ -119,11 +127,18 @@ impl Engine {
             → EngineStandsFor self.new base (Asked _name (ask.Request (request_view request.now)) (reply_of result found.new) ∷ history) }
     {
         self.count += 1;
-        if !self.takes(request.kind()) {
+        if !is_write(request.kind()) {
+            return self.read_in_place(request, found);
+        }
+        let write = write_in(request);
+        if !self.is_writable() {
             let writable = ReplicaId(WRITABLE_NODE);
             return Err(Refusal::ReadOnly { writable });
         }
-        self.answer_in_place(request, found)
+        match write {
+            Some((space, write)) => self.write(space, &write, found),
+            None => self.read_in_place(request, found),
+        }
     }
 
     /// Counts a step that changes nothing: a request that was refused before it came here.
@@ -207,17 +222,16 @@ impl Engine {
         &self.ids
     }
 
-    /// Every node takes reads; only one takes writes.
-    fn takes(&self, kind: u8) -> bool
-        ensures { (request : Request) → kind ≡ type_number request → result ≡ steps.accepts self.now.ids request }
+    /// Whether this node takes writes. Every node takes reads.
+    fn is_writable(&self) -> bool
+        ensures { result ≡ (self.now.ids.me == writable_node) }
     {
-        self.ids.me == WRITABLE_NODE || !is_write(kind)
+        self.ids.me == WRITABLE_NODE
     }
 
-    fn answer(&mut self, request: &Request, found: &mut Tuples) -> Result<Answered, Refusal>
-        requires { steps.accepts self.old.ids request.now ≡ true }
-        ensures answers { (state : plain.State) → Holds self.old.state state → AnswersRequest self.old self.new state request.now (reply_of result found.new) }
-        ensures keeps { SameNode self.old self.new }
+    /// Answers a request that is no write.
+    fn read(&self, request: &Request, found: &mut Tuples) -> Result<Answered, Refusal>
+        ensures { (state : plain.State) → Holds self.now.state state → write_in request.now ≡ None → IsReplyOf (reply_of result found.new) (answer_to state request.now) }
     {
         match request {
             Request::Select {
@@ -236,14 +250,14 @@ impl Engine {
                 };
                 self.select(*space, *index, &pick, found)
             }
-            Request::Replace { space, tuple } => self.replace(*space, tuple.as_slice(), found),
             Request::Nop | Request::Ping => Ok(Answered::Empty),
             Request::Id => Ok(Answered::Id),
             Request::Insert { .. }
+            | Request::Replace { .. }
             | Request::Update { .. }
             | Request::Delete { .. }
-            | Request::Upsert { .. }
-            | Request::Begin
+            | Request::Upsert { .. } => Err(not_built(request.kind())),
+            Request::Begin
             | Request::Commit
             | Request::Rollback
             | Request::Join { .. }
@@ -252,16 +266,15 @@ impl Engine {
         }
     }
 
-    /// As `answer`, of a request that stands in its packet.
-    fn answer_in_place(
-        &mut self,
+    /// As `read`, of a request that stands in its packet.
+    fn read_in_place(
+        &self,
         request: &RequestRef<'_>,
         found: &mut Tuples,
     ) -> Result<Answered, Refusal>
-        requires accepted { steps.accepts self.old.ids (request_view request.now) ≡ true }
         requires askable { IsAskable (request_view request.now) }
-        ensures answers { (state : plain.State) → Holds self.old.state state → AnswersRequest self.old self.new state (request_view request.now) (reply_of result found.new) }
-        ensures keeps { SameNode self.old self.new }
+        ensures { (state : plain.State) → Holds self.now.state state → write_in (request_view request.now) ≡ None
+            → IsReplyOf (reply_of result found.new) (answer_to state (request_view request.now)) }
     {
         match request {
             RequestRef::Select {
@@ -280,14 +293,14 @@ impl Engine {
                 };
                 self.select(*space, *index, &pick, found)
             }
-            RequestRef::Replace { space, tuple } => self.replace_array(*space, tuple, found),
             RequestRef::Nop | RequestRef::Ping => Ok(Answered::Empty),
             RequestRef::Id => Ok(Answered::Id),
             RequestRef::Insert { .. }
+            | RequestRef::Replace { .. }
             | RequestRef::Update { .. }
             | RequestRef::Delete { .. }
-            | RequestRef::Upsert { .. }
-            | RequestRef::Begin
+            | RequestRef::Upsert { .. } => Err(not_built(request.kind())),
+            RequestRef::Begin
             | RequestRef::Commit
             | RequestRef::Rollback
             | RequestRef::Join { .. }

@@ -1,4 +1,4 @@
 //! What the engine does for each statement.
 
-mod replace;
 mod select;
+mod write;
