@@ -1,6 +1,6 @@
 -- What a transaction, a block and a header make of what memory holds.
 use Rattle.std.proofs.Common.{◌≡◌, ◌⊎◌, inl, inr, ℕ, zero, suc, ◌+◌, ◌-◌, ◌<◌, ◌≤◌, Bool, true, false, ◌&&◌, ◌==◌, List, [], ◌∷◌, length, take, drop, Option, Some, None, Result, Ok, Err, refl, sym, ap, subst, ◌∙◌, arith}
-use Rattle.std.specs.Prelude.{slice_index, slice_set, is_some, is_err, unwrap_or, IfOk, MatchOption, MatchResult, if◌then◌else◌, not}
+use Rattle.std.specs.Prelude.{slice_index, slice_set, is_none, is_err, unwrap_or, IfOk, MatchOption, MatchResult, if◌then◌else◌, not}
 use Rattle.std.specs.Cmp.Lexicographic.{bytes_decides}
 use Rattle.std.proofs.lemmas.Bool.{and_from, and_parts, eqb-true, eq-eqb, le-leb, cond-true, cond-false}
 use Rattle.std.proofs.lemmas.Grind.{same_number_lists}
@@ -20,22 +20,14 @@ use Rattle.mx_model.specs.declared.damage.Damage.{Damage}
 use Rattle.mx_model.specs.declared.damage.DamageKind.TheVariants.{Head as HeadDamage, Gap}
 use Rattle.mx_row.specs.declared.tx.Tx.{Tx}
 use Rattle.mx_row.specs.declared.row.Row.{Row}
-use Rattle.mx_row.specs.Rows.{replace_row, replace_type}
 use Rattle.std.specs.declared.alloc.AllocError.{AllocError}
 use Rattle.mx_base.specs.declared.ids.Lsn.{Lsn}
 use Rattle.mx_base.specs.declared.ids.ReplicaId.{ReplicaId}
 use Rattle.mx_base.specs.declared.refusal.Refusal.{Refusal}
 use Rattle.mx_base.specs.declared.refusal.Refusal.TheVariants.{OutOfMemory}
-use Rattle.mx_schema.specs.declared.keyed.Keyed.{Keyed}
-use Rattle.mx_schema.specs.Catalogues.{schema_of}
-use Rattle.mx_schema.specs.State.{State, with_tuple}
-use Rattle.mx_schema.specs.Stored.{Holds, HoldsBy}
-use Rattle.mx_model.specs.statements.Replaces.{Replaces}
-use Rattle.mx_model.proofs.PutLaws.{holds_after}
+use Rattle.mx_schema.specs.Stored.{Holds}
 use Rattle.mx_model.specs.Answers.{state_after_row, state_after_rows}
-use Rattle.mx_write.specs.Reads.{Read}
-use Rattle.mx_model.specs.statements.Answer.{refusal_after}
-use Rattle.mx_model.specs.statements.Replace.{replace_answer_in}
+use Rattle.mx_write.specs.Judge.{row_refusal}
 use Rattle.mx_row.specs.Clocks.{clock_after_one, follows}
 use Rattle.mx_model.specs.Directories as files
 use Rattle.mx_model.specs.Directories.{after_transaction, after_block, after_blocks, block_reached, damaged_row, is_shared, takes_row, takes_rows, ids_or, ids_in, head_fits, after_head}
@@ -115,27 +107,19 @@ not_zero : (number : ℕ) → not (number == 0) ≡ true → ¬ (number ≡ 0)
 not_zero zero test is = absurd cc
 not_zero (suc number) test is = omega (arith, is)
 
--- a row changes a state as a REPLACE of its tuple does
-row_puts : (state : State) (row : Row) → state_after_row state (replace_row row.space.0 row.tuple) ≡ state_after_row state row
-unfolding state_after_row
-row_puts state row = refl
-
 -- a transaction of one row
 abbrev one_row : ReplicaId → Lsn → Row → Tx
 one_row replica lsn row = record { replica = replica; first = lsn; rows = row ∷ [] }
 
-module _ (old new : Recovered) (before : files.Reached) (stands : StandsFor old before) (replica : ReplicaId) (lsn : Lsn) (row : Row) (keyed : Keyed)
-    (replayed : (is_shared (one_row replica lsn row) && (row.kind == replace_type)) ≡ true) (few : replica.0 < 32) (next : IsNext old.clock replica.0 lsn.0)
-    (clock : new.clock ≡ slice_set old.clock replica.0 lsn.0) (ids : new.ids ≡ old.ids) (put : Replaces before.state row.space.0 row.tuple keyed)
-    (holds : HoldsBy (schema_of before.state) new.state (with_tuple before.state row.space.0 put.key keyed.tuple)) where
+module _ (old new : Recovered) (before : files.Reached) (stands : StandsFor old before) (replica : ReplicaId) (lsn : Lsn) (row : Row)
+    (shared : is_shared (one_row replica lsn row) ≡ true) (few : replica.0 < 32) (next : IsNext old.clock replica.0 lsn.0)
+    (clock : new.clock ≡ slice_set old.clock replica.0 lsn.0) (ids : new.ids ≡ old.ids) (taken : row_refusal before.state row ≡ None)
+    (holds : Holds new.state (state_after_row before.state row)) where
   abbrev tx : Tx
   tx = one_row replica lsn row
 
   most : (lsn.0 + 1) - 1 ≤ max_lsn
   most = omega (arith, next.allowed)
-
-  is_taken : (is_shared tx ≡ true) × ((row.kind == replace_type) ≡ true)
-  is_taken = and_parts (is_shared tx) (row.kind == replace_type) replayed
 
   does_follow : follows before.clock tx ≡ true
   does_follow =
@@ -144,39 +128,37 @@ module _ (old new : Recovered) (before : files.Reached) (stands : StandsFor old 
       and_from _ _ (eq-eqb _ _ first) (le-leb _ _ most)
 
   takes : takes_rows before.state tx.rows ≡ true
-  takes =
-      ap (λ answer. ((row.kind == replace_type) && is_some answer.row) && true) put.answer
-      ∙ ap (λ (b : Bool). (b && true) && true) is_taken.1
+  takes = ap (λ refusal. is_none refusal && true) taken
 
   stands_after : StandsFor new (record before { state = state_after_rows before.state tx.rows; clock = clock_after_one before.clock tx })
   stands_after =
       let last : lsn.0 ≡ (lsn.0 + 1) - 1 = omega arith in record {
         ids = ids ∙ stands.ids;
-        holds = subst (Holds new.state) (row_puts before.state row) (holds_after before.state row.space.0 row.tuple keyed put new.state holds);
+        holds = holds;
         clock = clock ∙ ap (λ (c : List ℕ). slice_set c replica.0 lsn.0) stands.clock ∙ ap (slice_set before.clock replica.0) last;
         sound = record {
           whole = length-set before.clock replica.0 ((lsn.0 + 1) - 1) ∙ stands.sound.whole;
           bounded = All-set (λ lsn. lsn ≤ max_lsn) before.clock replica.0 ((lsn.0 + 1) - 1) most stands.sound.bounded;
         };
-        nothing = get_or-set_other before.clock replica.0 0 ((lsn.0 + 1) - 1) 0 (λ is. not_zero replica.0 is_taken.0 (sym is)) ∙ stands.nothing;
+        nothing = get_or-set_other before.clock replica.0 0 ((lsn.0 + 1) - 1) 0 (λ is. not_zero replica.0 shared (sym is)) ∙ stands.nothing;
         whose = stands.whose;
       }
 
-  -- it follows, and memory has its tuple under its key
+  -- it follows, and memory has what its row makes of the state
   pub taken_row : MatchOption (after_transaction tx before) (true ≡ false) (λ after. (true ≡ true) × StandsFor new after)
   taken_row =
       one_taken (StandsFor new) (after_transaction tx before) _
-      (cond-true _ _ _ (and_from _ _ (and_from _ _ is_taken.0 does_follow) takes)) stands_after
+      (cond-true _ _ _ (and_from _ _ (and_from _ _ shared does_follow) takes)) stands_after
 
 -- a row that the state doesn't take
 module _ (new : Recovered) (before : files.Reached) (replica : ReplicaId) (lsn : Lsn) (row : Row) where
   abbrev Refused : Type 0
   Refused = MatchOption (after_transaction (one_row replica lsn row) before) (false ≡ false) (λ after. (false ≡ true) × StandsFor new after)
 
-  pub refused_row : (reads : List Read) (refusal : Refusal) → replace_answer_in before.state row.space.0 row.tuple ≡ refusal_after reads refusal → Refused
-  refused_row reads refusal put =
+  pub refused_row : (refusal : Refusal) → row_refusal before.state row ≡ Some refusal → Refused
+  refused_row refusal is =
       let front = is_shared (one_row replica lsn row) && follows before.clock (one_row replica lsn row) in
-      let other : takes_row before.state row ≡ false = ap (λ answer. (row.kind == replace_type) && is_some answer.row) put ∙ and_false (row.kind == replace_type) in
+      let other : takes_row before.state row ≡ false = ap is_none is in
       none_taken (StandsFor new) (after_transaction (one_row replica lsn row) before)
       (cond-false _ _ _ (ap (λ b. front && (b && true)) other ∙ and_false front))
 

@@ -6,10 +6,10 @@ ghost use Rattle.mx_xlog.specs.Reading.{blocks_of};
 ghost use Rattle.mx_base.specs.declared.refusal.Refusal.TheVariants.{OutOfMemory};
 ghost use Rattle.mx_model.specs.declared.damage.Damage.{Damage};
 ghost use Rattle.mx_model.specs.Directories as files;
-ghost use Rattle.mx_model.specs.Directories.{after_block, after_blocks, after_file, after_transaction, nothing_yet, head_fits, are_its_ids, is_shared, same_id};
+ghost use Rattle.mx_model.specs.Directories.{after_block, after_blocks, after_file, after_transaction, nothing_yet, head_fits, are_its_ids, same_id};
 ghost use Rattle.mx_xlog.specs.Files.{FileRead, ReadsAs};
 ghost use Rattle.mx_files.specs.Names.{same_bytes};
-ghost use Rattle.mx_row.specs.Rows.{IsRow, replace_type};
+ghost use Rattle.mx_row.specs.Rows.{IsRow};
 ghost use Rattle.mx_row.specs.Views.{row_value, tx_view};
 ghost use Rattle.mx_recover.specs.declared.fault.RecoverFault.TheVariants.{Damaged, Failed};
 ghost use Rattle.mx_recover.specs.Recovered.{StandsFor};
@@ -17,9 +17,9 @@ ghost use Rattle.mx_recover.specs.Recovered.{StandsFor};
 use crate::fault::RecoverFault;
 use mx_base::Refusal;
 use mx_files::journal_name;
-use mx_model::{Damage, DamageKind, Ids, bootstrap, check_replace_of_array};
+use mx_model::{Damage, DamageKind, Ids, apply_row, bootstrap};
 use mx_msgpack::Bytes;
-use mx_row::{TxRef, read_tx_in_place, row_types};
+use mx_row::{TxRef, read_tx_in_place};
 use mx_schema::State;
 use mx_vclock::Vclock;
 use mx_xlog::{Block, Head, read_block, read_header};
@@ -126,33 +126,24 @@ impl Recovered {
         Ok(true)
     }
 
+    /// A local transaction, of the replica 0, is refused.
     fn take_tx(&mut self, alloc: Global, tx: &TxRef<'_>) -> Result<bool, AllocError>
         requires replica { tx.now.replica.0 < 32 }
         requires row { IsRow (row_value tx.now.row) }
         ensures { (before : files.Reached) → StandsFor self.old before → IfOk result (λ taken. MatchOption (after_transaction (tx_view tx.now) before)
             (taken ≡ false) (λ after. (taken ≡ true) × StandsFor self.new after)) }
     {
-        if !is_replayed(tx) {
+        if tx.replica.0 == 0 {
             return Ok(false);
         }
         if self.clock.follow(tx.replica.0, tx.lsn.0).is_err() {
             return Ok(false);
         }
-        let space = tx.row.space;
-        let keyed = match check_replace_of_array(&self.state, alloc, space, tx.row.tuple) {
-            Ok(keyed) => keyed,
-            Err(refusal) => return refused(&refusal),
-        };
-        self.state.put(space, keyed)?;
-        Ok(true)
+        match apply_row(&mut self.state, alloc, &tx.row) {
+            Ok(()) => Ok(true),
+            Err(refusal) => refused(&refusal),
+        }
     }
-}
-
-/// Whether the transaction may stand in a journal: it is no local one, and its row is a REPLACE's.
-fn is_replayed(tx: &TxRef<'_>) -> bool
-    ensures { result ≡ (is_shared (tx_view tx.now) && (tx.now.row.kind == replace_type)) }
-{
-    tx.replica.0 != 0 && tx.row.kind == row_types::REPLACE
 }
 
 fn refused(refusal: &Refusal) -> Result<bool, AllocError>
