@@ -46,14 +46,14 @@ pub(crate) enum Asked<'a> {
     Scan(u32, u32, u8, &'a [u8]),
     /// The space and the tuple.
     Replace(u32, &'a [u8]),
-    /// The tuple.
-    Insert(&'a [u8]),
-    /// The key.
-    Update(&'a [u8]),
-    /// The space and the key.
-    Delete(u32, &'a [u8]),
-    /// The tuple.
-    Upsert(&'a [u8]),
+    /// The space and the tuple.
+    Insert(u32, &'a [u8]),
+    /// The space, the index, the key and the operations.
+    Update(u32, u32, &'a [u8], &'a [u8]),
+    /// The space, the index and the key.
+    Delete(u32, u32, &'a [u8]),
+    /// The space, the tuple and the operations.
+    Upsert(u32, &'a [u8], &'a [u8]),
     Nop,
     Ping,
     Begin,
@@ -71,8 +71,18 @@ impl<'a> Asked<'a> {
         match self {
             Asked::Pick(_, key, _, _) | Asked::Select(_, _, key) => key,
             Asked::Scan(_, _, _, key) => key,
-            Asked::Update(key) | Asked::Delete(_, key) => key,
-            Asked::Replace(_, tuple) | Asked::Insert(tuple) | Asked::Upsert(tuple) => tuple,
+            Asked::Update(_, _, key, _) | Asked::Delete(_, _, key) => key,
+            Asked::Replace(_, tuple) | Asked::Insert(_, tuple) | Asked::Upsert(_, tuple, _) => {
+                tuple
+            }
+            _ => &[],
+        }
+    }
+
+    /// The operations, if there are any.
+    fn operations(self) -> &'a [u8] {
+        match self {
+            Asked::Update(_, _, _, operations) | Asked::Upsert(_, _, operations) => operations,
             _ => &[],
         }
     }
@@ -117,24 +127,24 @@ fn request_with(content: Bytes, operations: Bytes, asked: Asked<'_>) -> Request 
             space: SpaceId(space),
             tuple: content,
         },
-        Asked::Insert(_) => Request::Insert {
-            space: SpaceId(TEST_SPACE),
+        Asked::Insert(space, _) => Request::Insert {
+            space: SpaceId(space),
             tuple: content,
         },
-        Asked::Update(_) => Request::Update {
-            space: SpaceId(TEST_SPACE),
-            index: IndexId(0),
+        Asked::Update(space, index, _, _) => Request::Update {
+            space: SpaceId(space),
+            index: IndexId(index),
             base: 0,
             key: content,
             ops: operations,
         },
-        Asked::Delete(space, _) => Request::Delete {
+        Asked::Delete(space, index, _) => Request::Delete {
             space: SpaceId(space),
-            index: IndexId(0),
+            index: IndexId(index),
             key: content,
         },
-        Asked::Upsert(_) => Request::Upsert {
-            space: SpaceId(TEST_SPACE),
+        Asked::Upsert(space, _, _) => Request::Upsert {
+            space: SpaceId(space),
             base: 0,
             tuple: content,
             ops: operations,
@@ -166,9 +176,9 @@ fn bare_request(asked: Asked<'_>) -> Request {
     }
 }
 
-fn request_of(alloc: Global, asked: Asked<'_>) -> Result<Request, AllocError> {
+pub(crate) fn request_of(alloc: Global, asked: Asked<'_>) -> Result<Request, AllocError> {
     let content = Bytes::from_slice(alloc, asked.content())?;
-    let operations = Bytes::from_slice(alloc, NO_KEY)?;
+    let operations = Bytes::from_slice(alloc, asked.operations())?;
     Ok(request_with(content, operations, asked))
 }
 
@@ -242,8 +252,7 @@ impl Database {
         clock: &str,
         me: u8,
     ) -> Result<Database, AllocError> {
-        let slow = Slow::new(alloc, bootstrap(alloc)?, clock_of(rt, clock), ids_of(me))?;
-        Ok(Database::Slow(slow))
+        Ok(Database::Slow(slow_program(rt, alloc, clock, me)?))
     }
 
     /// The reply to a request.
@@ -281,6 +290,16 @@ fn reply_of(answer: Result<Answer, Refusal>) -> Result<Reply, AllocError> {
         Err(refusal) if matches!(refusal, Refusal::OutOfMemory) => Err(AllocError),
         Err(refusal) => Ok(Reply::Refused(refusal)),
     }
+}
+
+/// The slow program with a new database that has come to a vclock, on the node of a replica id.
+pub(crate) fn slow_program(
+    rt: &impl Abort,
+    alloc: Global,
+    clock: &str,
+    me: u8,
+) -> Result<Slow, AllocError> {
+    Slow::new(alloc, bootstrap(alloc)?, clock_of(rt, clock), ids_of(me))
 }
 
 /// A new database that has come to a vclock, on the node of a replica id.

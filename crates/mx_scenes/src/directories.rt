@@ -94,12 +94,30 @@ const NO_KEY_BLOCK: &[u8; 33] = b"\xd5\xba\x0b\xab\xce\0\0\0\x0e\0\xce\x65\x8c\x
 const WRONG_KEY_BLOCK: &[u8; 34] = b"\xd5\xba\x0b\xab\xce\0\0\0\x0f\0\xce\xd1\x4f\xde\x54\xa3\0\0\0\
     \x83\x00\x03\x02\x01\x03\x01\x82\x10\xcd\x02\x00\x21\x91\xff";
 
-/// The block of the first commit with the replica id 0, whose rows are local, and as an INSERT.
+/// The block of the first commit with the replica id 0, whose rows are local, and an INSERT's of replica 1.
 const LOCAL_BLOCK: &[u8; 36] = b"\xd5\xba\x0b\xab\xce\0\0\0\x11\0\xce\x93\x00\x40\xfd\xa3\0\0\0\
     \x83\x00\x03\x02\x00\x03\x01\x82\x10\xcd\x02\x00\x21\x92\x01\xa1\x61";
 
 const INSERT_BLOCK: &[u8; 36] = b"\xd5\xba\x0b\xab\xce\0\0\0\x11\0\xce\xc4\x5c\x85\x99\xa3\0\0\0\
     \x83\x00\x02\x02\x01\x03\x01\x82\x10\xcd\x02\x00\x21\x92\x01\xa1\x61";
+
+/// Blocks of the second commit: an INSERT of [1, "a"], DELETEs of [1] and of [7], and an UPDATE of [1] that sets
+/// its key to 2.
+const INSERT_AGAIN_BLOCK: &[u8; 36] =
+    b"\xd5\xba\x0b\xab\xce\x00\x00\x00\x11\x00\xce\x78\x22\xeb\x2b\xa3\x00\x00\x00\
+    \x83\x00\x02\x02\x01\x03\x02\x82\x10\xcd\x02\x00\x21\x92\x01\xa1\x61";
+
+const DELETE_BLOCK: &[u8; 34] =
+    b"\xd5\xba\x0b\xab\xce\x00\x00\x00\x0f\x00\xce\x90\x5b\x01\x0f\xa3\x00\x00\x00\
+    \x83\x00\x05\x02\x01\x03\x02\x82\x10\xcd\x02\x00\x20\x91\x01";
+
+const DELETE_NONE_BLOCK: &[u8; 34] =
+    b"\xd5\xba\x0b\xab\xce\x00\x00\x00\x0f\x00\xce\xb6\xfa\xe6\xe7\xa3\x00\x00\x00\
+    \x83\x00\x05\x02\x01\x03\x02\x82\x10\xcd\x02\x00\x20\x91\x07";
+
+const CHANGE_KEY_BLOCK: &[u8; 41] =
+    b"\xd5\xba\x0b\xab\xce\x00\x00\x00\x16\x00\xce\x86\xda\x2a\x5e\xa3\x00\x00\x00\
+    \x83\x00\x04\x02\x01\x03\x02\x83\x10\xcd\x02\x00\x20\x91\x01\x21\x91\x93\xa1\x3d\x00\x02";
 
 /// The block of the first commit without its last byte.
 const CUT_BLOCK: &[u8; 35] = b"\xd5\xba\x0b\xab\xce\0\0\0\x11\0\xce\xa3\xd2\x78\x98\xa3\0\0\0\
@@ -125,9 +143,16 @@ const OPENED: &[(&[File<'static>], &str)] = &[
         &[(FIRST, &[HEADER, LOCAL_BLOCK])],
         "Damaged 00000000000000000000.xlog 118 row",
     ),
+    (&[(FIRST, &[HEADER, INSERT_BLOCK])], "Ok"),
+    (&[(FIRST, &[HEADER, INSERT_BLOCK, DELETE_BLOCK])], "Ok"),
+    (&[(FIRST, &[HEADER, BLOCK, DELETE_NONE_BLOCK])], "Ok"),
     (
-        &[(FIRST, &[HEADER, INSERT_BLOCK])],
-        "Damaged 00000000000000000000.xlog 118 row",
+        &[(FIRST, &[HEADER, BLOCK, INSERT_AGAIN_BLOCK])],
+        "Damaged 00000000000000000000.xlog 154 row",
+    ),
+    (
+        &[(FIRST, &[HEADER, BLOCK, CHANGE_KEY_BLOCK])],
+        "Damaged 00000000000000000000.xlog 154 row",
     ),
     (
         &[(FIRST, &[HEADER, BLOCK, BLOCK])],

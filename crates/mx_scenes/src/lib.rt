@@ -19,6 +19,8 @@ mod journals;
 #[cfg(test)]
 mod model;
 #[cfg(test)]
+mod reads;
+#[cfg(test)]
 mod replace;
 #[cfg(test)]
 mod requests;

@@ -8,10 +8,11 @@ use crate::harness::{
     check_exchanges, check_refusals, directory_with, joined, new_directory, run_on,
 };
 use mx_base::SpaceId;
-use mx_model::{bootstrap, check_replace};
+use mx_model::bootstrap;
 use mx_msgpack::Bytes;
-use mx_schema::State;
+use mx_schema::{State, array_or_empty};
 use mx_tuple::MAX_TUPLE_SIZE;
+use mx_write::{Scope, Writer};
 use std::alloc::{AllocError, Global};
 use std::process::Abort;
 use std::test::Fail;
@@ -23,10 +24,19 @@ pub(crate) fn put(
     state: &mut State,
     tuple: &[u8],
 ) -> Result<(), AllocError> {
-    let checked = check_replace(state, alloc, SpaceId(512), tuple);
-    let keyed = checked.expect(rt, "no key");
-    assert_eq!(rt; keyed.tuple.as_slice(), tuple);
-    state.put(SpaceId(512), keyed)
+    let made = replace_in(state, alloc).replace(array_or_empty(tuple));
+    let made = made.expect(rt, "no key");
+    made.install(state, SpaceId(512))
+}
+
+/// A REPLACE by a client in the space 512 of a state.
+fn replace_in(state: &State, alloc: Global) -> Scope<'_> {
+    Scope {
+        state,
+        alloc,
+        writer: Writer::Client,
+        space: SpaceId(512),
+    }
 }
 
 /// The state of a new database into which these tuples were put.
@@ -134,7 +144,9 @@ fn check_fault(
     tuple: &[u8],
     told: Told<'_>,
 ) -> Result<(), AllocError> {
-    let refused = check_replace(state, alloc, SpaceId(512), tuple).err();
+    let refused = replace_in(state, alloc)
+        .replace(array_or_empty(tuple))
+        .err();
     let refusal = refused.expect(rt, "the tuple has a key");
     check_refusal(rt, alloc, &refusal, told)
 }

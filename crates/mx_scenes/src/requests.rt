@@ -18,7 +18,7 @@ fn bare_requests_are_answered(rt: HostRuntime) -> Result<(), Fail> {
 
 const SEVEN: &[u8] = b"\x91\x07";
 
-/// Requests that aren't built yet and write nothing, and that nothing was changed.
+/// Requests that aren't built yet, and that nothing was changed.
 const NOT_BUILT: &[Step<'static>] = &[
     (Asked::Begin, Told::Refused(48, b"Unknown request type 14")),
     (Asked::Commit, Told::Refused(48, b"Unknown request type 15")),
@@ -35,43 +35,19 @@ const NOT_BUILT: &[Step<'static>] = &[
     (Asked::Select(512, 0, NO_KEY), Told::Tuples(b"")),
 ];
 
-/// Writes that aren't built yet, and that nothing was changed.
-const NOT_BUILT_WRITES: &[Step<'static>] = &[
-    (
-        Asked::Insert(SEVEN),
-        Told::Refused(48, b"Unknown request type 2"),
-    ),
-    (
-        Asked::Update(SEVEN),
-        Told::Refused(48, b"Unknown request type 4"),
-    ),
-    (
-        Asked::Delete(512, SEVEN),
-        Told::Refused(48, b"Unknown request type 5"),
-    ),
-    (
-        Asked::Delete(513, NO_KEY),
-        Told::Refused(48, b"Unknown request type 5"),
-    ),
-    (
-        Asked::Upsert(SEVEN),
-        Told::Refused(48, b"Unknown request type 9"),
-    ),
-    (Asked::Select(512, 0, NO_KEY), Told::Tuples(b"")),
-];
-
 #[test]
 fn requests_that_are_not_built_are_refused(rt: HostRuntime) -> Result<(), Fail> {
-    play_both(&rt, rt.alloc(), NOT_BUILT)?;
-    Ok(play_both(&rt, rt.alloc(), NOT_BUILT_WRITES)?)
+    Ok(play_both(&rt, rt.alloc(), NOT_BUILT)?)
 }
 
 const READ_ONLY: Told<'static> = Told::Refused(7, b"Node is read-only, the writable node is 1");
 
 /// What a node that may not be written tells.
 const ON_READ_ONLY: &[Step<'static>] = &[
-    (Asked::Insert(b"\x91\x01"), READ_ONLY),
-    (Asked::Delete(513, NO_KEY), READ_ONLY),
+    (Asked::Insert(512, SEVEN), READ_ONLY),
+    (Asked::Update(512, 1, SEVEN, NO_KEY), READ_ONLY),
+    (Asked::Delete(513, 0, NO_KEY), READ_ONLY),
+    (Asked::Upsert(512, NO_KEY, NO_KEY), READ_ONLY),
     (Asked::Select(512, 0, NO_KEY), Told::Tuples(b"")),
     (Asked::Ping, Told::Empty),
 ];

@@ -154,8 +154,6 @@ const IN_PLACE: Told<'static> = Told::Refused(5, b"Unsupported: change of a sche
 
 const SYSTEM: Told<'static> = Told::Refused(5, b"Unsupported: write to a system space");
 
-const NOT_BUILT: Told<'static> = Told::Refused(48, b"Unknown request type 3");
-
 /// REPLACEs into system spaces, whatever else is wrong with the tuple; and that nothing was changed.
 const WRITES: &[Step<'static>] = &[
     (Asked::Replace(280, NO_KEY), IN_PLACE),
@@ -168,15 +166,25 @@ const WRITES: &[Step<'static>] = &[
     (Asked::Replace(289, NO_KEY), SYSTEM),
     (Asked::Replace(320, b"\x92\x01\xa1a"), SYSTEM),
     (Asked::Replace(272, b"\x92\xa6leader\x02"), SYSTEM),
-    (Asked::Replace(272, b"\x92\xa6Leader\x02"), NOT_BUILT),
-    (Asked::Replace(272, NO_KEY), NOT_BUILT),
-    (Asked::Select(272, 0, NO_KEY), Told::Tuples(LEADER)),
+    // Another setting may be, and comes before the leader's.
+    (
+        Asked::Replace(272, b"\x92\xa6Leader\x02"),
+        Told::Tuples(b"\x92\xa6Leader\x02"),
+    ),
+    (
+        Asked::Replace(272, NO_KEY),
+        Told::Refused(39, b"Field 0 is missing"),
+    ),
+    (
+        Asked::Select(272, 0, NO_KEY),
+        Told::Tuples(b"\x92\xa6Leader\x02\x92\xa6leader\x01"),
+    ),
     (Asked::Select(320, 0, NO_KEY), Told::Tuples(b"")),
     (Asked::Select(512, 0, NO_KEY), Told::Tuples(b"")),
 ];
 
 #[test]
-fn system_spaces_are_not_replaced(rt: HostRuntime) -> Result<(), Fail> {
+fn only_settings_are_replaced_in_system_spaces(rt: HostRuntime) -> Result<(), Fail> {
     Ok(play_both(&rt, rt.alloc(), WRITES)?)
 }
 
