@@ -96,6 +96,13 @@ REFUSED = (
     (packet({TYPE: 8, SYNC: 1}, {}), 48, "Unknown request type 8"),
     (packet({TYPE: "a", SYNC: 1}), 1, "Illegal value of key 0x00"),
     (packet({TYPE: 7, SYNC: 1}, {}), 5, "Unsupported: authentication"),
+    # The type comes before the header's other keys, these before the body's, and these in ascending order.
+    (packet({STREAM: -1, TYPE: 8, SYNC: 1}), 48, "Unknown request type 8"),
+    (packet({STREAM: -1, TYPE: 7, SYNC: 1}), 5, "Unsupported: authentication"),
+    (packet({STREAM: -1, TYPE: 1, SYNC: 1}), 1, "Illegal value of key 0x0a"),
+    (request("SELECT", 1, key=7, index=-1), 69, "Missing key 0x10"),
+    (request("SELECT", 1, key=7, index=-1, space=513), 1, "Illegal value of key 0x11"),
+    (request("SELECT", 1, key=7, space=513), 1, "Illegal value of key 0x20"),
     (request("SELECT", 1, space=512), 69, "Missing key 0x20"),
     (packet({TYPE: 1, SYNC: 1}, {}), 69, "Missing key 0x10"),
     (request("SELECT", 1, space=512, iterator=7, key=[]), 1, "Illegal value of key 0x14"),
@@ -108,7 +115,6 @@ REFUSED = (
     (request("REPLACE", 1, space=280, tuple=[1]), 5, "Unsupported: change of a schema row in place"),
     (request("REPLACE", 1, space=281, tuple=[1]), 5, "Unsupported: write to a system space"),
     (request("REPLACE", 1, space=272, tuple=["leader", 2]), 5, "Unsupported: write to a system space"),
-    (request("REPLACE", 1, space=272, tuple=["other", 2]), 48, "Unknown request type 3"),
     (request("SELECT", 1, space=512, key=[-1, 1]), 19, "Key of 2 parts, index of 1"),
     (request("SELECT", 1, space=512, key=[1, 1]), 19, "Key of 2 parts, index of 1"),
     (request("SELECT", 1, space=512, iterator="GE", key=spelled("dc0003 01 02 03")), 19, "Key of 3 parts, index of 1"),
@@ -120,17 +126,10 @@ REFUSED = (
     (request("REPLACE", 1, space=512, tuple=[-1]), 23, "Field 0: unsigned expected"),
     (request("REPLACE", 1, space=512, tuple=["a", 1]), 23, "Field 0: unsigned expected"),
     # What isn't built yet, with BEGIN in stream 0, and an acknowledgement.
-    (request("INSERT", 1, space=512, tuple=[1]), 48, "Unknown request type 2"),
-    (request("UPDATE", 1, space=512, key=[1], operations=[["=", 1, 2]]), 48, "Unknown request type 4"),
-    (request("DELETE", 1, space=512, key=[1]), 48, "Unknown request type 5"),
-    (request("UPSERT", 1, space=512, tuple=[1], operations=[]), 48, "Unknown request type 9"),
     (request("BEGIN", 1), 48, "Unknown request type 14"),
     (request("COMMIT", 1), 48, "Unknown request type 15"),
     (request("ROLLBACK", 1), 48, "Unknown request type 16"),
     (packet({TYPE: 0, SYNC: 1}, {KEYS["vclock"]: {}}), 48, "Unknown request type 0"),
-    # Update operations of no shape.
-    (request("UPDATE", 1, space=512, key=[1], operations=[["?", 1, 1]]), 28, "Unknown update operator"),
-    (request("UPDATE", 1, space=512, key=[1], operations=[["=", 1]]), 29, "Update operation 0: bad argument"),
 )
 
 
@@ -275,6 +274,8 @@ def connections_share_the_database():
 # Packets that end their connection, in hexadecimal digits, and the sync of their refusal.
 NO_PACKETS = (
     ("0682004001" "07c1", 7),
+    # No request has the type either.
+    ("0682000801" "07c1", 7),
     ("0581004080" "80", 0),
     ("0140", 0),
     ("00", 0),

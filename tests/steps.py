@@ -1,0 +1,201 @@
+"""Writes and what they are answered, as tests of the built program say them.
+
+A step is the name of a request, the fields of its body, and its reply: a list of tuples, or the number and
+the text of a refusal. What is expected is worked out by hand.
+"""
+
+import subprocess
+
+from iproto import (
+    GREETING_BYTES,
+    KEYS,
+    OPERATIONS,
+    SEED,
+    Spelled,
+    Wide,
+    contents,
+    error_reply,
+    input_unit,
+    pack,
+    packets_in,
+    request,
+    tuples_reply,
+)
+from program import GREETING, PROGRAM, TRACE, environment, expect
+
+MAX_TUPLE = 1_048_576
+MAX_ROW_BODY = 2_097_120
+MAX_OPERATIONS = 4_000
+# The greatest and the least number.
+MOST, LEAST = 2**64 - 1, -(2**63)
+# A tuple of a small number and these bytes is the longest.
+LONGEST = b"a" * (MAX_TUPLE - 7)
+# Values that are kept as they are spelled: a float, an extension, a long text and a long number.
+FLOAT, EXTENSION = Spelled(bytes.fromhex("cb3ff0000000000000")), Spelled(bytes.fromhex("d40100"))
+LONG_TEXT, LONG_NUMBER = Spelled(bytes.fromhex("d90161")), Wide(5, 8)
+# How many bytes of a packet a message shows.
+SHOWN_BYTES = 100
+
+SETTINGS, SPACES, SHOWN_SPACES, INDEXES, SHOWN_INDEXES, CLUSTER, TEST = 272, 280, 281, 288, 289, 320, 512
+LEADER = ["leader", 1]
+SPACE_NAMES = {
+    SETTINGS: "_schema",
+    SPACES: "_space",
+    SHOWN_SPACES: "_vspace",
+    INDEXES: "_index",
+    SHOWN_INDEXES: "_vindex",
+    CLUSTER: "_cluster",
+    TEST: "test",
+}
+PRIMARY_PARTS = {
+    SETTINGS: [[0, "string"]],
+    INDEXES: [[0, "unsigned"], [1, "unsigned"]],
+    SHOWN_INDEXES: [[0, "unsigned"], [1, "unsigned"]],
+}
+# The index beside the primary one: its number, its name and its parts.
+OTHER_INDEXES = {
+    SPACES: (2, "name", [[2, "string"]]),
+    SHOWN_SPACES: (2, "name", [[2, "string"]]),
+    INDEXES: (2, "name", [[0, "unsigned"], [2, "string"]]),
+    SHOWN_INDEXES: (2, "name", [[0, "unsigned"], [2, "string"]]),
+    CLUSTER: (1, "uuid", [[1, "string"]]),
+}
+
+
+def index_row(space, index, name, parts):
+    """The row of 288 of an index."""
+    return [space, index, name, "tree", {"unique": True}, parts]
+
+
+def index_rows(space):
+    """The rows of 288 of a space's indexes."""
+    primary = index_row(space, 0, "primary", PRIMARY_PARTS.get(space, [[0, "unsigned"]]))
+    return [primary, *([index_row(space, *OTHER_INDEXES[space])] if space in OTHER_INDEXES else [])]
+
+
+SPACE_ROWS = [[space, 1, name, "memtx", 0, {}, []] for space, name in SPACE_NAMES.items()]
+INDEX_ROWS = [row for space in SPACE_NAMES for row in index_rows(space)]
+
+UNKNOWN_OPERATOR = (28, "Unknown update operator")
+DUPLICATE = (3, 'Duplicate key in unique index "primary" of space "test"')
+IN_PLACE = (5, "Unsupported: change of a schema row in place")
+SYSTEM_WRITE = (5, "Unsupported: write to a system space")
+NOT_UNSIGNED = (23, "Field 0: unsigned expected")
+NO_FIELD = (39, "Field 0 is missing")
+KEY_CHANGED = (94, 'Primary key of space "test" is changed')
+ROW_TOO_LONG = (202, "Transaction is too long")
+READ_ONLY = (7, "Node is read-only, the writable node is 1")
+NO_SPACE = (36, "Space 513 does not exist")
+
+
+def bad_argument(place):
+    return 29, f"Update operation {place}: bad argument"
+
+
+def overflow(place):
+    return 95, f"Update operation {place}: integer overflow"
+
+
+def illegal(key):
+    return 1, f"Illegal value of key 0x{key:02x}"
+
+
+def missing(key):
+    return 69, f"Missing key 0x{key:02x}"
+
+
+def no_index(index, space):
+    return 35, f'No index {index} in space "{SPACE_NAMES[space]}"'
+
+
+def key_count(given, parts):
+    return 19, f"Key of {given} parts, index of {parts}"
+
+
+def key_type(part, kind="unsigned"):
+    return 18, f"Key part {part}: {kind} expected"
+
+
+def too_long(tuple_):
+    return 203, f"Tuple of {len(pack(tuple_))} bytes, {MAX_TUPLE} allowed"
+
+
+def not_built(number):
+    return 48, f"Unknown request type {number}"
+
+
+def insert(tuple_, reply=None, space=TEST):
+    """An INSERT, whose reply is the tuple where no other is expected."""
+    return "INSERT", {"space": space, "tuple": tuple_}, [tuple_] if reply is None else reply
+
+
+def replace(tuple_, reply=None, space=TEST):
+    """A REPLACE, whose reply is the tuple where no other is expected."""
+    return "REPLACE", {"space": space, "tuple": tuple_}, [tuple_] if reply is None else reply
+
+
+def update(key, operations, reply, space=TEST, **fields):
+    return "UPDATE", {"space": space, "key": key, "operations": operations, **fields}, reply
+
+
+def delete(key, reply, space=TEST, **fields):
+    return "DELETE", {"space": space, "key": key, **fields}, reply
+
+
+def upsert(tuple_, operations, refusal=None, space=TEST, **fields):
+    """An UPSERT, whose reply has no tuple where no refusal is expected."""
+    return "UPSERT", {"space": space, "tuple": tuple_, "operations": operations, **fields}, refusal or []
+
+
+def select(key, *tuples, space=TEST):
+    """A SELECT of the tuples whose keys this key begins."""
+    return "SELECT", {"space": space, "key": key}, list(tuples)
+
+
+def has_tuples(*tuples):
+    """A SELECT of all tuples of the space `test`."""
+    return select([], *tuples)
+
+
+def is_refusal(reply):
+    """Whether this is a number and a text, and no list."""
+    return isinstance(reply, tuple)
+
+
+def shown(data):
+    """Bytes as a message shows them."""
+    return data.hex() if len(data) <= SHOWN_BYTES else f"{data[:SHOWN_BYTES].hex()}.. of {len(data)} bytes"
+
+
+def converse(steps, folder):
+    """Asks these steps in a folder's directory, each in a unit of its own, and checks each reply."""
+    asked = [request(name, sync, **fields) for sync, (name, fields, _) in enumerate(steps, 1)]
+    ended = subprocess.run(
+        [PROGRAM, *TRACE],
+        input=b"".join(map(input_unit, asked)),
+        capture_output=True,
+        cwd=folder,
+        env=environment(SEED),
+    )
+    output = b"".join(contents(ended.stdout))
+    expect("standard error", b"", ended.stderr)
+    expect("status", 0, ended.returncode)
+    expect("greeting", GREETING[:64], output[:64])
+    replies = list(packets_in(output[GREETING_BYTES:]))
+    for sync, (packet, (name, _, reply), seen) in enumerate(zip(asked, steps, replies), 1):
+        due = error_reply(sync, *reply) if is_refusal(reply) else tuples_reply(sync, *reply)
+        assert seen == due, f"reply {sync}, to {name} {shown(packet)}: expected {shown(due)}, saw {shown(seen)}"
+    expect("number of replies", len(steps), len(replies))
+
+
+def body_of(name, fields):
+    """The body of a request."""
+    keys = KEYS | {"operations": OPERATIONS[name]}
+    return pack({keys[field]: value for field, value in fields.items()})
+
+
+def filling(name, fields, size, field, *others):
+    """Operations that make the body of a row so long: an `=` of a field to bytes, and then these."""
+    shortest = body_of(name, {**fields, "operations": [["=", field, b""], *others]})
+    # Bytes of such a length have a head of 5 bytes, in place of 2.
+    return [["=", field, bytes(size - len(shortest) - 3)], *others]
