@@ -7,7 +7,10 @@ pairs' requests. A
 server whose work on a request doesn't grow with the number of requests has a ratio near 1.
 
 Then the cut is measured: what a byte costs more that comes in a unit of its own, beside what a unit
-costs that brings an empty-bodied PING. At last allocations are counted, by valgrind's memcheck.
+costs that brings an empty-bodied PING. Allocations are counted, by valgrind's memcheck. At last requests
+of each type are asked of a space with few tuples and of one with many, once and twice as many of them.
+What the latter cost more is divided by their number: where a request finds its tuple by going down a tree,
+it costs little more among many.
 """
 
 import argparse
@@ -53,6 +56,19 @@ SHAPES = {
     "connections": "a unit per pair, 1,000 connections in turn",
     "bytes": "a unit per byte",
 }
+# How many tuples a space has before requests of one type are asked of it, and by how many of these the runs differ.
+TUPLES = (1_000, 100_000)
+MORE = 250
+# The requests of each type by a sync and a key. An INSERT's key lies behind the one that is there.
+ADD_ONE = [["+", 1, 1]]
+TYPES_ASKED = {
+    "INSERT": lambda sync, key: insert(sync, key + 1, 0),
+    "REPLACE": lambda sync, key: request("REPLACE", Wide(sync, 4), space=512, tuple=[Wide(key, 4), 0]),
+    "UPDATE": lambda sync, key: request("UPDATE", Wide(sync, 4), space=512, key=[Wide(key, 4)], operations=ADD_ONE),
+    "DELETE": lambda sync, key: request("DELETE", Wide(sync, 4), space=512, key=[Wide(key, 4)]),
+    "UPSERT": lambda sync, key: request("UPSERT", Wide(sync, 4), space=512, tuple=[Wide(key, 4)], operations=ADD_ONE),
+    "SELECT": lambda sync, key: request("SELECT", Wide(sync, 4), space=512, limit=10, key=[Wide(key, 4)]),
+}
 # A PING without a sync and without a body, its size in one byte.
 PING = packet({TYPE: 64}, width=0)
 
@@ -60,6 +76,11 @@ PING = packet({TYPE: 64}, width=0)
 def replace(sync, key, value):
     """A REPLACE of [key, value]. Syncs have one width, so that requests of one key have one length."""
     return request("REPLACE", Wide(sync, 4), space=512, tuple=[key, value])
+
+
+def insert(sync, key, value):
+    """An INSERT of [key, value]. Keys have one width, so that requests have one length among few and many."""
+    return request("INSERT", Wide(sync, 4), space=512, tuple=[Wide(key, 4), value])
 
 
 def select(sync, key, iterator="EQ", limit=10):
@@ -206,15 +227,51 @@ def measure_cut(count, base):
     print(f"  a unit of a PING: {(pings - base) / size:,.1f} instructions", flush=True)
 
 
+def filled(tuples):
+    """The input that makes so many tuples, of the even keys from 0 on."""
+    return units(insert(at, 2 * at, 0) for at in range(tuples))
+
+
+def cost_among(asks, tuples):
+    """What a request costs among so many tuples. Both runs ask some, so that both leave memory alike at their end."""
+    pieces = [asks(tuples + at, 2 * (at * STEP % tuples)) for at in range(2 * MORE)]
+    totals = []
+    for asked in (pieces[:MORE], pieces):
+        total, answered = instructions(filled(tuples) + units(asked))
+        totals.append(total)
+        if answered != tuples + len(asked):
+            print(f"    only {answered:,} of {tuples + len(asked):,} requests have a reply of tuples")
+    return (totals[1] - totals[0]) / MORE
+
+
+def measure_among(sizes):
+    """Prints what a request of each type costs among so many tuples, and the ratio of the most to the fewest."""
+    sizes = sorted(sizes)
+    print("a request of one key among so many tuples, in instructions:")
+    print(f"  {'':<8}" + "".join(f"{f'{tuples:,}':>12}" for tuples in sizes) + f"{'ratio':>8}")
+    for name, asks in TYPES_ASKED.items():
+        costs = [cost_among(asks, tuples) for tuples in sizes]
+        ratio = costs[-1] / costs[0]
+        print(f"  {name:<8}" + "".join(f"{cost:>12,.1f}" for cost in costs) + f"{ratio:>8.3f}", flush=True)
+
+
 def main():
     parser = argparse.ArgumentParser(description=__doc__.splitlines()[0])
     parser.add_argument("--shape", choices=SHAPES, action="append", help="only this shape")
     parser.add_argument("--sizes", type=int, nargs="+", default=SIZES, help="numbers of pairs")
+    parser.add_argument("--among", action="store_true", help="only the table of requests among tuples")
+    parser.add_argument("--tuples", type=int, nargs="+", default=TUPLES, help="its numbers of tuples")
     options = parser.parse_args()
     if any(count < 1 for count in options.sizes):
         parser.error("a size is 1 at least")
+    # Each request of a type has a key of its own, which a DELETE finds once.
+    if any(count < 2 * MORE or count % STEP == 0 for count in options.tuples):
+        parser.error(f"a number of tuples is {2 * MORE} at least, and no multiple of {STEP}")
     if not is_built():
         sys.exit("the program is not built")
+    if options.among:
+        measure_among(options.tuples)
+        return
     base, _ = instructions(setting())
     print(f"setting {KEYS:,} keys: {base:,} instructions")
     for shape in options.shape or SHAPES:
@@ -222,6 +279,7 @@ def main():
     if not options.shape:
         measure_cut(min(options.sizes), base)
         measure_allocations(min(options.sizes))
+        measure_among(options.tuples)
 
 
 if __name__ == "__main__":
