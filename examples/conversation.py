@@ -11,6 +11,7 @@ import os
 import subprocess
 import sys
 import tempfile
+import textwrap
 from pathlib import Path
 
 ROOT = Path(__file__).resolve().parent.parent
@@ -62,16 +63,19 @@ def conversation():
         Said(1, "1.3 the rest of it", ping[4:]),
         asks(1, 4, "REPLACE", space=512, tuple=[1, "apple"]),
         asks(2, 1, "REPLACE", space=512, tuple=[2, "banana"]),
-        asks(2, 2, "REPLACE", space=512, tuple=[3, "cherry"]),
+        asks(2, 2, "INSERT", space=512, tuple=[3, "cherry"]),
         asks(2, 3, "SELECT", space=512, key=[1]),
         asks(1, 5, "SELECT", space=512, key=[4]),
         asks(1, 6, "SELECT", space=512, iterator="GE", key=[2]),
         asks(1, 7, "SELECT", space=512, iterator="LT", key=[3], limit=1),
         asks(1, 8, "SELECT", space=513, key=[1]),
-        asks(1, 9, "SELECT", space=512),
+        asks(1, 9, "INSERT", space=512, tuple=[3, "damson"]),
         asks(1, 10, "SELECT", space=512, key=[1, 2]),
         asks(1, 11, "SELECT", space=281, iterator="ALL", key=[]),
         asks(1, 12, "SELECT", space=281, index=2, key=["test"]),
+        asks(1, 13, "UPDATE", space=512, key=[2], operations=[["=", 2, 5]]),
+        asks(1, 14, "UPSERT", space=512, tuple=[2], operations=[["+", 2, 1]]),
+        asks(1, 15, "DELETE", space=512, key=[2]),
         Said(1, "1   closes the connection", kind=CLOSE),
         Said(2, "2.4 a PING with c1, which is no MessagePack", packet({TYPE: 64, SYNC: 4}, Spelled(b"\xc1"))),
         asks(2, 5, "PING"),
@@ -97,10 +101,10 @@ def answers_in(connection, content, greeted):
 
 
 def lines_of(connection, reply):
-    """A reply as lines: one, or one more for each tuple where they are too many for that."""
+    """A reply as lines: one, or more where that is too long, each tuple on a line of its own."""
     head = f"{connection}.{reply.sync}"
     if reply.error is not None:
-        return [f"{head} error {reply.error}: {reply.body[ERROR]}"]
+        return textwrap.wrap(f"{head} error {reply.error}: {reply.body[ERROR]}", RIGHT_WIDTH, subsequent_indent="    ")
     if DATA in reply.body:
         tuples = list(map(repr, reply.body[DATA]))
         counted = f"{head} OK, {len(tuples)} tuple{'' if len(tuples) == 1 else 's'}"
@@ -151,7 +155,9 @@ class Server:
 
 
 def show(said, answers, with_bytes):
-    """Prints what a client did, and beside it what it was sent."""
+    """Prints what a client did, and beside it what it was sent, or below where there is no room."""
+    if len(said.line) >= LEFT_WIDTH:
+        answers = [("", b""), *answers]
     rows = [(said.line, said.content, *(answers[0] if answers else ("", b"")))]
     rows += [("", b"", line, content) for line, content in answers[1:]]
     for left, sent, right, got in rows:
