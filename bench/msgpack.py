@@ -6,18 +6,14 @@
 the number of values, or of mebibytes. Both are counted by valgrind's callgrind.
 """
 
-import re
 import subprocess
-import sys
 import tempfile
 from pathlib import Path
 
-ROOT = Path(__file__).resolve().parent.parent
-sys.path.append(str(ROOT / "tests"))
+from measured import PROGRAM, build, instructions
 
-from iproto import Wide, pack  # noqa: E402
+from iproto import Wide, pack  # found by `measured`
 
-CRATE = ROOT / "crates" / "mx_measure"
 MAPS = 100_000
 MEBIBYTES = 2
 
@@ -33,28 +29,12 @@ INPUTS = {
 }
 
 
-def instructions(program, times, given):
-    """How many instructions a program takes to step over all values so many times."""
-    with tempfile.TemporaryFile() as file:
-        file.write(given)
-        file.seek(0)
-        tool = ["valgrind", "--tool=callgrind", "--callgrind-out-file=/dev/null"]
-        ended = subprocess.run([*tool, program, str(times)], stdin=file, capture_output=True)
-    report = ended.stderr.decode(errors="replace")
-    collected = re.search(r"Collected : (\d+)", report)
-    if ended.returncode != 0 or collected is None:
-        sys.exit(f"the run ended with status {ended.returncode}:\n{report}")
-    return int(collected.group(1))
-
-
 def built(folder):
     """The two programs."""
-    run = subprocess.run(["rt", "run", "--", "0"], cwd=CRATE, stdin=subprocess.DEVNULL, capture_output=True)
-    if run.returncode != 0:
-        sys.exit(run.stdout.decode(errors="replace") + run.stderr.decode(errors="replace"))
+    build()
     plain = Path(folder) / "plain_skip"
     subprocess.run(["rustc", "-O", "-o", plain, Path(__file__).parent / "plain_skip.rs"], check=True)
-    return {"skip": CRATE / "out" / "mx_measure", "plain Rust": plain}
+    return {"skip": PROGRAM, "plain Rust": plain}
 
 
 def main():
@@ -63,7 +43,7 @@ def main():
         for name, (given, parts, part) in INPUTS.items():
             costs = {}
             for by, program in programs.items():
-                taken = instructions(program, 1, given) - instructions(program, 0, given)
+                taken = instructions(given, 1, program=program) - instructions(given, 0, program=program)
                 costs[by] = taken / parts
                 print(f"{name}, {by}: {costs[by]:,.1f} instructions a {part}", flush=True)
             print(f"  ratio: {costs['skip'] / costs['plain Rust']:.2f}")

@@ -7,19 +7,10 @@ engine does. What it takes for many times, less what it takes for none, is divid
 seven spaces are those of a new database. All is counted by valgrind's callgrind.
 """
 
-import re
-import subprocess
-import sys
-import tempfile
-from pathlib import Path
+from measured import build, instructions
 
-ROOT = Path(__file__).resolve().parent.parent
-sys.path.append(str(ROOT / "tests"))
+from iproto import pack  # found by `measured`
 
-from iproto import pack  # noqa: E402
-
-CRATE = ROOT / "crates" / "mx_measure"
-PROGRAM = CRATE / "out" / "mx_measure"
 TIMES = 1_000
 MANY = 1_000
 # The first number that a space of a user may have.
@@ -52,32 +43,13 @@ def given(spaces, number):
     return b"".join(map(pack, (number, rows, indexes, [7, "value"], [7])))
 
 
-def instructions(times, asked):
-    """How many instructions the program takes to ask so many times."""
-    with tempfile.TemporaryFile() as file:
-        file.write(asked)
-        file.seek(0)
-        tool = ["valgrind", "--tool=callgrind", "--callgrind-out-file=/dev/null"]
-        ended = subprocess.run([*tool, PROGRAM, str(times), "select"], stdin=file, capture_output=True)
-    report = ended.stderr.decode(errors="replace")
-    collected = re.search(r"Collected : (\d+)", report)
-    if ended.returncode != 0 or collected is None or ended.stdout.strip() != (b"1" if times else b"0"):
-        sys.exit(f"the run ended with status {ended.returncode}:\n{report}")
-    return int(collected.group(1))
-
-
-def build():
-    run = subprocess.run(["rt", "run", "--", "0"], cwd=CRATE, stdin=subprocess.DEVNULL, capture_output=True)
-    if run.returncode != 0:
-        sys.exit(run.stdout.decode(errors="replace") + run.stderr.decode(errors="replace"))
-
-
 def main():
     build()
     costs = []
     for name, spaces, number in STATES:
         asked = given(spaces, number)
-        costs.append((instructions(TIMES, asked) - instructions(0, asked)) / TIMES)
+        many, none = instructions(asked, TIMES, "select", prints=b"1"), instructions(asked, 0, "select", prints=b"0")
+        costs.append((many - none) / TIMES)
         print(f"{name}: {costs[-1]:,.1f} instructions a SELECT, ratio {costs[-1] / costs[0]:.3f}", flush=True)
 
 
