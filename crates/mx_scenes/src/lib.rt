@@ -29,6 +29,10 @@ mod schema;
 #[cfg(test)]
 mod select;
 #[cfg(test)]
+mod select_runs;
+#[cfg(test)]
+mod spaces;
+#[cfg(test)]
 mod statuses;
 #[cfg(test)]
 mod writes;

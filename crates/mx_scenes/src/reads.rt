@@ -3,9 +3,10 @@
 use crate::database::{
     ALL, Asked, EQ, GE, GT, LE, LT, NAME, NO_KEY, REQ, request_of, slow_program,
 };
-use mx_key::{KeyRange, comparable};
+use crate::select::holds;
+use mx_key::KeyRange;
 use mx_model::{ReadRange, Slow};
-use mx_msgpack::{Value, Values};
+use mx_msgpack::Value;
 use std::alloc::{AllocError, Global};
 use std::process::Abort;
 use std::test::Fail;
@@ -154,20 +155,12 @@ const READ_ONLY: &[Case] = &[
     ),
 ];
 
-/// Whether a range holds the keys that begin with a number.
-fn holds(alloc: Global, range: &KeyRange, number: i128) -> Result<bool, AllocError> {
-    let mut key = Values::new(alloc);
-    key.push(Value::Int(number))?;
-    let bytes = comparable(alloc, &key)?;
-    Ok(range.holds(bytes.as_slice()))
-}
-
 /// Whether a range begins and ends with these numbers.
 fn is_from_to(alloc: Global, range: &KeyRange, first: i64, last: u64) -> Result<bool, AllocError> {
     let (low, high) = (i128::from(first), i128::from(last));
-    let within = holds(alloc, range, low)? && holds(alloc, range, high)?;
-    let below = first != FIRST && holds(alloc, range, low - 1)?;
-    let above = last != LAST && holds(alloc, range, high + 1)?;
+    let within = holds(alloc, range, Value::Int(low))? && holds(alloc, range, Value::Int(high))?;
+    let below = first != FIRST && holds(alloc, range, Value::Int(low - 1))?;
+    let above = last != LAST && holds(alloc, range, Value::Int(high + 1))?;
     Ok(within && !below && !above)
 }
 

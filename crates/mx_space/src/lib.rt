@@ -14,6 +14,3 @@ pub use build::BuildFault;
 pub use index::Index;
 pub use space::Space;
 pub use tree_index::TreeIndex;
-
-#[cfg(test)]
-mod tests;

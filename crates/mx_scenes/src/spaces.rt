@@ -1,11 +1,14 @@
-use super::*;
+//! A space in memory: a lookup by its indexes after writes, and an index that is made or refused.
+
 use mx_base::{IndexId, Name, SpaceId};
 use mx_key::{KeyDef, Part, PartKind};
 use mx_msgpack::Bytes;
 use mx_schema::{IndexDef, IndexDefs, IndexKind, Keyed, Schema, SpaceDef, key_tuple};
+use mx_space::{BuildFault, Space};
 use mx_tuple::{Format, FormatEntries};
 use std::alloc::{AllocError, Global};
-use std::test::*;
+use std::process::Abort;
+use std::test::Fail;
 
 /// Tuples of two numbers: [1, 20], [2, 30], [1, 40] and [3, 20].
 const FIRST: [u8; 3] = [0x92, 1, 20];
