@@ -1,15 +1,14 @@
 -- What a step makes of an engine, and of its history.
-use Rattle.std.proofs.Common.{◌≡◌, ◌⊎◌, inl, inr, ℕ, suc, ◌+◌, ◌-◌, ◌%◌, ◌^◌, ◌<◌, ◌≤◌, Bool, true, false, not, List, [], ◌∷◌, ◌++◌, length, refl, true≢false, sym, ap, ◌∙◌, subst, Option, append-nil, arith}
+use Rattle.std.proofs.Common.{◌≡◌, inl, inr, ℕ, suc, ◌+◌, ◌-◌, ◌%◌, ◌^◌, ◌<◌, Bool, true, false, not, List, [], ◌∷◌, ◌++◌, length, refl, true≢false, sym, ap, ◌∙◌, subst, append-nil, arith}
 use Rattle.std.specs.List.{filter}
 use Rattle.std.proofs.lemmas.List.Elements.{filter-append}
-use Rattle.std.specs.Prelude.{Ok, Err, ◌==◌, ◌&&◌, ◌||◌, Some, None, nat_lt, slice_index, slice_set, if◌then◌else◌}
+use Rattle.std.specs.Prelude.{Ok, ◌==◌, ◌&&◌, ◌||◌, Some, None, nat_lt, slice_index, slice_set, if◌then◌else◌}
 use Rattle.std.proofs.lemmas.Bool.{eqb-true, lt-ltb, le-ltb}
 use Rattle.mx_vclock.specs.Vclocks.{max_lsn, IsNext}
 use Rattle.mx_base.specs.declared.ids.SpaceId.{SpaceId}
-use Rattle.mx_base.specs.declared.ids.IndexId.{IndexId}
 use Rattle.mx_base.specs.declared.ids.TxnName.{TxnName}
 use Rattle.mx_base.specs.declared.refusal.Refusal.{Refusal}
-use Rattle.mx_base.specs.declared.refusal.Refusal.TheVariants.{OutOfMemory, ReadOnly, LsnsUsedUp, ResultTooLong, SpaceMissing, IndexMissing}
+use Rattle.mx_base.specs.declared.refusal.Refusal.TheVariants.{OutOfMemory, ReadOnly, LsnsUsedUp}
 use Rattle.mx_request.specs.declared.request.Ask.TheVariants as ask
 use Rattle.mx_request.specs.declared.request.Request.{Request}
 use Rattle.mx_request.specs.declared.request.Request.TheVariants as request
@@ -33,33 +32,16 @@ use Rattle.mx_write.specs.Writable.{describes_schema}
 use Rattle.mx_write.specs.Writes.{Write, Insert, Replace, Update, Delete, Upsert, TupleIsBytes, write_in}
 use Rattle.mx_write.proofs.RowLaws.{writes_elsewhere}
 use Rattle.mx_model.specs.statements.Write.{answer_of, answer_of_outcome}
-use Rattle.mx_key.specs.declared.iterator.IterKind.{IterKind}
-use Rattle.mx_key.specs.declared.fault.Misfit.{Misfit}
-use Rattle.mx_key.specs.Parts.{key_of_array}
-use Rattle.mx_schema.specs.declared.index_def.IndexDef.{IndexDef}
-use Rattle.mx_schema.specs.declared.schema.Schema.{Schema}
-use Rattle.mx_schema.specs.Catalogues.{index_with, schema_of}
-use Rattle.mx_key.specs.declared.edge.KeyRange.{KeyRange}
-use Rattle.mx_key.specs.declared.part.Part.{Part}
-use Rattle.mx_schema.specs.Picks.{entries_of, total_bytes, max_result_size}
 use Rattle.mx_schema.specs.State.{State}
 use Rattle.mx_schema.specs.Stored.{Holds}
-use Rattle.mx_schema.specs.Scans.{SelectsByKey}
-use Rattle.mx_schema.specs.declared.pick.Pick.{Pick}
-use Rattle.mx_schema.specs.declared.pick.SelectFault.{SelectFault}
-use Rattle.mx_schema.specs.declared.pick.SelectFault.TheVariants as faults
 use Rattle.mx_model.specs.Answers.{answer_to, state_after_row}
-use Rattle.mx_write.specs.Lookup.{misfit_refusal}
-use Rattle.mx_model.specs.statements.Select.{select_answer_in, select_by_key, iterator_of}
-use Rattle.mx_write.specs.Reads.{schema_reads}
-use Rattle.mx_model.specs.statements.Lookup.{in_index, in_space}
 use Rattle.mx_write.specs.Reads.{Read}
 use Rattle.mx_model.specs.statements.Answer.{Answer, refusal_alone, refusal_after}
 use Rattle.mx_model.specs.Transactions.{state_after, is_schema_commit, is_schema_row, schema_version}
 use Rattle.mx_row.specs.Clocks.{clock_after}
 use Rattle.mx_model.specs.Histories.{Base, CanBeAsked, History, Asked, Left, node_answer, answer_in, with_lsn, commit_of, is_write, commits_of, writable_node, is_out_of_memory, ledger_of, state_of, clock_of}
-use Rattle.mx_model.proofs.AnswerLaws.{no_write_no_row, write_answered, write_writes, select_misses_space, select_misses_index, key_is_misfit, tuples_are_picked, result_is_too_long}
-use Rattle.mx_model.proofs.HistoryLaws.{base_of_ledger, steps_of_ledger, select_no_row, committed-no_row, state_of-asked, clock_of-asked, untaken-asked, untaken}
+use Rattle.mx_model.proofs.AnswerLaws.{no_write_no_row, write_answered, write_writes}
+use Rattle.mx_model.proofs.HistoryLaws.{base_of_ledger, steps_of_ledger, committed-no_row, state_of-asked, clock_of-asked, untaken-asked, untaken}
 use Rattle.mx_engine.specs.declared.engine.Engine.{Engine}
 use Rattle.mx_engine.specs.Standing.{EngineStandsFor}
 use Rattle.mx_engine.specs.Steps.{IsWriteOf, IsReplyOf, SameNode, Stores, AnswersRequest, transaction_of, lsn_after, answer_by, commits_by, accepts}
@@ -186,19 +168,6 @@ answers_told engine before asked reply taken holds told none =
 pub answers_read : (engine : Engine) (before : State) (asked : Request) (reply : Reply) → accepts engine.ids asked ≡ true → Holds engine.state before
     → write_in asked ≡ None → IsReplyOf reply (answer_to before asked) → AnswersRequest engine engine before asked reply
 answers_read engine before asked reply taken holds no_write told = answers_told engine before asked reply taken holds told (no_write_no_row before asked no_write)
-
--- a SELECT by a key that has the same parts
-pub read_selected : (before : State) (asked : Request) (reply : Reply) (space : SpaceId) (index : IndexId)
-    (limit offset iterator : ℕ) (key sought : List ℕ) (kind : IterKind)
-    → asked ≡ request.Select space index limit offset iterator key → ((parts : List Part) → key_of_array parts sought ≡ key_of_array parts key)
-    → kind ≡ iterator_of iterator → IsReplyOf reply (select_answer_in before space.0 index.0 limit offset kind sought) → IsReplyOf reply (answer_to before asked)
-unfolding answer_to
-read_selected before asked reply space index limit offset iterator key sought kind is same by told =
-    let answer : answer_to before asked ≡ select_answer_in before space.0 index.0 limit offset kind sought =
-    ap (answer_to before) is
-    ∙ ap (λ k. select_answer_in before space.0 index.0 limit offset k key) (sym by)
-    ∙ (λ i. in_space before space.0 (λ schema. in_index space.0 schema index.0 (λ def. select_by_key before space.0 limit offset kind def (sym (same def.key) i)))) in
-    subst (IsReplyOf reply) (sym answer) told
 
 -- a write
 module _ (engine : Engine) (before : State) (space : SpaceId) (write : Write) (asked : Request)
@@ -403,78 +372,3 @@ count_is_length engine base history stands = stands.matches.count ∙ steps_of_l
 -- its node is the base's
 pub ids_are_those : (engine : Engine) (base : Base) (history : History) → EngineStandsFor engine base history → engine.ids ≡ base.ids
 ids_are_those engine base history stands = stands.matches.ids ∙ ap (λ (b : Base). b.ids) (base_of_ledger base history)
-
--- an index that was found has the number that was asked for
-numbered : (id : ℕ) (indexes : List IndexDef) (def : IndexDef) → index_with id indexes ≡ Some def → def.id.0 ≡ id
-numbered id [] def is = absurd cc
-numbered id (first ∷ others) def is = by_test (first.id.0 == id) refl (numbered id others def) is
-  where
-    by_test : (b : Bool) → (first.id.0 == id) ≡ b → (index_with id others ≡ Some def → def.id.0 ≡ id)
-        → (if b then Some first else index_with id others) ≡ Some def → def.id.0 ≡ id
-    by_test true same later found =
-        let this : first ≡ def = cc in
-        ap (λ (d : IndexDef). d.id.0) (sym this) ∙ eqb-true first.id.0 id same
-    by_test false other later found = later found
-
-pub found_by_number : (id : ℕ) (schema shown : Schema) (def : IndexDef) → shown ≡ schema → index_with id shown.indexes ≡ Some def → index_with def.id.0 schema.indexes ≡ Some def
-found_by_number id schema shown def same found =
-    let there : index_with id schema.indexes ≡ Some def = ap (λ (s : Schema). index_with id s.indexes) (sym same) ∙ found in
-    ap (λ n. index_with n schema.indexes) (numbered id schema.indexes def there) ∙ there
-
--- ---- a SELECT, by the first test that it fails
-
-module _ (before : State) (space index : ℕ) (wanted : Pick) where
-  abbrev select : Answer
-  select = select_answer_in before space index wanted.limit wanted.offset wanted.iterator wanted.key.now
-
-  -- the space is missing
-  pub tells_no_space : (refusal : Refusal) → (schema_of before space ≡ None) × (refusal ≡ SpaceMissing (record { 0 = space })) → IsReplyOf (Refused refusal) select
-  tells_no_space refusal (none, is) =
-      inl (ap (λ r. Refused r) is ∙ sym (ap (λ a. a.reply) (select_misses_space before space index wanted.limit wanted.offset wanted.iterator wanted.key.now none)))
-
-  module _ (schema shown : Schema) (described : schema_of before space ≡ Some schema) (same : shown ≡ schema) where
-    -- the index is missing
-    pub tells_no_index : (refusal : Refusal)
-        → ((index_with index shown.indexes ≡ None) × (refusal ≡ IndexMissing (record { 0 = index }) shown.def.name)) ⊎ (refusal ≡ OutOfMemory)
-        → IsReplyOf (Refused refusal) select
-    tells_no_index refusal (inl (none, is)) =
-        inl (ap (λ r. Refused r) (is ∙ ap (λ (s : Schema). IndexMissing (record { 0 = index }) s.def.name) same)
-        ∙ sym (ap (λ a. a.reply) (select_misses_index before space index wanted.limit wanted.offset wanted.iterator wanted.key.now schema described
-        (ap (λ (s : Schema). index_with index s.indexes) (sym same) ∙ none))))
-    tells_no_index refusal (inr none) = inr (ap (λ r. Refused r) none)
-
-    -- it is there
-    module _ (def : IndexDef) (found : index_with index shown.indexes ≡ Some def) where
-      there : index_with index schema.indexes ≡ Some def
-      there = ap (λ (s : Schema). index_with index s.indexes) (sym same) ∙ found
-
-      -- and these tuples were found
-      pub tells_tuples : (tuples : List (List ℕ)) (read : Option KeyRange) → SelectsByKey (entries_of before space def) def wanted tuples (Ok read) → IsReplyOf (Tuples tuples) select
-      tells_tuples tuples read (fitting, fits, fit, is, few, _) =
-          inl (ap (λ t. Tuples t) is
-          ∙ sym (ap (λ a. a.reply) (tuples_are_picked before space index wanted.limit wanted.offset wanted.iterator wanted.key.now schema described def there fitting fits
-          (subst (λ t. total_bytes t ≤ max_result_size) is few))))
-
-      -- or none, for this reason
-      module _ (tuples : List (List ℕ)) (fault : SelectFault) (tells : SelectsByKey (entries_of before space def) def wanted tuples (Err fault)) where
-        pub tells_misfit : (misfit : Misfit) (refusal : Refusal) → fault ≡ faults.Misfit misfit
-            → ((key : List ℕ) → key_of_array def.key key ≡ Err misfit → refusal ≡ misfit_refusal (length def.key) misfit) → IsReplyOf (Refused refusal) select
-        tells_misfit misfit refusal is told = by_fault tells
-          where
-            by_fault : SelectsByKey (entries_of before space def) def wanted tuples (Err fault) → IsReplyOf (Refused refusal) select
-            by_fault (inl (found, also, fits)) =
-                let same : found ≡ misfit = cc in
-                let unfit : key_of_array def.key wanted.key.now ≡ Err misfit = fits ∙ ap (λ m. Err m) same in
-                inl (ap (λ r. Refused r) (told wanted.key.now unfit)
-                ∙ sym (ap (λ a. a.reply) (key_is_misfit before space index wanted.limit wanted.offset wanted.iterator wanted.key.now schema described def there misfit unfit)))
-            by_fault (inr (inl (long, fitting, fits, fit, above))) = absurd cc
-            by_fault (inr (inr none)) = absurd cc
-
-        pub tells_long : fault ≡ faults.TooLong → IsReplyOf (Refused ResultTooLong) select
-        tells_long is = by_fault tells
-          where
-            by_fault : SelectsByKey (entries_of before space def) def wanted tuples (Err fault) → IsReplyOf (Refused ResultTooLong) select
-            by_fault (inl (found, also, fits)) = absurd cc
-            by_fault (inr (inl (long, fitting, fits, fit, above))) =
-                inl (sym (ap (λ a. a.reply) (result_is_too_long before space index wanted.limit wanted.offset wanted.iterator wanted.key.now schema described def there fitting fits above)))
-            by_fault (inr (inr none)) = absurd cc

@@ -3,7 +3,8 @@ use Rattle.std.proofs.Common.{◌≡◌, ◌⊎◌, inl, inr, ℕ, Bool, true, f
 use Rattle.std.specs.Prelude.{Option, Some, None, Ok, Err, Result, nat_lt, if◌then◌else◌}
 use Rattle.std.proofs.lemmas.Bool.{lt-ltb, le-ltb}
 use Rattle.mx_base.specs.declared.refusal.Refusal.{Refusal}
-use Rattle.mx_base.specs.declared.refusal.Refusal.TheVariants.{SpaceMissing, IndexMissing, ResultTooLong}
+use Rattle.mx_base.specs.declared.kinds.Unsupported.TheVariants.{HashIterator}
+use Rattle.mx_base.specs.declared.refusal.Refusal.TheVariants.{SpaceMissing, IndexMissing, ResultTooLong, Unsupported}
 use Rattle.mx_key.specs.declared.fault.Misfit.{Misfit}
 use Rattle.mx_key.specs.declared.iterator.IterKind.{IterKind}
 use Rattle.mx_key.specs.Keys.{Key}
@@ -30,7 +31,8 @@ use Rattle.mx_schema.specs.Picks.{Selection, pick, entries_of, total_bytes, max_
 use Rattle.mx_schema.specs.Sound.{IsSound}
 use Rattle.mx_schema.specs.State.{State, source_of}
 use Rattle.mx_write.specs.Lookup.{misfit_refusal}
-use Rattle.mx_model.specs.statements.Select.{range_reads, select_found, select_by_key, iterator_of, select_in_index, select_answer, select_answer_in}
+use Rattle.mx_model.specs.SelectSteps.{RefusesKey, TakesKey}
+use Rattle.mx_model.specs.statements.Select.{asked_key, parts_in, range_reads, select_found, select_by_key, iterator_of, select_in_index, select_answer, select_answer_in, takes_iterator}
 use Rattle.mx_write.specs.Reads.{space_read, schema_reads}
 use Rattle.mx_model.specs.statements.Lookup.{in_def, in_index, in_schema, in_space}
 use Rattle.mx_model.specs.statements.Answer.{Answer, refusal_after, tuples_after}
@@ -74,34 +76,52 @@ module _ (before : State) (space index limit offset : ℕ) (iterator : IterKind)
     select_misses_index none = in_it ∙ index_is_missing space schema index by_index none
 
     module _ (def : IndexDef) (is : index_with index schema.indexes ≡ Some def) where
-      by_key : select ≡ select_by_key before space limit offset iterator def (key_of_array def.key key)
-      by_key = in_it ∙ index_is_there space schema index by_index def is
+      by_index_found : select ≡ by_index def
+      by_index_found = in_it ∙ index_is_there space schema index by_index def is
 
-      -- the key doesn't fit the index
-      pub key_is_misfit : (misfit : Misfit) → key_of_array def.key key ≡ Err misfit → select ≡ refusal_after (schema_reads space) (misfit_refusal (length def.key) misfit)
-      key_is_misfit misfit fits = by_key ∙ ap (select_by_key before space limit offset iterator def) fits
+      abbrev by_test : Bool → Answer
+      by_test taken =
+          if taken then select_by_key before space limit offset iterator def (asked_key def key) else refusal_after (schema_reads space) (Unsupported HashIterator)
 
-      module _ (fitting : Key) (fits : key_of_array def.key key ≡ Ok fitting) where
-        abbrev found : Selection
-        found = pick (entries_of before space def) iterator fitting offset limit
+      by_asked : takes_iterator def.kind iterator (parts_in key) ≡ true → select ≡ select_by_key before space limit offset iterator def (asked_key def key)
+      by_asked taken = by_index_found ∙ ap by_test taken
 
-        by_range : select ≡ select_found space (source_of space) def.id.0 (range_of iterator fitting) found
-        by_range = by_key ∙ ap (select_by_key before space limit offset iterator def) fits
+      -- the index doesn't take the iterator, or the key
+      pub key_is_refused : (refusal : Refusal) → RefusesKey def iterator key refusal → select ≡ refusal_after (schema_reads space) refusal
+      key_is_refused refusal (inl (other, told)) = by_index_found ∙ ap by_test other ∙ ap (refusal_after (schema_reads space)) (sym told)
+      key_is_refused refusal (inr (misfit, taken, fails, told)) =
+          by_asked taken ∙ ap (select_by_key before space limit offset iterator def) fails ∙ ap (refusal_after (schema_reads space)) (sym told)
 
-        abbrev answer_by : Bool → Answer
-        answer_by long =
-            if long then refusal_after (schema_reads space ++ range_reads (source_of space) def.id.0 (Some (range_of iterator fitting))) ResultTooLong
-            else tuples_after (schema_reads space ++ range_reads (source_of space) def.id.0 found.read) found.tuples
+      -- it takes both
+      module _ (taken : TakesKey def iterator key) where
+        by_key : select ≡ select_by_key before space limit offset iterator def (key_of_array def.key key)
+        by_key = by_asked taken.0 ∙ ap (select_by_key before space limit offset iterator def) taken.1
 
-        -- the tuples have too many bytes
-        pub result_is_too_long : max_result_size < total_bytes found.tuples
-            → select ≡ refusal_after (schema_reads space ++ range_reads (source_of space) def.id.0 (Some (range_of iterator fitting))) ResultTooLong
-        result_is_too_long above = by_range ∙ ap answer_by (lt-ltb max_result_size (total_bytes found.tuples) above)
+        -- the key doesn't fit the index
+        pub key_is_misfit : (misfit : Misfit) → key_of_array def.key key ≡ Err misfit → select ≡ refusal_after (schema_reads space) (misfit_refusal (length def.key) misfit)
+        key_is_misfit misfit fits = by_key ∙ ap (select_by_key before space limit offset iterator def) fits
 
-        -- they are answered
-        pub tuples_are_picked : total_bytes found.tuples ≤ max_result_size
-            → select ≡ tuples_after (schema_reads space ++ range_reads (source_of space) def.id.0 found.read) found.tuples
-        tuples_are_picked short = by_range ∙ ap answer_by (le-ltb max_result_size (total_bytes found.tuples) short)
+        module _ (fitting : Key) (fits : key_of_array def.key key ≡ Ok fitting) where
+          abbrev found : Selection
+          found = pick (entries_of before space def) iterator fitting offset limit
+
+          by_range : select ≡ select_found space (source_of space) def.id.0 (range_of iterator fitting) found
+          by_range = by_key ∙ ap (select_by_key before space limit offset iterator def) fits
+
+          abbrev answer_by : Bool → Answer
+          answer_by long =
+              if long then refusal_after (schema_reads space ++ range_reads (source_of space) def.id.0 (Some (range_of iterator fitting))) ResultTooLong
+              else tuples_after (schema_reads space ++ range_reads (source_of space) def.id.0 found.read) found.tuples
+
+          -- the tuples have too many bytes
+          pub result_is_too_long : max_result_size < total_bytes found.tuples
+              → select ≡ refusal_after (schema_reads space ++ range_reads (source_of space) def.id.0 (Some (range_of iterator fitting))) ResultTooLong
+          result_is_too_long above = by_range ∙ ap answer_by (lt-ltb max_result_size (total_bytes found.tuples) above)
+
+          -- they are answered
+          pub tuples_are_picked : total_bytes found.tuples ≤ max_result_size
+              → select ≡ tuples_after (schema_reads space ++ range_reads (source_of space) def.id.0 found.read) found.tuples
+          tuples_are_picked short = by_range ∙ ap answer_by (le-ltb max_result_size (total_bytes found.tuples) short)
 
 -- ---- rows and changes
 
@@ -139,7 +159,12 @@ select_agrees before space index limit offset iterator key = by_schema (schema_o
 
     by_def : (schema : Schema) (def : Option IndexDef) → Agrees before (in_def space schema index def (select_in_index before space limit offset iterator key))
     by_def schema None = inl (refl, refl)
-    by_def schema (Some def) = by_key def (key_of_array def.key key)
+    by_def schema (Some def) = by_test (takes_iterator def.kind iterator (parts_in key))
+      where
+        by_test : (taken : Bool) → Agrees before
+            (if taken then select_by_key before space limit offset iterator def (asked_key def key) else refusal_after (schema_reads space) (Unsupported HashIterator))
+        by_test true = by_key def (asked_key def key)
+        by_test false = inl (refl, refl)
 
     by_schema : (schema : Option Schema) → Agrees before (in_schema space schema (select_answer before space index limit offset iterator key))
     by_schema None = inl (refl, refl)

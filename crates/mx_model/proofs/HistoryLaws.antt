@@ -2,7 +2,8 @@
 use Rattle.std.proofs.Common.{◌≡◌, inl, inr, ℕ, suc, ◌≤◌, Bool, true, false, List, [], ◌∷◌, ◌++◌, length, drop, refl, sym, ap, ◌∙◌, append-nil, length-append, arith}
 use Rattle.std.specs.Prelude.{Option, Some, None, Result, Ok, Err, not, nat_lt, ◌&&◌, ◌==◌, if◌then◌else◌}
 use Rattle.std.proofs.lemmas.List.{drop-append-le}
-use Rattle.mx_base.specs.declared.refusal.Refusal.TheVariants.{OutOfMemory, ReadOnly, ResultTooLong}
+use Rattle.mx_base.specs.declared.kinds.Unsupported.TheVariants.{HashIterator}
+use Rattle.mx_base.specs.declared.refusal.Refusal.TheVariants.{OutOfMemory, ReadOnly, ResultTooLong, Unsupported}
 use Rattle.mx_base.specs.declared.ids.TxnName.{TxnName}
 use Rattle.mx_request.specs.declared.request.Ask.{Ask}
 use Rattle.mx_request.specs.declared.request.Ask.TheVariants as ask
@@ -19,10 +20,9 @@ use Rattle.mx_schema.specs.Picks.{Selection, pick, entries_of, total_bytes, max_
 use Rattle.mx_key.specs.declared.fault.Misfit.{Misfit}
 use Rattle.mx_key.specs.declared.iterator.IterKind.{IterKind}
 use Rattle.mx_key.specs.Keys.{Key}
-use Rattle.mx_key.specs.Parts.{key_of_array}
 use Rattle.mx_key.specs.Ranges.{Range, range_of}
 use Rattle.mx_model.specs.Answers.{answer_to, state_after_rows}
-use Rattle.mx_model.specs.statements.Select.{range_reads, select_found, select_by_key, select_in_index, select_answer, select_answer_in}
+use Rattle.mx_model.specs.statements.Select.{asked_key, parts_in, range_reads, select_found, select_by_key, select_in_index, select_answer, select_answer_in, takes_iterator}
 use Rattle.mx_write.specs.Reads.{schema_reads}
 use Rattle.mx_model.specs.statements.Lookup.{in_def, in_schema}
 use Rattle.mx_model.specs.statements.Answer.{refusal_alone, refusal_after, tuples_after}
@@ -255,7 +255,12 @@ select_no_row before space index limit offset iterator key = by_schema (schema_o
   where
     by_def : (schema : Schema) (def : Option IndexDef) → (in_def space schema index def (select_in_index before space limit offset iterator key)).row ≡ None
     by_def schema None = refl
-    by_def schema (Some def) = selected_by_no_row before space limit offset iterator def (key_of_array def.key key)
+    by_def schema (Some def) = by_test (takes_iterator def.kind iterator (parts_in key))
+      where
+        by_test : (taken : Bool)
+            → (if taken then select_by_key before space limit offset iterator def (asked_key def key) else refusal_after (schema_reads space) (Unsupported HashIterator)).row ≡ None
+        by_test true = selected_by_no_row before space limit offset iterator def (asked_key def key)
+        by_test false = refl
 
     by_schema : (schema : Option Schema) → (in_schema space schema (select_answer before space index limit offset iterator key)).row ≡ None
     by_schema None = refl

@@ -9,6 +9,7 @@ pub mod BlockLaws
 pub mod OnceLaws
 pub mod WriteLaws
 mod ApplyLaws
+pub mod AskedKeyLaws
 pub mod AnswerLaws
 pub mod FirstRowLaws
 mod NodeLaws

@@ -47,6 +47,7 @@ use Rattle.mx_model.specs.Histories.{Ledger, answer_in, is_write, ledger_state, 
 use Rattle.mx_model.specs.Slow.{IsSlow, Takes}
 use Rattle.mx_model.specs.SlowReads.{read_view, reads_view}
 use Rattle.mx_model.specs.SlowReadSteps.{scan_read}
+use Rattle.mx_model.specs.SelectSteps.{TakesKey}
 use Rattle.mx_model.specs.statements.Answer.{Answer, refusal_after, refusal_alone}
 use Rattle.mx_model.specs.statements.Select.{iterator_of, range_reads, select_answer_in}
 use Rattle.mx_model.specs.statements.Write.{answer_of_outcome}
@@ -138,7 +139,8 @@ module _ (all : plain.Tuples) (wanted : Pick) (key : Key) (kept : List StoredTup
 -- ---- a SELECT
 
 module _ (before : State) (space index : ℕ) (wanted : Pick) (schema : Schema) (described : schema_of before space ≡ Some schema)
-    (def : IndexDef) (is : index_with index schema.indexes ≡ Some def) (fitting : Key) (fits : key_of_array def.key wanted.key.now ≡ Ok fitting) where
+    (def : IndexDef) (is : index_with index schema.indexes ≡ Some def) (taken : TakesKey def wanted.iterator wanted.key.now)
+    (fitting : Key) (fits : key_of_array def.key wanted.key.now ≡ Ok fitting) where
   abbrev selects : Answer
   selects = select_answer_in before space index wanted.limit wanted.offset wanted.iterator wanted.key.now
 
@@ -153,10 +155,10 @@ module _ (before : State) (space index : ℕ) (wanted : Pick) (schema : Schema) 
           → selects.reads ≡ schema_reads space ++ range_reads (source_of space) def.id.0 (if long then Some (range_of wanted.iterator fitting) else found.read)
       by_test true test =
           ap (λ a. a.reads)
-          (result_is_too_long before space index wanted.limit wanted.offset wanted.iterator wanted.key.now schema described def is fitting fits (ltb-true _ _ test))
+          (result_is_too_long before space index wanted.limit wanted.offset wanted.iterator wanted.key.now schema described def is taken fitting fits (ltb-true _ _ test))
       by_test false test =
           ap (λ a. a.reads)
-          (tuples_are_picked before space index wanted.limit wanted.offset wanted.iterator wanted.key.now schema described def is fitting fits (ltb-false _ _ test))
+          (tuples_are_picked before space index wanted.limit wanted.offset wanted.iterator wanted.key.now schema described def is taken fitting fits (ltb-false _ _ test))
 
   pub select_reads_range : (read : KeyRange) → Some read ≡ option_map edges_of (scan_read (entries_of before space def) wanted fitting)
       → reads_view selects.reads ≡ read_view (space_read space) ∷ read_view (index_read space) ∷ record { space = record { 0 = source_of space }; index = def.id; range = read } ∷ []

@@ -9,6 +9,7 @@ pub mod Gate
 pub mod Replies
 pub mod ReplyStream
 pub mod Survival
+pub mod SelectSteps
 pub mod Slow
 pub mod SlowSteps
 pub mod SlowWrites

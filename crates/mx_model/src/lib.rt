@@ -24,5 +24,5 @@ pub use node::{WRITABLE_NODE, is_write, next_lsn};
 pub use out_units::{OutUnit, OutUnits};
 pub use reply::Reply;
 pub use slow::{ReadRange, ReadRanges, Slow};
-pub use statements::select::{iterator_of, misfit_refusal};
+pub use statements::select::{iterator_of, misfit_refusal, part_count_refusal, takes_iterator};
 pub use txs::Txs;

@@ -23,6 +23,7 @@ ghost use Rattle.mx_model.specs.Histories.{Base, Ledger, is_write, ledger_of, wr
 ghost use Rattle.mx_model.specs.Slow.{Answers, IsSlow, KeepsTuples, Takes};
 ghost use Rattle.mx_model.specs.SlowSteps.{Finds, Gathers, IsMoved, KeepsBy, MovesTable};
 
+mod asked_key;
 mod changes;
 mod duplicates;
 mod list;
@@ -36,9 +37,10 @@ mod writes;
 use crate::ids::Ids;
 use crate::node::{WRITABLE_NODE, is_write};
 use crate::reply::Reply;
-use crate::statements::select::{iterator_of, misfit_refusal};
+use crate::slow::asked_key::key_refusal;
+use crate::statements::select::iterator_of;
 use mx_base::{IndexId, Refusal, ReplicaId, SpaceId, TxnName};
-use mx_key::{KeyRange, misfit, range};
+use mx_key::{KeyRange, range};
 use mx_msgpack::{Bytes, Tuples};
 use mx_request::Request;
 use mx_schema::{
@@ -182,8 +184,8 @@ impl Slow {
             let refusal = index_missing(self.alloc, index, &found.schema.def.name)?;
             return Ok(Reply::Refused(refusal));
         };
-        if let Some(misfit) = misfit(&def.key, pick.key) {
-            return Ok(Reply::Refused(misfit_refusal(def, misfit)));
+        if let Some(refusal) = key_refusal(def, pick)? {
+            return Ok(Reply::Refused(refusal));
         }
         let range = range(self.alloc, &def.key, pick.iterator, pick.key)?;
         match gather_by_index(self.alloc, def, self.tuples_of(space), &range, pick) {

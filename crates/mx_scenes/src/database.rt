@@ -318,7 +318,7 @@ fn clock_of(rt: &impl Abort, text: &str) -> Vclock {
 }
 
 /// The identifiers of the node of a replica id.
-fn ids_of(me: u8) -> Ids {
+pub(crate) fn ids_of(me: u8) -> Ids {
     Ids {
         me,
         instance: Default::default(),

@@ -15,6 +15,8 @@ mod engine;
 #[cfg(test)]
 mod harness;
 #[cfg(test)]
+mod hash_index;
+#[cfg(test)]
 mod journals;
 #[cfg(test)]
 mod model;

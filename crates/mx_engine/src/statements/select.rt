@@ -1,18 +1,23 @@
 //! SELECT.
 
+ghost use Rattle.std.specs.Prelude.{◌≡◌, ◌⊎◌, ℕ, List, MatchResult};
+ghost use Rattle.mx_base.specs.declared.refusal.Refusal.TheVariants.{OutOfMemory};
 ghost use Rattle.mx_msgpack.specs.Items.{IsArray};
+ghost use Rattle.mx_schema.specs.declared.index_def.IndexKind.TheVariants.{Hash};
 ghost use Rattle.mx_schema.specs.State as plain;
 ghost use Rattle.mx_schema.specs.Stored.{Holds};
-ghost use Rattle.mx_model.specs.statements.Select.{select_answer_in};
+ghost use Rattle.mx_model.specs.SelectSteps.{RefusesKey, TakesKey};
+ghost use Rattle.mx_model.specs.statements.Select.{parts_in, select_answer_in};
 ghost use Rattle.mx_engine.specs.Steps.{IsReplyOf};
 ghost use Rattle.mx_engine.specs.Views.{reply_of};
 
 use crate::answer::Answered;
 use crate::engine::Engine;
-use mx_base::{IndexId, Refusal, SpaceId};
-use mx_model::misfit_refusal;
-use mx_msgpack::Tuples;
-use mx_schema::{Pick, SelectFault};
+use mx_base::{IndexId, Refusal, SpaceId, Unsupported};
+use mx_key::IterKind;
+use mx_model::{misfit_refusal, part_count_refusal, takes_iterator};
+use mx_msgpack::{Tuples, known_array};
+use mx_schema::{IndexDef, IndexKind, Pick, SelectFault};
 use mx_write::{find_index, find_space};
 
 impl Engine {
@@ -30,6 +35,7 @@ impl Engine {
     {
         let table = find_space(&self.state, space)?;
         let def = find_index(self.alloc, table.schema(), index)?;
+        check_key(def, pick.iterator, pick.key)?;
         match self
             .state
             .select(self.alloc, space, table, def, pick, found)
@@ -40,4 +46,37 @@ impl Engine {
             Err(SelectFault::NoMemory) => Err(Refusal::OutOfMemory),
         }
     }
+}
+
+/// Checks that an index takes an iterator and, where it is a hash index, a key of as many parts. The key
+/// is an array.
+///
+/// # Errors
+/// The refusal of a SELECT by it; or out of memory.
+fn check_key(def: &IndexDef, iterator: IterKind, key: &[u8]) -> Result<(), Refusal>
+    requires array { IsArray key.now }
+    ensures { MatchResult result
+        (λ _. TakesKey def.now iterator key.now)
+        (λ refusal. RefusesKey def.now iterator key.now refusal ⊎ (refusal ≡ OutOfMemory)) }
+{
+    match def.kind {
+        IndexKind::Tree => Ok(()),
+        IndexKind::Hash => check_hash_key(def, iterator, known_array(key).count),
+    }
+}
+
+/// The index is a hash index: it finds the tuple of a whole key, or gives all.
+fn check_hash_key(def: &IndexDef, iterator: IterKind, parts: u32) -> Result<(), Refusal>
+    ensures { (key : List ℕ) → def.now.kind ≡ Hash → parts ≡ parts_in key → MatchResult result
+        (λ _. TakesKey def.now iterator key)
+        (λ refusal. RefusesKey def.now iterator key refusal ⊎ (refusal ≡ OutOfMemory)) }
+{
+    if !takes_iterator(def.kind, iterator, parts) {
+        let what = Unsupported::HashIterator;
+        return Err(Refusal::Unsupported { what });
+    }
+    if parts == 0 || parts as usize == def.key.len() {
+        return Ok(());
+    }
+    Err(part_count_refusal(def, parts)?)
 }

@@ -1,13 +1,19 @@
 -- SELECT.
-use Rattle.std.specs.Prelude.{ℕ, List, [], ◌∷◌, ◌++◌, length, Option, Some, None, Result, Ok, Err, nat_lt, ◌==◌, if◌then◌else◌}
-use Rattle.mx_base.specs.declared.refusal.Refusal.TheVariants.{ResultTooLong}
+use Rattle.std.specs.Prelude.{ℕ, Bool, true, false, List, [], ◌∷◌, ◌++◌, length, Option, Some, None, Result, Ok, Err, nat_lt, ◌==◌, if◌then◌else◌}
+use Rattle.std.specs.Option.{unwrap_or}
+use Rattle.mx_base.specs.declared.kinds.Unsupported.TheVariants.{HashIterator}
+use Rattle.mx_base.specs.declared.refusal.Refusal.TheVariants.{ResultTooLong, Unsupported}
+use Rattle.mx_msgpack.specs.Items.{items_of}
 use Rattle.mx_key.specs.declared.fault.Misfit.{Misfit}
 use Rattle.mx_key.specs.declared.iterator.IterKind.{IterKind}
 use Rattle.mx_key.specs.declared.iterator.IterKind.TheVariants as iterator
+use Rattle.mx_key.specs.declared.part.Part.{Part}
 use Rattle.mx_key.specs.Keys.{Key}
-use Rattle.mx_key.specs.Parts.{key_of_array}
+use Rattle.mx_key.specs.Parts.{key_of_array, whole_key}
 use Rattle.mx_key.specs.Ranges.{Range, range_of}
 use Rattle.mx_schema.specs.declared.index_def.IndexDef.{IndexDef}
+use Rattle.mx_schema.specs.declared.index_def.IndexKind.{IndexKind}
+use Rattle.mx_schema.specs.declared.index_def.IndexKind.TheVariants.{Tree, Hash}
 use Rattle.mx_schema.specs.declared.schema.Schema.{Schema}
 use Rattle.mx_schema.specs.State.{State, source_of}
 use Rattle.mx_schema.specs.Picks.{Selection, pick, entries_of, total_bytes, max_result_size}
@@ -27,6 +33,25 @@ iterator_of number =
     else if number == 4 then iterator.Le
     else if number == 5 then iterator.Ge
     else iterator.Gt
+
+-- how many parts a key has, which is an array; bytes that aren't one have none
+abbrev pub parts_in : (key : List ℕ) → ℕ
+parts_in key = length (unwrap_or (items_of key) [])
+
+-- whether an index takes an iterator, with a key of so many parts: a hash index finds the tuple of a whole key, or gives all
+abbrev pub takes_iterator : IndexKind → IterKind → (parts : ℕ) → Bool
+takes_iterator Tree iterator parts = true
+takes_iterator Hash iterator.Eq parts = true
+takes_iterator Hash iterator.All parts = parts == 0
+takes_iterator Hash other parts = false
+
+abbrev pub key_by_kind : IndexKind → List Part → (key : List ℕ) → Result Key Misfit
+key_by_kind Tree parts key = key_of_array parts key
+key_by_kind Hash parts key = if parts_in key == 0 then Ok [] else whole_key parts key
+
+-- the key that an index is asked for: a hash index needs a whole one, unless all is asked for
+abbrev pub asked_key : IndexDef → (key : List ℕ) → Result Key Misfit
+asked_key def key = key_by_kind def.kind def.key key
 
 -- a range of an index's keys, where one is read
 abbrev pub range_reads : (space index : ℕ) → Option Range → List Read
@@ -49,7 +74,10 @@ select_by_key before space limit offset iterator def (Ok key) =
 
 -- a SELECT on an index of a space
 abbrev pub select_in_index : State → (space limit offset : ℕ) → IterKind → (key : List ℕ) → IndexDef → Answer
-select_in_index before space limit offset iterator key def = select_by_key before space limit offset iterator def (key_of_array def.key key)
+select_in_index before space limit offset iterator key def =
+    if takes_iterator def.kind iterator (parts_in key)
+    then select_by_key before space limit offset iterator def (asked_key def key)
+    else refusal_after (schema_reads space) (Unsupported HashIterator)
 
 abbrev pub select_answer : State → (space index limit offset : ℕ) → IterKind → (key : List ℕ) → Schema → Answer
 select_answer before space index limit offset iterator key schema =

@@ -17,11 +17,12 @@ ghost use Rattle.mx_model.specs.Slow.{IsSlow, KeepsTuples};
 ghost use Rattle.mx_model.specs.SlowReads.{reads_view};
 ghost use Rattle.mx_model.specs.SlowReadSteps.{scan_read};
 
+use crate::slow::asked_key::key_refusal;
 use crate::slow::read_ranges::{ReadRange, ReadRanges};
 use crate::slow::{Slow, gather, index_tuples, next_of};
 use crate::statements::select::iterator_of;
 use mx_base::{IndexId, SpaceId};
-use mx_key::{KeyRange, misfit, range};
+use mx_key::{KeyRange, range};
 use mx_request::Request;
 use mx_schema::{INDEX_ROWS, IndexDef, Keyed, Pick, SPACE_ROWS, SelectStop, source_of};
 use mx_write::Write;
@@ -128,7 +129,7 @@ impl Slow {
         let Some(def) = found.schema.index(index) else {
             return Ok(reads);
         };
-        if misfit(&def.key, pick.key).is_some() {
+        if key_refusal(def, pick)?.is_some() {
             return Ok(reads);
         }
         let range = range(self.alloc, &def.key, pick.iterator, pick.key)?;

@@ -6,7 +6,7 @@ use Rattle.mx_write.specs.declared.writable.Writer.TheVariants.{Journal}
 use Rattle.mx_write.specs.Made.{nothing}
 use Rattle.mx_write.specs.Views.{write_view}
 use Rattle.mx_write.proofs.ViewLaws.{row_arrays}
-use Rattle.mx_model.proofs.ApplyLaws.{row_applied, row_refused}
+use Rattle.mx_model.proofs.ApplyLaws.{row_applied}
 use Rattle.mx_model.proofs.apply.apply_row.Goals as goal
 
 pub judge-requires : goal.judge-requires

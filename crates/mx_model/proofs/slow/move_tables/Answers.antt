@@ -1,7 +1,5 @@
-use Rattle.std.proofs.Common.{◌≡◌, List, [], ◌∷◌, ◌++◌, nat_cmp}
+use Rattle.std.proofs.Common.{nat_cmp}
 use Rattle.std.specs.BTreeMap.{get_by}
-use Rattle.mx_schema.specs.declared.tables.TableEntry.{TableEntry}
-use Rattle.mx_model.specs.SlowSteps.{MovesTable}
 use Rattle.mx_model.proofs.SlowLaws.{one_moved}
 use Rattle.mx_model.proofs.slow.move_tables.Goals as goal
 

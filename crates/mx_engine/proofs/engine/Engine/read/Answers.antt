@@ -1,19 +1,23 @@
-use Rattle.std.proofs.Common.{rules, ◌≡◌, inl, inr, sym, ap, ◌∙◌}
+use Rattle.std.proofs.Common.{rules, ◌≡◌, [], inl, inr, sym, ap, ◌∙◌}
+use Rattle.std.specs.Option.{unwrap_or}
 use Rattle.mx_base.specs.declared.refusal.Refusal.TheVariants.{UnknownRequestType}
+use Rattle.mx_msgpack.specs.Items.{items_of}
 use Rattle.mx_key.specs.Parts.{key_of_array}
 use Rattle.mx_model.specs.declared.reply.Reply.TheVariants.{Empty, Id, Refused}
 use Rattle.mx_model.specs.Answers.{answer_to}
 use Rattle.mx_model.specs.statements.Answer.{reply_alone, not_built}
 use Rattle.mx_write.specs.Writes.{write_in}
 use Rattle.mx_engine.specs.Views.{reply_of}
-use Rattle.mx_engine.proofs.EngineLaws.{read_selected}
+use Rattle.mx_engine.proofs.SelectLaws.{read_selected}
 use Rattle.mx_engine.proofs.engine.Engine.read.Goals as goal
 
 pub returns-in-Select : goal.returns-in-Select
 returns-in-Select c = λ state holds none.
     let s = c.in-Select in
     read_selected state c.args.request.now (reply_of c.select.result c.select.new.found) s.space s.index s.limit s.offset s.iterator s.key
-    c.array_or_empty.result.now c.iterator_of.result s.is (λ parts. c.array_or_empty.ensures.key parts ∙ ap (key_of_array parts) c.as_slice.ensures)
+    c.array_or_empty.result.now c.iterator_of.result s.is
+    (c.array_or_empty.ensures.items ∙ ap (λ key. unwrap_or (items_of key) []) c.as_slice.ensures)
+    (λ parts. c.array_or_empty.ensures.key parts ∙ ap (key_of_array parts) c.as_slice.ensures)
     c.iterator_of.ensures (c.select.ensures state holds)
 
 pub returns-in-Id : goal.returns-in-Id

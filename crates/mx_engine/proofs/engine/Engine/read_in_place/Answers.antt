@@ -8,7 +8,7 @@ use Rattle.mx_model.specs.Answers.{answer_to}
 use Rattle.mx_model.specs.statements.Answer.{reply_alone, not_built}
 use Rattle.mx_write.specs.Writes.{write_in}
 use Rattle.mx_engine.specs.Views.{reply_of}
-use Rattle.mx_engine.proofs.EngineLaws.{read_selected}
+use Rattle.mx_engine.proofs.SelectLaws.{read_selected}
 use Rattle.mx_engine.proofs.engine.Engine.read_in_place.Goals as goal
 
 pub select-requires : goal.select-requires
@@ -20,7 +20,7 @@ pub returns-in-Select : goal.returns-in-Select
 returns-in-Select c = λ state holds none.
     let s = c.in-Select in
     read_selected state (request_view c.args.request.now) (reply_of c.select.result c.select.new.found)
-    s.space s.index s.limit s.offset s.iterator s.key.now s.key.now c.iterator_of.result (ap request_view s.is) (λ parts. refl)
+    s.space s.index s.limit s.offset s.iterator s.key.now s.key.now c.iterator_of.result (ap request_view s.is) refl (λ parts. refl)
     c.iterator_of.ensures (c.select.ensures state holds)
 
 pub returns-in-Id : goal.returns-in-Id

@@ -14,8 +14,8 @@ returns c = λ state keeps.
     let pick = c.args.pick.now in
     let def = c.in-Some-index.def.now in
     let schema = c.in-Some.found.now.schema in
-    let none : c.misfit.result ≡ None = search rules in
-    let (fitting, fits, fit) = rw none at c.misfit.ensures in
+    let none : c.in_ok-key_refusal.field-0 ≡ None = search rules in
+    let (taken, fitting, fits, fit) = rw none at c.in_ok-key_refusal.ensures in
     let stored = space_found (schema_of state space) (tuples_in state space) c.in-Some.found.now (get_by (nat_cmp space) c.args.self.now.spaces) c.in-Some.ensures.value (keeps space) in
     let there : index_with c.args.index.0 schema.indexes ≡ Some def = search rules in
     let scanned = sym c.in-Some-scanned.is ∙ c.in_ok-scanned.ensures (tuples_in state (source_of space)) fitting (c.tuples_of.ensures state keeps) fit (c.in_ok-range.ensures.picked fitting fits) in
@@ -23,4 +23,4 @@ returns c = λ state keeps.
     search rules in
     pushed
     ∙ ap (λ (s : ℕ). read_view (space_read space) ∷ read_view (index_read space) ∷ record { space = record { 0 = s }; index = def.id; range = c.in-Some-scanned.range } ∷ []) c.source_of.ensures
-    ∙ sym (select_reads_range state space c.args.index.0 pick schema stored.is def there fitting fits c.in-Some-scanned.range scanned)
+    ∙ sym (select_reads_range state space c.args.index.0 pick schema stored.is def there taken fitting fits c.in-Some-scanned.range scanned)
