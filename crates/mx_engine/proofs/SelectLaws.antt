@@ -33,7 +33,7 @@ use Rattle.mx_schema.specs.declared.pick.SelectFault.TheVariants as faults
 use Rattle.mx_model.specs.Answers.{answer_to}
 use Rattle.mx_write.specs.Lookup.{misfit_refusal}
 use Rattle.mx_model.specs.SelectSteps.{RefusesKey, TakesKey}
-use Rattle.mx_model.specs.statements.Select.{asked_key, iterator_of, key_by_kind, parts_in, select_answer_in, select_by_key, select_in_index, takes_iterator}
+use Rattle.mx_model.specs.statements.Select.{asked_key, iterator_of, key_by_kind, part_count, select_answer_in, select_by_key, select_in_index, takes_iterator}
 use Rattle.mx_write.specs.Reads.{schema_reads}
 use Rattle.mx_model.specs.statements.Lookup.{in_index, in_space}
 use Rattle.mx_model.specs.statements.Answer.{Answer, refusal_after}
@@ -50,9 +50,9 @@ module _ (before : State) (space limit offset : ℕ) (iterator : IterKind) (key 
   same_key Hash parts = ap (λ items. if length items == 0 then Ok [] else whole_key_of_items parts items) items
 
   same_asked : (def : IndexDef) → select_in_index before space limit offset iterator sought def ≡ select_in_index before space limit offset iterator key def
-  same_asked def = ap (λ items. by_key (length items) (asked_key def sought)) items ∙ ap (by_key (parts_in key)) (same_key def.kind def.key)
+  same_asked def = ap (λ items. by_key (length items) (asked_key def sought)) items ∙ ap (by_key (part_count key)) (same_key def.kind def.key)
     where
-      abbrev by_key : (parts : ℕ) → Result Key Misfit → Answer
+      by_key : (parts : ℕ) → Result Key Misfit → Answer
       by_key parts asked =
           if takes_iterator def.kind iterator parts then select_by_key before space limit offset iterator def asked
           else refusal_after (schema_reads space) (Unsupported HashIterator)

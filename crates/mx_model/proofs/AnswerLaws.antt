@@ -32,7 +32,7 @@ use Rattle.mx_schema.specs.Sound.{IsSound}
 use Rattle.mx_schema.specs.State.{State, source_of}
 use Rattle.mx_write.specs.Lookup.{misfit_refusal}
 use Rattle.mx_model.specs.SelectSteps.{RefusesKey, TakesKey}
-use Rattle.mx_model.specs.statements.Select.{asked_key, parts_in, range_reads, select_found, select_by_key, iterator_of, select_in_index, select_answer, select_answer_in, takes_iterator}
+use Rattle.mx_model.specs.statements.Select.{asked_key, part_count, range_reads, select_found, select_by_key, iterator_of, select_in_index, select_answer, select_answer_in, takes_iterator}
 use Rattle.mx_write.specs.Reads.{space_read, schema_reads}
 use Rattle.mx_model.specs.statements.Lookup.{in_def, in_index, in_schema, in_space}
 use Rattle.mx_model.specs.statements.Answer.{Answer, refusal_after, tuples_after}
@@ -83,7 +83,7 @@ module _ (before : State) (space index limit offset : ℕ) (iterator : IterKind)
       by_test taken =
           if taken then select_by_key before space limit offset iterator def (asked_key def key) else refusal_after (schema_reads space) (Unsupported HashIterator)
 
-      by_asked : takes_iterator def.kind iterator (parts_in key) ≡ true → select ≡ select_by_key before space limit offset iterator def (asked_key def key)
+      by_asked : takes_iterator def.kind iterator (part_count key) ≡ true → select ≡ select_by_key before space limit offset iterator def (asked_key def key)
       by_asked taken = by_index_found ∙ ap by_test taken
 
       -- the index doesn't take the iterator, or the key
@@ -159,7 +159,7 @@ select_agrees before space index limit offset iterator key = by_schema (schema_o
 
     by_def : (schema : Schema) (def : Option IndexDef) → Agrees before (in_def space schema index def (select_in_index before space limit offset iterator key))
     by_def schema None = inl (refl, refl)
-    by_def schema (Some def) = by_test (takes_iterator def.kind iterator (parts_in key))
+    by_def schema (Some def) = by_test (takes_iterator def.kind iterator (part_count key))
       where
         by_test : (taken : Bool) → Agrees before
             (if taken then select_by_key before space limit offset iterator def (asked_key def key) else refusal_after (schema_reads space) (Unsupported HashIterator))

@@ -22,7 +22,7 @@ use Rattle.mx_key.specs.declared.iterator.IterKind.{IterKind}
 use Rattle.mx_key.specs.Keys.{Key}
 use Rattle.mx_key.specs.Ranges.{Range, range_of}
 use Rattle.mx_model.specs.Answers.{answer_to, state_after_rows}
-use Rattle.mx_model.specs.statements.Select.{asked_key, parts_in, range_reads, select_found, select_by_key, select_in_index, select_answer, select_answer_in, takes_iterator}
+use Rattle.mx_model.specs.statements.Select.{asked_key, part_count, range_reads, select_found, select_by_key, select_in_index, select_answer, select_answer_in, takes_iterator}
 use Rattle.mx_write.specs.Reads.{schema_reads}
 use Rattle.mx_model.specs.statements.Lookup.{in_def, in_schema}
 use Rattle.mx_model.specs.statements.Answer.{refusal_alone, refusal_after, tuples_after}
@@ -255,7 +255,7 @@ select_no_row before space index limit offset iterator key = by_schema (schema_o
   where
     by_def : (schema : Schema) (def : Option IndexDef) → (in_def space schema index def (select_in_index before space limit offset iterator key)).row ≡ None
     by_def schema None = refl
-    by_def schema (Some def) = by_test (takes_iterator def.kind iterator (parts_in key))
+    by_def schema (Some def) = by_test (takes_iterator def.kind iterator (part_count key))
       where
         by_test : (taken : Bool)
             → (if taken then select_by_key before space limit offset iterator def (asked_key def key) else refusal_after (schema_reads space) (Unsupported HashIterator)).row ≡ None

@@ -8,15 +8,15 @@ use Rattle.mx_key.specs.declared.iterator.IterKind.{IterKind}
 use Rattle.mx_key.specs.Parts.{key_of_array}
 use Rattle.mx_schema.specs.declared.index_def.IndexDef.{IndexDef}
 use Rattle.mx_write.specs.Lookup.{misfit_refusal}
-use Rattle.mx_model.specs.statements.Select.{asked_key, parts_in, takes_iterator}
+use Rattle.mx_model.specs.statements.Select.{asked_key, part_count, takes_iterator}
 
 -- the index takes the iterator, and is asked for the key that a tree index would be asked for
 abbrev pub TakesKey : IndexDef → IterKind → (key : List ℕ) → Type 0
-TakesKey def iterator key = (takes_iterator def.kind iterator (parts_in key) ≡ true) × (asked_key def key ≡ key_of_array def.key key)
+TakesKey def iterator key = (takes_iterator def.kind iterator (part_count key) ≡ true) × (asked_key def key ≡ key_of_array def.key key)
 
 -- the index doesn't take the iterator, or the key, and this is the refusal
 abbrev pub RefusesKey : IndexDef → IterKind → (key : List ℕ) → Refusal → Type 0
 RefusesKey def iterator key refusal =
-    ((takes_iterator def.kind iterator (parts_in key) ≡ false) × (refusal ≡ Unsupported HashIterator))
-    ⊎ ((misfit : Misfit) × (takes_iterator def.kind iterator (parts_in key) ≡ true) × (asked_key def key ≡ Err misfit)
+    ((takes_iterator def.kind iterator (part_count key) ≡ false) × (refusal ≡ Unsupported HashIterator))
+    ⊎ ((misfit : Misfit) × (takes_iterator def.kind iterator (part_count key) ≡ true) × (asked_key def key ≡ Err misfit)
     × (refusal ≡ misfit_refusal (length def.key) misfit))

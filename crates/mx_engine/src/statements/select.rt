@@ -7,7 +7,7 @@ ghost use Rattle.mx_schema.specs.declared.index_def.IndexKind.TheVariants.{Hash}
 ghost use Rattle.mx_schema.specs.State as plain;
 ghost use Rattle.mx_schema.specs.Stored.{Holds};
 ghost use Rattle.mx_model.specs.SelectSteps.{RefusesKey, TakesKey};
-ghost use Rattle.mx_model.specs.statements.Select.{parts_in, select_answer_in};
+ghost use Rattle.mx_model.specs.statements.Select.{part_count, select_answer_in};
 ghost use Rattle.mx_engine.specs.Steps.{IsReplyOf};
 ghost use Rattle.mx_engine.specs.Views.{reply_of};
 
@@ -67,7 +67,7 @@ fn check_key(def: &IndexDef, iterator: IterKind, key: &[u8]) -> Result<(), Refus
 
 /// The index is a hash index: it finds the tuple of a whole key, or gives all.
 fn check_hash_key(def: &IndexDef, iterator: IterKind, parts: u32) -> Result<(), Refusal>
-    ensures { (key : List ℕ) → def.now.kind ≡ Hash → parts ≡ parts_in key → MatchResult result
+    ensures { (key : List ℕ) → def.now.kind ≡ Hash → parts ≡ part_count key → MatchResult result
         (λ _. TakesKey def.now iterator key)
         (λ refusal. RefusesKey def.now iterator key refusal ⊎ (refusal ≡ OutOfMemory)) }
 {

@@ -35,8 +35,8 @@ iterator_of number =
     else iterator.Gt
 
 -- how many parts a key has, which is an array; bytes that aren't one have none
-abbrev pub parts_in : (key : List ℕ) → ℕ
-parts_in key = length (unwrap_or (items_of key) [])
+abbrev pub part_count : (key : List ℕ) → ℕ
+part_count key = length (unwrap_or (items_of key) [])
 
 -- whether an index takes an iterator, with a key of so many parts: a hash index finds the tuple of a whole key, or gives all
 abbrev pub takes_iterator : IndexKind → IterKind → (parts : ℕ) → Bool
@@ -47,7 +47,7 @@ takes_iterator Hash other parts = false
 
 abbrev pub key_by_kind : IndexKind → List Part → (key : List ℕ) → Result Key Misfit
 key_by_kind Tree parts key = key_of_array parts key
-key_by_kind Hash parts key = if parts_in key == 0 then Ok [] else whole_key parts key
+key_by_kind Hash parts key = if part_count key == 0 then Ok [] else whole_key parts key
 
 -- the key that an index is asked for: a hash index needs a whole one, unless all is asked for
 abbrev pub asked_key : IndexDef → (key : List ℕ) → Result Key Misfit
@@ -75,7 +75,7 @@ select_by_key before space limit offset iterator def (Ok key) =
 -- a SELECT on an index of a space
 abbrev pub select_in_index : State → (space limit offset : ℕ) → IterKind → (key : List ℕ) → IndexDef → Answer
 select_in_index before space limit offset iterator key def =
-    if takes_iterator def.kind iterator (parts_in key)
+    if takes_iterator def.kind iterator (part_count key)
     then select_by_key before space limit offset iterator def (asked_key def key)
     else refusal_after (schema_reads space) (Unsupported HashIterator)
 

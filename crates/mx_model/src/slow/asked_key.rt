@@ -4,7 +4,7 @@ ghost use Rattle.std.specs.Prelude.{◌≡◌, ℕ, List, Ok, IfOk, MatchOption}
 ghost use Rattle.mx_key.specs.Keys.{Key, AreFit};
 ghost use Rattle.mx_key.specs.Parts.{key_of_array};
 ghost use Rattle.mx_model.specs.SelectSteps.{RefusesKey, TakesKey};
-ghost use Rattle.mx_model.specs.statements.Select.{parts_in};
+ghost use Rattle.mx_model.specs.statements.Select.{part_count};
 
 use crate::statements::select::{misfit_refusal, part_count_refusal, takes_iterator};
 use mx_base::{Refusal, Unsupported};
@@ -30,7 +30,7 @@ pub(crate) fn key_refusal(def: &IndexDef, pick: &Pick<'_>) -> Result<Option<Refu
 
 /// How many parts a key has, which is an array.
 fn count_parts(key: &[u8]) -> u32
-    ensures { result ≡ parts_in key.now }
+    ensures { result ≡ part_count key.now }
 {
     match array_of(key) {
         Some(items) => items.count,
@@ -44,7 +44,7 @@ fn kind_refusal(
     iterator: IterKind,
     parts: u32,
 ) -> Result<Option<Refusal>, AllocError>
-    ensures { (key : List ℕ) → parts ≡ parts_in key → IfOk result (λ refusal. MatchOption refusal
+    ensures { (key : List ℕ) → parts ≡ part_count key → IfOk result (λ refusal. MatchOption refusal
         (TakesKey def.now iterator key)
         (λ refusal. RefusesKey def.now iterator key refusal)) }
 {

@@ -1,4 +1,4 @@
-use Rattle.std.proofs.Common.{ap, ◌∙◌, subst}
+use Rattle.std.proofs.Common.{ap, ◌∙◌}
 use Rattle.mx_write.specs.declared.writable.Writer.TheVariants.{Client}
 use Rattle.mx_write.specs.Made.{row_with}
 use Rattle.mx_write.specs.Views.{write_view}
