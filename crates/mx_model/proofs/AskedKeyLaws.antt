@@ -1,17 +1,15 @@
 -- The key that an index is asked for, by how many parts it has.
-use Rattle.std.proofs.Common.{◌≡◌, ◌⊎◌, inl, inr, ℕ, zero, suc, Bool, true, false, List, [], ◌∷◌, length, Option, Some, None, Result, Ok, Err, refl, sym, ap, ◌∙◌, arith}
-use Rattle.std.proofs.lemmas.Bool.{eq-eqb, eqb-false, eqb-true, le-ltb, ne_eqb}
-use Rattle.std.specs.Prelude.{◌==◌, if◌then◌else◌}
+use Rattle.std.proofs.Common.{◌≡◌, inr, ℕ, zero, suc, true, List, [], length, Some, Ok, Err, refl, sym, ap, ◌∙◌}
+use Rattle.std.proofs.lemmas.Bool.{ne_eqb}
+use Rattle.std.specs.Prelude.{if◌then◌else◌}
 use Rattle.std.specs.Option.{option_map, unwrap_or}
 use Rattle.mx_base.specs.declared.refusal.Refusal.{Refusal}
 use Rattle.mx_base.specs.declared.refusal.Refusal.TheVariants.{KeyPartCount}
 use Rattle.mx_msgpack.specs.Items.{after_value, array_of, items_of, values_from}
-use Rattle.mx_key.specs.declared.fault.Misfit.{Misfit}
 use Rattle.mx_key.specs.declared.fault.Misfit.TheVariants.{TooLong}
 use Rattle.mx_key.specs.declared.iterator.IterKind.{IterKind}
 use Rattle.mx_key.specs.declared.part.Part.{Part}
-use Rattle.mx_key.specs.Keys.{Key}
-use Rattle.mx_key.specs.Parts.{key_of_array, key_of_items, parts_of_items, whole_key, whole_key_of_items}
+use Rattle.mx_key.specs.Parts.{parts_of_items, whole_key, whole_key_of_items}
 use Rattle.mx_schema.specs.declared.index_def.IndexDef.{IndexDef}
 use Rattle.mx_schema.specs.declared.index_def.IndexKind.TheVariants.{Hash}
 use Rattle.mx_model.specs.SelectSteps.{RefusesKey}
@@ -42,7 +40,7 @@ hash_refuses def iterator key parts refusal hash same taken some other is =
       TooLong (part_count key),
       ap (takes_iterator def.kind iterator) (sym same) ∙ taken,
       ap (λ kind. key_by_kind kind def.key key) hash
-      ∙ ap (λ none. if none then Ok [] else whole_key def.key key) (ne_eqb (part_count key) 0 (λ none. some (same ∙ none)))
-      ∙ other_key def.key (unwrap_or (items_of key) []) (λ many. other (same ∙ many)),
+          ∙ ap (λ none. if none then Ok [] else whole_key def.key key) (ne_eqb (part_count key) 0 (λ none. some (same ∙ none)))
+          ∙ other_key def.key (unwrap_or (items_of key) []) (λ many. other (same ∙ many)),
       is ∙ ap (λ n. KeyPartCount n (length def.key)) same,
     )

@@ -37,6 +37,14 @@ const TEXT: &[u8] = b"\x91\xa1a";
 
 const LONG: &[u8] = b"\x93\x01\xa1a\x00";
 
+const ONE_PART: Told<'static> = Told::Refused(19, b"Key of 1 parts, index of 2");
+
+const THREE_PARTS: Told<'static> = Told::Refused(19, b"Key of 3 parts, index of 2");
+
+const NO_NUMBER: Told<'static> = Told::Refused(18, b"Key part 0: unsigned expected");
+
+const NO_TEXT: Told<'static> = Told::Refused(18, b"Key part 1: string expected");
+
 const NO_ITERATOR: Told<'static> = Told::Refused(5, b"Unsupported: iterator of a hash index");
 
 /// An index, an iterator and a key, and what a SELECT by them is told.
@@ -51,22 +59,12 @@ const CASES: &[Case] = &[
     (0, EQ, NO_KEY, Told::Tuples(EACH)),
     (0, ALL, NO_KEY, Told::Tuples(EACH)),
     // Too few parts, also of a wrong type, and too many.
-    (0, EQ, NUMBER, Told::Refused(19, b"Key of 1 parts, index of 2")),
-    (0, EQ, TEXT, Told::Refused(19, b"Key of 1 parts, index of 2")),
-    (0, EQ, LONG, Told::Refused(19, b"Key of 3 parts, index of 2")),
+    (0, EQ, NUMBER, ONE_PART),
+    (0, EQ, TEXT, ONE_PART),
+    (0, EQ, LONG, THREE_PARTS),
     // A part of a wrong type.
-    (
-        0,
-        EQ,
-        b"\x92\xa1a\x01",
-        Told::Refused(18, b"Key part 0: unsigned expected"),
-    ),
-    (
-        0,
-        EQ,
-        b"\x92\x01\x01",
-        Told::Refused(18, b"Key part 1: string expected"),
-    ),
+    (0, EQ, b"\x92\xa1a\x01", NO_NUMBER),
+    (0, EQ, b"\x92\x01\x01", NO_TEXT),
     // Other iterators, whatever else is wrong with the key.
     (0, ALL, FIRST, NO_ITERATOR),
     (0, ALL, NUMBER, NO_ITERATOR),
@@ -82,8 +80,18 @@ const CASES: &[Case] = &[
     (0, GT, NO_KEY, NO_ITERATOR),
     // The tree index of the same space, and none.
     (1, GE, b"\x91\xa1b", Told::Tuples(SECOND)),
-    (1, ALL, NO_KEY, Told::Tuples(b"\x92\x01\xa1a\x92\x02\xa1a\x92\x01\xa1b")),
-    (2, GE, LONG, Told::Refused(35, b"No index 2 in space \"pairs\"")),
+    (
+        1,
+        ALL,
+        NO_KEY,
+        Told::Tuples(b"\x92\x01\xa1a\x92\x02\xa1a\x92\x01\xa1b"),
+    ),
+    (
+        2,
+        GE,
+        LONG,
+        Told::Refused(35, b"No index 2 in space \"pairs\""),
+    ),
 ];
 
 /// The state of these rows, without tuples.

@@ -48,11 +48,10 @@ impl Engine {
     }
 }
 
-/// Checks that an index takes an iterator and, where it is a hash index, a key of as many parts. The key
-/// is an array.
+/// Checks that an index takes an iterator with a key, which is an array, but for the types of its parts.
 ///
 /// # Errors
-/// The refusal of a SELECT by it; or out of memory.
+/// The refusal of a SELECT by them; or out of memory.
 fn check_key(def: &IndexDef, iterator: IterKind, key: &[u8]) -> Result<(), Refusal>
     requires array { IsArray key.now }
     ensures { MatchResult result
@@ -65,7 +64,7 @@ fn check_key(def: &IndexDef, iterator: IterKind, key: &[u8]) -> Result<(), Refus
     }
 }
 
-/// The index is a hash index: it finds the tuple of a whole key, or gives all.
+/// The same of a hash index and a key of so many parts: it finds the tuple of a whole key, or gives all.
 fn check_hash_key(def: &IndexDef, iterator: IterKind, parts: u32) -> Result<(), Refusal>
     ensures { (key : List ℕ) → def.now.kind ≡ Hash → parts ≡ part_count key → MatchResult result
         (λ _. TakesKey def.now iterator key)

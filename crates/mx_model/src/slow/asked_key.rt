@@ -13,7 +13,7 @@ use mx_msgpack::array_of;
 use mx_schema::{IndexDef, IndexKind, Pick};
 use std::alloc::AllocError;
 
-/// Why an index isn't asked by this iterator for this key; `None` where the key fits.
+/// Why an index doesn't take an iterator with a key; `None` where it takes it.
 pub(crate) fn key_refusal(def: &IndexDef, pick: &Pick<'_>) -> Result<Option<Refusal>, AllocError>
     ensures { IfOk result (λ refusal. MatchOption refusal
         (TakesKey def.now pick.now.iterator pick.now.key.now × (fitting : Key) × (key_of_array def.now.key pick.now.key.now ≡ Ok fitting) × AreFit fitting)
@@ -38,7 +38,7 @@ fn count_parts(key: &[u8]) -> u32
     }
 }
 
-/// Why an index of this kind isn't asked by this iterator for a key of so many parts.
+/// The same of a key of so many parts, but for their types.
 fn kind_refusal(
     def: &IndexDef,
     iterator: IterKind,

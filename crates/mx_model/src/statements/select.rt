@@ -34,7 +34,7 @@ fn part_count(def: &IndexDef) -> u32
     u32::try_from(def.key.len()).unwrap_or(u32::MAX)
 }
 
-/// The refusal of a key of so many parts by an index that takes all parts only.
+/// The refusal of a key of so many parts by an index that takes no other than whole ones.
 ///
 /// # Errors
 /// An index of more parts than a refusal can tell is taken as one for which there is no memory.
