@@ -39,7 +39,7 @@ abbrev pub put_all : {K X : Type 0} → (K → K → Ordering) → (before : Lis
 put_all R before [] = before
 put_all R before (e ∷ es) = put_all R (put R e.0 e.1 before) es
 
-no_entries : {K X : Type 0} (R : K → K → Ordering) → finite.entries (empty {X = X} {R = R}) ≡ []
+pub no_entries : {K X : Type 0} (R : K → K → Ordering) → finite.entries (empty {X = X} {R = R}) ≡ []
 no_entries {K} {X} R = nil_from_length (finite.entries (empty {X = X} {R = R})) (sym (len-entries (empty {X = X} {R = R})) ∙ len-empty R X)
 
 -- ---- keys that differ from all
@@ -53,7 +53,7 @@ abbrev pub all_keys : {K X : Type 0} → (K → Bool) → List (K × X) → Bool
 all_keys test [] = true
 all_keys test (e ∷ es) = test e.0 && all_keys test es
 
-none_found : {K X : Type 0} (R : K → K → Ordering) → IsAntisymmetric R → (q : K) (test : K → Bool) → ((k : K) → test k ≡ true → q ≡ k → ⊥)
+pub none_found : {K X : Type 0} (R : K → K → Ordering) → IsAntisymmetric R → (q : K) (test : K → Bool) → ((k : K) → test k ≡ true → q ≡ k → ⊥)
     → (es : List (K × X)) → all_keys test es ≡ true → find R q es ≡ None
 none_found R same q test apart [] all = refl
 none_found R same q test apart (e ∷ es) all =
@@ -70,7 +70,7 @@ abbrev pub Each : (ℕ → Type 0) → List ℕ → Type 0
 Each P [] = ⊤
 Each P (number ∷ others) = P number × Each P others
 
-each_has : (P : ℕ → Type 0) (wanted : ℕ) (numbers : List ℕ) → Each P numbers → has_number wanted numbers ≡ true → P wanted
+pub each_has : (P : ℕ → Type 0) (wanted : ℕ) (numbers : List ℕ) → Each P numbers → has_number wanted numbers ≡ true → P wanted
 each_has P wanted [] each has = absurd cc
 each_has P wanted (number ∷ others) each has = by_test (eqb number wanted) refl (each_has P wanted others each.1) has
   where
@@ -90,7 +90,7 @@ abbrev pub keyed : List Part → List Value → List (Key × List ℕ)
 keyed parts rows = map (λ row. (key_or_none (key_in parts row), row)) (rows_of rows)
 
 -- a space has the rows that are put into it
-entries_after : (space : ℕ) (parts : List Part) (before : State) (rows : List (List ℕ)) → finite.entries (tuples_in (with_rows space parts before rows) space)
+pub entries_after : (space : ℕ) (parts : List Part) (before : State) (rows : List (List ℕ)) → finite.entries (tuples_in (with_rows space parts before rows) space)
     ≡ put_all key_cmp (finite.entries (tuples_in before space)) (map (λ row. (key_or_none (key_in parts row), row)) rows)
 entries_after space parts before [] = refl
 entries_after space parts before (row ∷ rows) =
@@ -102,7 +102,7 @@ entries_after space parts before (row ∷ rows) =
     (ap (λ (t : Tuples). finite.entries t) here ∙ entries-insert key_cmp_total (tuples_in before space) key row)
 
 -- and the others are as before
-others_after : (space : ℕ) (parts : List Part) (before : State) (rows : List (List ℕ)) (q : ℕ) → (q == space) ≡ false
+pub others_after : (space : ℕ) (parts : List Part) (before : State) (rows : List (List ℕ)) (q : ℕ) → (q == space) ≡ false
     → tuples_in (with_rows space parts before rows) q ≡ tuples_in before q
 others_after space parts before [] q other = refl
 others_after space parts before (row ∷ rows) q other =
@@ -110,30 +110,30 @@ others_after space parts before (row ∷ rows) q other =
     others_after space parts (with_tuple before space key row) rows q other
     ∙ tuples_after before space key row q ∙ ap (λ b. if b then insert (tuples_in before space) key row else tuples_in before q) other
 
-abbrev with_settings : State
+abbrev pub with_settings : State
 with_settings = with_rows settings (part_of_texts 0 ∷ []) empty (rows_of first_settings)
 
-abbrev with_spaces : State
+abbrev pub with_spaces : State
 with_spaces = with_rows space_rows (part_of_numbers 0 ∷ []) with_settings (rows_of first_spaces)
 
 none_before : (space : ℕ) → (space == settings) ≡ false → finite.entries (tuples_in with_settings space) ≡ []
 none_before space other =
     ap (λ (t : Tuples). finite.entries t) (others_after settings (part_of_texts 0 ∷ []) empty (rows_of first_settings) space other ∙ no_tuples space) ∙ no_entries key_cmp
 
-abbrev spaces_keyed : List (Key × List ℕ)
+abbrev pub spaces_keyed : List (Key × List ℕ)
 spaces_keyed = put_all key_cmp [] (keyed (part_of_numbers 0 ∷ []) first_spaces)
 
-abbrev indexes_keyed : List (Key × List ℕ)
+abbrev pub indexes_keyed : List (Key × List ℕ)
 indexes_keyed = put_all key_cmp [] (keyed (part_of_numbers 0 ∷ part_of_numbers 1 ∷ []) first_indexes)
 
-spaces_are : finite.entries (tuples_in first_state space_rows) ≡ spaces_keyed
+pub spaces_are : finite.entries (tuples_in first_state space_rows) ≡ spaces_keyed
 unfolding first_state
 spaces_are =
     ap (λ (t : Tuples). finite.entries t) (others_after index_rows (part_of_numbers 0 ∷ part_of_numbers 1 ∷ []) with_spaces (rows_of first_indexes) space_rows refl)
     ∙ entries_after space_rows (part_of_numbers 0 ∷ []) with_settings (rows_of first_spaces)
     ∙ ap (λ (es : List (Key × List ℕ)). put_all key_cmp es (keyed (part_of_numbers 0 ∷ []) first_spaces)) (none_before space_rows refl)
 
-entries_are : finite.entries (tuples_in first_state index_rows) ≡ indexes_keyed
+pub entries_are : finite.entries (tuples_in first_state index_rows) ≡ indexes_keyed
 unfolding first_state
 entries_are =
     entries_after index_rows (part_of_numbers 0 ∷ part_of_numbers 1 ∷ []) with_spaces (rows_of first_indexes)
@@ -145,7 +145,7 @@ abbrev schema_found : (space : ℕ) → Option SpaceDef → Option Schema
 schema_found space None = None
 schema_found space (Some def) = Some (record { def = def; indexes = index_defs (filter (λ entry. is_key_prefix (Integer (pos space) ∷ []) entry.0) indexes_keyed) })
 
-abbrev schema_listed : (space : ℕ) → Option Schema
+abbrev pub schema_listed : (space : ℕ) → Option Schema
 schema_listed space = schema_found space (find key_cmp (Integer (pos space) ∷ []) spaces_keyed >>= space_in)
 
 pub schema_is : (space : ℕ) → schema_of first_state space ≡ schema_listed space
@@ -163,7 +163,7 @@ schema_is space =
 
 -- ---- both
 
-abbrev first_ids : List ℕ
+abbrev pub first_ids : List ℕ
 first_ids = settings ∷ space_rows ∷ 281 ∷ index_rows ∷ 289 ∷ cluster ∷ test_space ∷ []
 
 Agrees : ℕ → Type 0
@@ -173,7 +173,7 @@ all_agree : Each Agrees first_ids
 unfolding Agrees space_in index_in array_of reading_of head_at after_first measured unsigned_at part_in shortest_unsigned str_head array_head map_head
 all_agree = (refl, (refl, (refl, (refl, (refl, (refl, (refl, tt)))))))
 
-schemas_numbered : all_keys (λ k. has_number k first_ids) first_schemas ≡ true
+pub schemas_numbered : all_keys (λ k. has_number k first_ids) first_schemas ≡ true
 unfolding space_in index_in array_of reading_of head_at after_first measured unsigned_at shortest_unsigned str_head array_head map_head
 schemas_numbered = refl
 
@@ -181,13 +181,13 @@ rows_numbered : all_keys (is_number_key first_ids) spaces_keyed ≡ true
 unfolding array_of reading_of head_at after_first measured part_in shortest_unsigned str_head array_head map_head
 rows_numbered = refl
 
-number_apart : (space : ℕ) → has_number space first_ids ≡ false → (k : ℕ) → has_number k first_ids ≡ true → space ≡ k → ⊥
+pub number_apart : (space : ℕ) → has_number space first_ids ≡ false → (k : ℕ) → has_number k first_ids ≡ true → space ≡ k → ⊥
 number_apart space none k has same = cc (ap (λ n. has_number n first_ids) same)
 
 key_apart : (space : ℕ) → has_number space first_ids ≡ false → (k : Key) → is_number_key first_ids k ≡ true → Integer (pos space) ∷ [] ≡ k → ⊥
 key_apart space none k has same = cc (ap (is_number_key first_ids) same)
 
-agree : (space : ℕ) → find nat_cmp space first_schemas ≡ schema_listed space
+pub agree : (space : ℕ) → find nat_cmp space first_schemas ≡ schema_listed space
 unfolding Agrees
 agree space = by_test (has_number space first_ids) refl
   where

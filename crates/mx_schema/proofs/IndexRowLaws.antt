@@ -19,7 +19,7 @@ use Rattle.mx_schema.specs.SchemaChecks.{indexes_with}
 use Rattle.mx_schema.proofs.KeyedLaws.{one_key, prefix_ties, second_above, second_falls, two_key, two_key_ties}
 use Rattle.mx_schema.proofs.RowsOfStateLaws.{Row, first_of, of_space, second_of}
 use Rattle.mx_schema.proofs.StateLaws.{spaces_tie}
-use Rattle.mx_schema.proofs.WholeKeyLaws.{lt_is}
+use Rattle.mx_schema.proofs.OrderLaws.{lt_is}
 
 both_hold : (a b : Bool) → a ≡ true → T b → T (a && b)
 both_hold true b e h = h

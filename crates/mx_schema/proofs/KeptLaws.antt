@@ -172,3 +172,12 @@ index_numbers_first (space ∷ id ∷ name ∷ type ∷ options ∷ parts ∷ []
     (λ pairs. unique_in (value_of_key (codes "unique") pairs)) (parts_in parts) (λ number sort unique. when (unique || not (is_always_unique number sort))) index e in
     (space, id, name ∷ type ∷ options ∷ parts ∷ [], refl, number_of 4294967295 space index.space.0 numbers.0, number_of 127 id index.def.id.0 numbers.1)
 index_numbers_first _ index e = absurd cc
+
+-- the number of an index's space stands first
+pub index_space_first : (fields : List (List ℕ)) (index : IndexRow) → index_of_fields fields ≡ Some index → first_number fields ≡ Some index.space.0
+index_space_first (space ∷ id ∷ name ∷ type ∷ options ∷ parts ∷ []) index e =
+    let numbers =
+    index_chain (space_number space) (number_up_to 127 id) (name_in name) (first_as as_text type) index_kind_of (text_pairs_in options)
+    (λ pairs. unique_in (value_of_key (codes "unique") pairs)) (parts_in parts) (λ number sort unique. when (unique || not (is_always_unique number sort))) index e in
+    numbers.0
+index_space_first _ index e = absurd cc

@@ -1,6 +1,8 @@
 -- Rows that stand by their keys: what a key says of a row that describes something.
-use Rattle.std.proofs.Common.{◌≡◌, ℕ, ◌≤◌, Bool, true, false, cond, ◌&&◌, T, List, [], ◌∷◌, Some, Result, Ok, inl, inr, refl, sym, ap, ◌∙◌, subst, arith, eqb-true, eq-eqb, true≢false}
-use Rattle.std.specs.Prelude.{pos, nat_lt, ◌==◌}
+use Rattle.std.proofs.Common.{◌≡◌, ℕ, ◌≤◌, Bool, true, false, cond, ◌&&◌, T, List, [], ◌∷◌, drop, Option, Some, Result, Ok, Err, inl, inr, refl, sym, ap, ◌∙◌, subst, arith, eqb-true, eq-eqb, true≢false}
+use Rattle.std.specs.Prelude.{pos, negsuc, nat_lt, ◌==◌}
+use Rattle.std.specs.Option.{option_map}
+use Rattle.std.specs.Result.{result_ok}
 use Rattle.std.specs.Cmp.{IsTotalOrder, nat_cmp_total, tied_itself}
 use Rattle.std.specs.FinMap.{IsAntisymmetric, nat_cmp-IsAntisymmetric}
 use Rattle.std.specs.Ordering.{eq_by_cmp, int_cmp, is_eq, is_lt, nat_cmp, ordering_reverse, ordering_then}
@@ -9,12 +11,13 @@ use Rattle.std.specs.declared.cmp.Ordering.TheVariants.{Less, Equal, Greater}
 use Rattle.std.proofs.lemmas.Bool.{cases_eq, le-ltb, ltb-true}
 use Rattle.mx_key.specs.declared.fault.NoKey.{NoKey}
 use Rattle.mx_key.specs.declared.part.PartKind.TheVariants as kind
-use Rattle.mx_key.specs.Keys.{Key, Integer, is_key_prefix, key_cmp, part_cmp}
-use Rattle.mx_key.specs.Parts.{key_of, part_in, part_read}
+use Rattle.mx_key.specs.Keys.{Key, KeyPart, Integer, is_key_prefix, key_cmp, part_cmp}
+use Rattle.mx_key.specs.Parts.{key_of, part_in, part_of_type, part_read}
 use Rattle.mx_key.proofs.KeyLaws.{key_cmp_total, key_cmp-IsAntisymmetric, part_cmp_total, part_cmp-IsAntisymmetric}
 use Rattle.mx_msgpack.specs.Projections.{as_int, shown_first}
-use Rattle.mx_msgpack.specs.Reading.{Shown, ShownInt, reading_of}
-use Rattle.mx_msgpack.specs.Readers.{as_unsigned, unsigned_at, unsigned_in}
+use Rattle.mx_msgpack.specs.declared.bad.Bad.{Bad}
+use Rattle.mx_msgpack.specs.Reading.{Shown, ShownNil, ShownBool, ShownInt, ShownStr, ShownBin, ShownArray, ShownMap, ShownOpaque, reading_of}
+use Rattle.mx_msgpack.specs.Readers.{◌>>=◌, as_unsigned, unsigned_at, unsigned_in}
 use Rattle.mx_msgpack.proofs.Options.{bind_some, mapped_some, same_some}
 use Rattle.mx_msgpack.proofs.ProjectionLaws.{first_read, int_is, unsigned_is}
 use Rattle.mx_schema.specs.Bootstrap.{part_of_numbers}
@@ -37,6 +40,36 @@ number_read spelling number e =
 number_part : (spelling : List ℕ) (number : ℕ) → unsigned_in spelling ≡ Some number → part_in kind.Unsigned spelling ≡ Some (Integer (pos number))
 unfolding part_in
 number_part spelling number e = let read = number_read spelling number e in ap (part_read kind.Unsigned) read.1
+
+-- and what is such a part is a number
+pub part_number : (spelling : List ℕ) (part : KeyPart) → part_in kind.Unsigned spelling ≡ Some part → (number : ℕ) × (part ≡ Integer (pos number)) × (unsigned_in spelling ≡ Some number)
+unfolding part_in unsigned_at
+part_number spelling part e = by_read (reading_of spelling) refl e
+  where
+    first_there : (read : Result (Shown × ℕ) Bad) (first : Shown × ℕ) → reading_of spelling ≡ Ok first → shown_first spelling ≡ Some first
+    first_there read first is = ap result_ok is
+
+    by_shown : (what : Shown) (size : ℕ) → reading_of spelling ≡ Ok (what, size) → part_of_type kind.Unsigned what ≡ Some part
+        → (number : ℕ) × (part ≡ Integer (pos number)) × (unsigned_in spelling ≡ Some number)
+    by_shown (ShownInt (pos number)) size is e = (
+      number,
+      sym (same_some (Integer (pos number)) part e),
+      ap (λ (first : Option (Shown × ℕ)). option_map (λ (found : ℕ × List ℕ). found.0) (first >>= λ f. as_int f.0 >>= λ n. as_unsigned n >>= λ u. Some (u, drop f.1 spelling)))
+          (first_there (reading_of spelling) (ShownInt (pos number), size) is),
+    )
+    by_shown (ShownInt (negsuc number)) size is e = absurd cc
+    by_shown ShownNil size is e = absurd cc
+    by_shown (ShownBool truth) size is e = absurd cc
+    by_shown (ShownStr text) size is e = absurd cc
+    by_shown (ShownBin content) size is e = absurd cc
+    by_shown (ShownArray count items) size is e = absurd cc
+    by_shown (ShownMap count items) size is e = absurd cc
+    by_shown (ShownOpaque spelled) size is e = absurd cc
+
+    by_read : (read : Result (Shown × ℕ) Bad) → reading_of spelling ≡ read → part_read kind.Unsigned read ≡ Some part
+        → (number : ℕ) × (part ≡ Integer (pos number)) × (unsigned_in spelling ≡ Some number)
+    by_read (Err bad) is e = absurd cc
+    by_read (Ok (what, size)) is e = by_shown what size is e
 
 -- the keys of a number, and of two
 abbrev pub one_key : (number : ℕ) → Key

@@ -1,9 +1,9 @@
 -- What is kept in memory and the tuples that it stands for.
-use Rattle.std.proofs.Common.{◌≡◌, ℕ, Bool, true, false, append-nil, List, [], ◌∷◌, ◌++◌, map, length, refl, sym, ap, ◌∙◌, subst, eq-eqb, ne_eqb, true≢false}
-use Rattle.std.specs.Prelude.{◌≢◌, Option, Some, None, IsTrue, MatchOption, is_some, not, if◌then◌else◌}
+use Rattle.std.proofs.Common.{◌≡◌, ℕ, Bool, true, false, append-nil, List, [], ◌∷◌, ◌++◌, map, refl, sym, ap, ◌∙◌, subst, eq-eqb, ne_eqb}
+use Rattle.std.specs.Prelude.{if◌then◌else◌}
 use Rattle.std.specs.List.{AllByRecursion}
 use Rattle.std.specs.BTreeMap.{insert_entry}
-use Rattle.std.specs.Ordering.{nat_cmp}
+use Rattle.std.specs.Ordering.{match_ordering, nat_cmp}
 use Rattle.std.specs.Cmp.Lexicographic.{slice_cmp}
 use Rattle.std.specs.FinMap as finite
 use Rattle.std.proofs.lemmas.List.{nil_from_length}
@@ -19,7 +19,44 @@ use Rattle.mx_schema.specs.declared.index_def.IndexDef.{IndexDef}
 use Rattle.mx_schema.specs.State.{Tuples, key_in, key_or_none}
 use Rattle.mx_schema.specs.Picks.{Indexed, entry_key, indexed_with, tuples_by_index}
 use Rattle.mx_schema.specs.Stored.{StoredTuple, stored_tuple, StoresTuples}
-use Rattle.mx_schema.proofs.PickLaws.{kept_with, all_with}
+
+-- comparable bytes are ordered as the keys are
+abbrev pub OrdersKeys : Type 0
+OrdersKeys = (x y : Key) → AreFit x → AreFit y → slice_cmp nat_cmp (comparable_of x) (comparable_of y) ≡ key_cmp x y
+
+-- it is kept as it is put among the keys
+pub kept_with : OrdersKeys → (key : Key) (tuple : List ℕ) → AreFit key → (all : List Indexed) → AllByRecursion (λ (entry : Indexed). AreFit entry.0) all
+    → insert_entry (slice_cmp nat_cmp) (map stored_tuple all) (comparable_of key) tuple ≡ map stored_tuple (put key_cmp key tuple all)
+kept_with law key tuple fit [] others = refl
+kept_with law key tuple fit (entry ∷ all) others =
+    ap (λ o. match_ordering o (new ∷ stored_tuple entry ∷ map stored_tuple all) ((comparable_of entry.0, tuple) ∷ map stored_tuple all) (stored_tuple entry ∷ inserted))
+    (law key entry.0 fit others.0)
+    ∙ by_case (key_cmp key entry.0) (kept_with law key tuple fit all others.1)
+  where
+    new : StoredTuple
+    new = (comparable_of key, tuple)
+
+    inserted : List StoredTuple
+    inserted = insert_entry (slice_cmp nat_cmp) (map stored_tuple all) (comparable_of key) tuple
+
+    by_case : (o : Ordering) → inserted ≡ map stored_tuple (put key_cmp key tuple all)
+        → match_ordering o (new ∷ stored_tuple entry ∷ map stored_tuple all) ((comparable_of entry.0, tuple) ∷ map stored_tuple all) (stored_tuple entry ∷ inserted)
+        ≡ map stored_tuple (by_order o ((key, tuple) ∷ entry ∷ all) ((entry.0, tuple) ∷ all) (entry ∷ put key_cmp key tuple all))
+    by_case Less same = refl
+    by_case Equal same = refl
+    by_case Greater same = ap (λ l. stored_tuple entry ∷ l) same
+
+-- and the keys have a property as before
+pub all_with : (P : Key → Type 0) (key : Key) (tuple : List ℕ) → P key → (all : List Indexed) → AllByRecursion (λ (entry : Indexed). P entry.0) all
+    → AllByRecursion (λ (entry : Indexed). P entry.0) (put key_cmp key tuple all)
+all_with P key tuple has [] others = (has, tt)
+all_with P key tuple has (entry ∷ all) others = by_case (key_cmp key entry.0) (all_with P key tuple has all others.1)
+  where
+    by_case : (o : Ordering) → AllByRecursion (λ (entry : Indexed). P entry.0) (put key_cmp key tuple all)
+        → AllByRecursion (λ (entry : Indexed). P entry.0) (by_order o ((key, tuple) ∷ entry ∷ all) ((entry.0, tuple) ∷ all) (entry ∷ put key_cmp key tuple all))
+    by_case Less later = (has, others)
+    by_case Equal later = others
+    by_case Greater later = (others.0, later)
 
 pub no_entries : finite.entries (finite.empty {X = List ℕ} {R = key_cmp}) ≡ []
 no_entries = nil_from_length _ (sym (finite.len-entries finite.empty) ∙ finite.len-empty key_cmp (List ℕ))
@@ -147,26 +184,3 @@ primary_index def all is = ap (λ b. if b then all else indexed_with def finite.
 
 pub other_index : (def : IndexDef) (all : Tuples) → (def.id.0 ≡ 0 → ⊥) → tuples_by_index def all ≡ indexed_with def finite.empty (finite.entries all)
 other_index def all apart = ap (λ b. if b then all else indexed_with def finite.empty (finite.entries all)) (ne_eqb def.id.0 0 apart)
-
--- keys with as many parts as one of them
-pub all_as_long : (key : Key) (long : ℕ) → length key ≡ long → (all : List Indexed) → AllByRecursion (λ (entry : Indexed). length entry.0 ≡ long) all
-    → AllByRecursion (λ (entry : Indexed). length entry.0 ≡ length key) all
-all_as_long key long is [] whole = tt
-all_as_long key long is (entry ∷ all) (first, others) = (first ∙ sym is, all_as_long key long is all others)
-
--- ---- the tuples that an index has in memory
-
-module _ {X : Type 0} (view : X → List StoredTuple) (def : IndexDef) (all : Tuples) (tuples kept : X) where
-  -- those of the space for the index of the number 0, and else others
-  pub kept_stored : (indexed : Option X) → StoresTuples (view tuples) all
-      → MatchOption indexed (def.id.0 ≡ 0) (λ found. (def.id.0 ≢ 0) × StoresTuples (view found) (tuples_by_index def all))
-      → MatchOption indexed (kept ≡ tuples) (λ found. kept ≡ found) → StoresTuples (view kept) (tuples_by_index def all)
-  kept_stored None keeps first same =
-      let theirs : StoresTuples (view kept) all = subst (λ one. StoresTuples (view one) all) (sym same) keeps in
-      subst (StoresTuples (view kept)) (sym (primary_index def all first)) theirs
-  kept_stored (Some found) keeps other same = subst (λ one. StoresTuples (view one) (tuples_by_index def all)) (sym same) other.1
-
-  pub is_first : (indexed : Option X) (is : Bool) → is_some indexed ≡ not is → IsTrue is
-      → MatchOption indexed (def.id.0 ≡ 0) (λ found. (def.id.0 ≢ 0) × StoresTuples (view found) (tuples_by_index def all)) → def.id.0 ≡ 0
-  is_first None is same here first = first
-  is_first (Some found) is same here other = absurd (true≢false (same ∙ ap not here))

@@ -13,12 +13,11 @@ use Rattle.mx_key.specs.Keys.{Key, AreFit, key_cmp}
 use Rattle.mx_key.specs.Comparable.{comparable_of}
 use Rattle.mx_key.proofs.EncodingLaws.{bytes_order}
 use Rattle.mx_key.proofs.KeyLaws.{key_cmp-IsAntisymmetric, key_cmp_total}
-use Rattle.mx_schema.specs.declared.index_def.IndexDef.{IndexDef}
-use Rattle.mx_schema.specs.Picks.{Indexed, indexed_with, tuples_by_index}
+use Rattle.mx_schema.specs.Picks.{Indexed}
 use Rattle.mx_schema.specs.State.{Tuples}
 use Rattle.mx_schema.specs.Stored.{StoredTuple, StoresTuples, stored_tuple}
 use Rattle.mx_schema.proofs.StoredLaws.{no_entries}
-use Rattle.mx_schema.proofs.WholeKeyLaws.{both, lt_is}
+use Rattle.mx_schema.proofs.OrderLaws.{both, lt_is}
 
 -- what is kept under a key's bytes is the tuple of the key
 pub stored_get : (kept : List StoredTuple) (tuples : Tuples) (key : Key) (bytes : List ℕ) → StoresTuples kept tuples → AreFit key → bytes ≡ comparable_of key
@@ -32,17 +31,6 @@ stored_get kept tuples key bytes keeps fit is =
         → lookup (is_at (slice_cmp nat_cmp (comparable_of key))) (map stored_tuple all) ≡ find key_cmp key all
     found [] fits = refl
     found (entry ∷ all) fits = λ i. cond (is_eq (bytes_order key entry.0 fit fits.0 i)) (Some entry.1) (found all fits.1 i)
-
--- an index of no tuples has none
-pub none_by_index : (def : IndexDef) (tuples : Tuples) (key : Key) → tuples ≡ finite.empty → finite.get (tuples_by_index def tuples) key ≡ None
-none_by_index def tuples key none = ap (λ (t : Tuples). finite.get (tuples_by_index def t) key) none ∙ ap (λ (t : Tuples). finite.get t key) (by_test _) ∙ finite.get-empty key_cmp key
-  where
-    nothing : Tuples
-    nothing = finite.empty
-
-    by_test : (b : Bool) → cond b finite.empty (indexed_with def finite.empty (finite.entries (finite.empty {X = List ℕ} {R = key_cmp}))) ≡ finite.empty
-    by_test true = refl
-    by_test false = ap (indexed_with def finite.empty) no_entries
 
 -- ---- without a key
 

@@ -5,14 +5,11 @@ pub mod Lookups
 pub mod Picks
 pub mod RowParts
 pub mod RowSteps
-pub mod Scans
 pub mod SchemaChanges
 pub mod SchemaChecks
-pub mod Selecting
 pub mod Settings
 pub mod Sound
 pub mod SpaceRows
 pub mod State
 pub mod Stored
-pub mod Tables
 pub mod TextMaps

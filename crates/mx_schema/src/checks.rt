@@ -95,7 +95,7 @@ pub(crate) fn user_index(
 }
 
 /// The number of a space that stands first in a row.
-pub(crate) fn first_number(row: &Tuple) -> Option<u32>
+pub fn first_number(row: &Tuple) -> Option<u32>
     ensures { result ≡ first_number row.now.fields }
 {
     space_number(row.field(0)?)

@@ -13,10 +13,7 @@ ghost use Rattle.mx_schema.specs.SpaceRows.{space_in};
 ghost use Rattle.mx_schema.specs.declared.index_def.IndexRow.{IndexRow};
 ghost use Rattle.mx_schema.specs.declared.schema.Schema.{Schema};
 ghost use Rattle.mx_schema.specs.declared.space_def.SpaceDef.{SpaceDef};
-ghost use Rattle.mx_schema.specs.declared.state.State as stored;
-ghost use Rattle.mx_schema.specs.Sound.{IsSound};
 ghost use Rattle.mx_schema.specs.State.{State, Tuples, index_rows, space_rows, tuples_in, with_tuple, without_tuple};
-ghost use Rattle.mx_schema.specs.Stored.{Holds};
 
 /// A theorem, which does nothing when it is called: the rows of a new database make a catalogue, and it
 /// is that of its state.
@@ -39,11 +36,6 @@ pub fn a_catalogue_is_that_of_its_state()
         → StandByKey (part_of_numbers 0 ∷ part_of_numbers 1 ∷ []) (tuples_in state index_rows)
         → IsMade (values (tuples_in state space_rows)) (values (tuples_in state index_rows)) (Ok catalogue)
         → IsCatalogueOf catalogue state }
-{}
-
-/// A theorem, which does nothing when it is called: a state that memory holds is sound.
-pub fn a_held_state_is_sound()
-    ensures { (memory : stored.State) (state : State) → Holds memory state → IsSound state }
 {}
 
 /// A theorem, which does nothing when it is called: what the rows of a state describe after a row of a

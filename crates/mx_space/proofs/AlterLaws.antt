@@ -1,23 +1,26 @@
 -- A space with an index more and with one less.
-use Rattle.std.proofs.Common.{◌≡◌, ◌≢◌, ℕ, suc, Bool, true, false, List, [], ◌∷◌, length, Option, Some, None, refl, sym, ap, ◌∙◌, subst}
+use Rattle.std.proofs.Common.{◌≡◌, ◌≢◌, ◌+◌, ◌<◌, ◌≤◌, ℕ, zero, suc, Bool, true, false, cond, not, List, [], ◌∷◌, ◌++◌, map, take, drop, length, Option, Some, None, refl, sym, ap, ◌∙◌, subst, add-one, arith}
 use Rattle.std.specs.Prelude.{IfSome, ◌==◌, if◌then◌else◌, nat_lt}
-use Rattle.std.specs.FinMap.{entries}
+use Rattle.std.specs.FinMap.{empty}
 use Rattle.std.specs.List as list
 use Rattle.std.specs.List.{AllZip}
-use Rattle.std.proofs.lemmas.Bool.{eq-eqb, ne_eqb, eqb-true}
+use Rattle.std.proofs.lemmas.Bool.{ne_eqb, eqb-true}
 use Rattle.mx_schema.specs.declared.index_def.IndexDef.{IndexDef}
 use Rattle.mx_schema.specs.declared.schema.Schema.{Schema}
 use Rattle.mx_schema.specs.Catalogues.{StandByKey, index_with}
 use Rattle.mx_schema.specs.RowParts.{index_place}
 use Rattle.mx_schema.specs.SchemaChecks.{indexes_with}
+use Rattle.mx_schema.specs.SchemaChanges.{indexes_without, schema_with_index, schema_without_index}
 use Rattle.mx_schema.specs.State.{Tuples}
-use Rattle.mx_schema.specs.Stored.{StoresTuples}
+use Rattle.mx_schema.specs.Stored.{StandByPrimary, StoresTuples}
+use Rattle.mx_schema.proofs.StateLaws.{none_stand}
+use Rattle.mx_schema.proofs.StoredLaws.{no_entries}
 use Rattle.mx_space.specs.declared.space.Space.{Space}
-use Rattle.mx_space.specs.Built.{AreLong}
-use Rattle.mx_space.specs.Changes.{index_at}
+use Rattle.mx_space.specs.Builds.{build_fault, build_fault_from}
+use Rattle.mx_space.specs.Changes.{kept_without}
 use Rattle.mx_space.specs.Entries.{IndexEntry}
-use Rattle.mx_space.specs.Kept.{StoresByNumber, StoresEntries, StoresIndex, StoresIndexed, kept_entries, without_first_index}
-use Rattle.mx_space.proofs.SpaceLaws.{keys_long}
+use Rattle.mx_space.specs.Kept.{StoresIndex, StoresIndexed}
+use Rattle.mx_space.proofs.SpaceLaws.{new_space, nothing_kept}
 
 -- ---- lists
 
@@ -33,19 +36,48 @@ zip_insert R def one has (other ∷ defs) (first ∷ kept) each = by_test (nat_l
     by_test true later = (has, each)
     by_test false later = (each.0, later)
 
-zip_remove : (R : IndexDef → List IndexEntry → Type 0) (id : ℕ) (defs : List IndexDef) (kept : List (List IndexEntry)) → AllZip R defs kept
-    → AllZip R (without_first_index id defs) (list.remove kept (index_at id defs))
-zip_remove R id [] [] each = tt
-zip_remove R id [] (first ∷ kept) each = absurd each
-zip_remove R id (def ∷ defs) [] each = absurd each
-zip_remove R id (def ∷ defs) (first ∷ kept) each = by_test (def.id.0 == id) (zip_remove R id defs kept each.1)
+zip_without : (R : IndexDef → List IndexEntry → Type 0) (id : ℕ) (defs : List IndexDef) (kept : List (List IndexEntry)) → AllZip R defs kept
+    → AllZip R (indexes_without id defs) (kept_without id defs kept)
+zip_without R id [] [] each = tt
+zip_without R id [] (first ∷ kept) each = absurd each
+zip_without R id (def ∷ defs) [] each = absurd each
+zip_without R id (def ∷ defs) (first ∷ kept) each = by_test (def.id.0 == id) (zip_without R id defs kept each.1)
   where
-    by_test : (b : Bool) → AllZip R (without_first_index id defs) (list.remove kept (index_at id defs))
-        → AllZip R (if b then defs else def ∷ without_first_index id defs) (list.remove (first ∷ kept) (if b then 0 else suc (index_at id defs)))
-    by_test true later = each.1
+    by_test : (b : Bool) → AllZip R (indexes_without id defs) (kept_without id defs kept)
+        → AllZip R (cond (not b) (def ∷ indexes_without id defs) (indexes_without id defs)) (if b then kept_without id defs kept else first ∷ kept_without id defs kept)
+    by_test true later = later
     by_test false later = (each.0, later)
 
--- the index of another number
+-- no index has entries where all are taken out
+zip_cleared : (R : IndexDef → List IndexEntry → Type 0) (defs : List IndexDef) (kept : List (List IndexEntry)) → AllZip R defs kept
+    → AllZip (StoresIndex empty) defs (map (λ _. []) kept)
+zip_cleared R [] [] each = tt
+zip_cleared R [] (first ∷ kept) each = absurd each
+zip_cleared R (def ∷ defs) [] each = absurd each
+zip_cleared R (def ∷ defs) (first ∷ kept) each = (nothing_kept def [] refl, zip_cleared R defs kept each.1)
+
+-- what was put at a place can be taken out there
+pub put_back : {X : Type 0} (xs : List X) (place : ℕ) (x : X) → place ≤ length xs → list.remove (list.insert xs place x) place ≡ xs
+put_back xs zero x within = refl
+put_back [] (suc place) x within = absurd (omega (arith, within))
+put_back (y ∷ xs) (suc place) x within = ap (λ l. y ∷ l) (put_back xs place x (omega (arith, within)))
+
+-- ---- entries without those of some indexes, from a place on
+
+module _ (id : ℕ) (def : IndexDef) (defs : List IndexDef) where
+  -- the entries at the place are those of another index
+  pub passed_here : (def.id.0 == id) ≡ false → (place : ℕ) (kept : List (List IndexEntry)) → place < length kept
+      → take (place + 1) kept ++ kept_without id defs (drop (place + 1) kept) ≡ take place kept ++ kept_without id (def ∷ defs) (drop place kept)
+  passed_here e place kept within = rw add-one (passed place kept within)
+    where
+      passed : (place : ℕ) (kept : List (List IndexEntry)) → place < length kept
+          → take (suc place) kept ++ kept_without id defs (drop (suc place) kept) ≡ take place kept ++ kept_without id (def ∷ defs) (drop place kept)
+      passed place [] within = absurd (omega (arith, within))
+      passed zero (one ∷ kept) within = sym (ap (λ b. if b then kept_without id defs kept else one ∷ kept_without id defs kept) e)
+      passed (suc place) (one ∷ kept) within = ap (λ l. one ∷ l) (passed place kept (omega (arith, within)))
+
+-- ---- the index of another number
+
 other_with : (id : ℕ) (def : IndexDef) → (def.id.0 == id) ≡ false → (defs : List IndexDef) → index_with id (indexes_with def defs) ≡ index_with id defs
 other_with id def apart [] = ap (λ b. if b then Some def else None) apart
 other_with id def apart (other ∷ defs) = by_test (nat_lt def.id.0 other.id.0) (other_with id def apart defs)
@@ -55,65 +87,71 @@ other_with id def apart (other ∷ defs) = by_test (nat_lt def.id.0 other.id.0) 
     by_test true later = ap (λ b. if b then Some def else index_with id (other ∷ defs)) apart
     by_test false later = ap (λ o. if other.id.0 == id then Some other else o) later
 
-other_without : (id gone : ℕ) → id ≢ gone → (defs : List IndexDef) → index_with id (without_first_index gone defs) ≡ index_with id defs
+other_without : (id gone : ℕ) → id ≢ gone → (defs : List IndexDef) → index_with id (indexes_without gone defs) ≡ index_with id defs
 other_without id gone apart [] = refl
 other_without id gone apart (def ∷ defs) = by_test (def.id.0 == gone) refl (other_without id gone apart defs)
   where
-    by_test : (b : Bool) → (def.id.0 == gone) ≡ b → index_with id (without_first_index gone defs) ≡ index_with id defs
-        → index_with id (if b then defs else def ∷ without_first_index gone defs) ≡ index_with id (def ∷ defs)
+    by_test : (b : Bool) → (def.id.0 == gone) ≡ b → index_with id (indexes_without gone defs) ≡ index_with id defs
+        → index_with id (cond (not b) (def ∷ indexes_without gone defs) (indexes_without gone defs)) ≡ index_with id (def ∷ defs)
     by_test true is later =
-        sym (ap (λ b. if b then Some def else index_with id defs) (ne_eqb def.id.0 id (λ same. apart (sym same ∙ eqb-true def.id.0 gone is))))
+        later ∙ sym (ap (λ b. if b then Some def else index_with id defs) (ne_eqb def.id.0 id (λ same. apart (sym same ∙ eqb-true def.id.0 gone is))))
     by_test false is later = ap (λ o. if def.id.0 == id then Some def else o) later
-
--- the index that is added
-pub added_is : (id : ℕ) (def : IndexDef) → def.id.0 ≡ id → (defs : List IndexDef) → index_with id defs ≡ None → index_with id (indexes_with def defs) ≡ Some def
-added_is id def is [] none = ap (λ b. if b then Some def else None) (eq-eqb def.id.0 id is)
-added_is id def is (other ∷ defs) none = by_tests (nat_lt def.id.0 other.id.0) (other.id.0 == id) refl none (λ later. added_is id def is defs later)
-  where
-    by_tests : (b c : Bool) → (other.id.0 == id) ≡ c → (if c then Some other else index_with id defs) ≡ None
-        → (index_with id defs ≡ None → index_with id (indexes_with def defs) ≡ Some def)
-        → index_with id (if b then def ∷ other ∷ defs else other ∷ indexes_with def defs) ≡ Some def
-    by_tests true c is_other none later = ap (λ b. if b then Some def else index_with id (other ∷ defs)) (eq-eqb def.id.0 id is)
-    by_tests false true is_other none later = absurd cc
-    by_tests false false is_other none later =
-        ap (λ c. if c then Some other else index_with id (indexes_with def defs)) is_other ∙ later none
 
 -- ---- spaces
 
-module _ (was : Option Schema) (before after : Space) (all : Tuples) (stores : StoresIndexed was before all) (tuples : after.tuples.entries ≡ before.tuples.entries) where
-  described_by : index_with 0 after.schema.indexes ≡ index_with 0 before.schema.indexes → AllZip (StoresIndex all) after.schema.indexes after.indexes.items
-      → StoresIndexed (Some after.schema) after all
-  described_by primary each = record {
+-- tuples stand with an index more, where there are none under a new primary one
+pub stand_with : (def : IndexDef) (schema : Schema) (all : Tuples) → (def.id.0 ≡ 0 → all ≡ empty) → StandByPrimary schema all → StandByPrimary (schema_with_index def schema) all
+stand_with def schema all none stood = by_test (def.id.0 == 0) refl
+  where
+    by_test : (b : Bool) → (def.id.0 == 0) ≡ b → StandByPrimary (schema_with_index def schema) all
+    by_test true e = subst (StandByPrimary (schema_with_index def schema)) (sym (none (eqb-true def.id.0 0 e))) (none_stand (schema_with_index def schema))
+    by_test false e = subst (λ (o : Option IndexDef). IfSome o (λ one. StandByKey one.key all)) (sym (other_with 0 def e schema.indexes)) stood
+
+-- and with another index less
+pub stand_without : (id : ℕ) (schema : Schema) (all : Tuples) → id ≢ 0 → StandByPrimary schema all → StandByPrimary (schema_without_index id schema) all
+stand_without id schema all apart = subst (λ (o : Option IndexDef). IfSome o (λ def. StandByKey def.key all)) (sym (other_without 0 id (λ same. apart (sym same)) schema.indexes))
+
+-- no tuples have an index that makes a fault
+pub none_at_fault : (def : IndexDef) (all : Tuples) → all ≡ empty → build_fault def all ≡ None
+none_at_fault def all none = ap (build_fault def) none ∙ ap (build_fault_from def empty) no_entries
+
+module _ (was : Option Schema) (before after : Space) (all : Tuples) (stores : StoresIndexed was before all) where
+  -- a space with an index more
+  pub space_with_index : after.tuples.entries ≡ before.tuples.entries → (def : IndexDef) → (def.id.0 ≡ 0 → all ≡ empty) → after.schema ≡ schema_with_index def before.schema
+      → (index : List IndexEntry) → StoresIndex all def index
+      → (place : ℕ) → place ≡ index_place def.id.0 before.schema.indexes → after.indexes.items ≡ list.insert before.indexes.items place index
+      → StoresIndexed (Some (schema_with_index def before.schema)) after all
+  space_with_index tuples def none schema index keeps place at items = record {
     holds = record {
-      is = refl;
+      is = ap (λ s. Some s) (sym schema);
       keeps = subst (λ kept. StoresTuples kept all) (sym tuples) stores.holds.keeps;
-      stands = subst (λ (o : Option IndexDef). IfSome o (λ def. StandByKey def.key all)) (sym primary) stores.holds.stands;
+      stands = subst (λ s. StandByPrimary s all) (sym schema) (stand_with def before.schema all none stores.holds.stands);
     };
-    indexes = each;
+    indexes = subst (λ (s : Schema). AllZip (StoresIndex all) s.indexes after.indexes.items) (sym schema)
+        (subst (AllZip (StoresIndex all) (indexes_with def before.schema.indexes)) (sym (items ∙ ap (λ p. list.insert before.indexes.items p index) at))
+        (zip_insert (StoresIndex all) def index keeps before.schema.indexes before.indexes.items stores.indexes));
   }
 
-  pub with_index : (def : IndexDef) → def.id.0 ≢ 0 → after.schema.indexes ≡ indexes_with def before.schema.indexes
-      → (index : List IndexEntry) → StoresEntries index (kept_entries def all)
-      → (place : ℕ) → place ≡ index_place def.id.0 before.schema.indexes → after.indexes.items ≡ list.insert before.indexes.items place index
-      → StoresIndexed (Some after.schema) after all
-  with_index def apart defs index keeps place at items =
-      let other = ne_eqb def.id.0 0 apart in
-      described_by (ap (index_with 0) defs ∙ other_with 0 def other before.schema.indexes)
-      (subst (λ l. AllZip (StoresIndex all) l after.indexes.items) (sym defs)
-      (subst (AllZip (StoresIndex all) (indexes_with def before.schema.indexes)) (sym (items ∙ ap (λ p. list.insert before.indexes.items p index) at))
-      (zip_insert (StoresIndex all) def index (subst (λ b. StoresByNumber b def all index) (sym other) keeps) before.schema.indexes before.indexes.items stores.indexes)))
+  module _ (id : ℕ) (schema : after.schema ≡ schema_without_index id before.schema) where
+    -- a space with an index less that isn't the primary one
+    pub space_without_index : id ≢ 0 → after.tuples.entries ≡ before.tuples.entries → after.indexes.items ≡ kept_without id before.schema.indexes before.indexes.items
+        → StoresIndexed (Some (schema_without_index id before.schema)) after all
+    space_without_index apart tuples items = record {
+      holds = record {
+        is = ap (λ s. Some s) (sym schema);
+        keeps = subst (λ kept. StoresTuples kept all) (sym tuples) stores.holds.keeps;
+        stands = subst (λ s. StandByPrimary s all) (sym schema) (stand_without id before.schema all apart stores.holds.stands);
+      };
+      indexes = subst (λ (s : Schema). AllZip (StoresIndex all) s.indexes after.indexes.items) (sym schema)
+          (subst (AllZip (StoresIndex all) (indexes_without id before.schema.indexes)) (sym items)
+          (zip_without (StoresIndex all) id before.schema.indexes before.indexes.items stores.indexes));
+    }
 
-  pub without_its_index : (id : ℕ) → id ≢ 0 → after.schema.indexes ≡ without_first_index id before.schema.indexes
-      → (place : ℕ) → place ≡ index_at id before.schema.indexes → after.indexes.items ≡ list.remove before.indexes.items place
-      → StoresIndexed (Some after.schema) after all
-  without_its_index id apart defs place at items =
-      described_by (ap (index_with 0) defs ∙ other_without 0 id (λ same. apart (sym same)) before.schema.indexes)
-      (subst (λ l. AllZip (StoresIndex all) l after.indexes.items) (sym defs)
-      (subst (AllZip (StoresIndex all) (without_first_index id before.schema.indexes)) (sym (items ∙ ap (list.remove before.indexes.items) at))
-      (zip_remove (StoresIndex all) id before.schema.indexes before.indexes.items stores.indexes)))
-
--- the primary keys have as many parts as the index of the number 0
-pub space_long : (was : Option Schema) (space : Space) (all : Tuples) (primary : IndexDef) → StoresIndexed was space all → index_with 0 space.schema.indexes ≡ Some primary
-    → AreLong (length primary.key) all
-space_long was space all primary stores there =
-    keys_long primary.key (entries all) (subst (λ (o : Option IndexDef). IfSome o (λ def. StandByKey def.key all)) there stores.holds.stands)
+    -- a space without its primary index, which has no tuples
+    pub space_without_primary : after.tuples.entries ≡ [] → after.indexes.items ≡ map (λ _. []) (kept_without id before.schema.indexes before.indexes.items)
+        → StoresIndexed (Some (schema_without_index id before.schema)) after empty
+    space_without_primary none items =
+        new_space after (schema_without_index id before.schema) schema none
+        (subst (AllZip (StoresIndex empty) (indexes_without id before.schema.indexes)) (sym items)
+        (zip_cleared (StoresIndex all) (indexes_without id before.schema.indexes) (kept_without id before.schema.indexes before.indexes.items)
+        (zip_without (StoresIndex all) id before.schema.indexes before.indexes.items stores.indexes)))

@@ -1,5 +1,5 @@
 -- An index that is made tuple by tuple.
-use Rattle.std.proofs.Common.{◌≡◌, ℕ, Bool, true, false, cond, ◌&&◌, T, List, [], ◌∷◌, map, length, Option, Some, None, Result, Ok, inl, inr, refl, sym, ap, ◌∙◌, subst, true≢false}
+use Rattle.std.proofs.Common.{◌≡◌, ℕ, Bool, true, false, cond, ◌&&◌, T, List, [], ◌∷◌, map, length, Option, Some, None, Result, Ok, Err, inl, inr, refl, sym, ap, ◌∙◌, subst, true≢false}
 use Rattle.std.specs.Prelude.{◌⊎◌, ◌==◌, is_some, if◌then◌else◌}
 use Rattle.std.specs.BTreeMap.{insert_entry}
 use Rattle.std.specs.Cmp.{tied_itself}
@@ -18,16 +18,17 @@ use Rattle.mx_key.specs.Comparable.{comparable_of}
 use Rattle.mx_key.proofs.KeyLaws.{key_cmp-IsAntisymmetric, key_cmp_total}
 use Rattle.mx_schema.specs.declared.index_def.IndexDef.{IndexDef}
 use Rattle.mx_schema.specs.Picks.{Indexed, indexed_with, tuples_by_index}
+use Rattle.mx_schema.specs.Sound.{AreUnique, HaveKeys}
 use Rattle.mx_schema.specs.State.{Tuples, key_in, key_or_none}
 use Rattle.mx_schema.specs.Stored.{StoredTuple, StoresTuples, stored_tuple}
 use Rattle.mx_schema.proofs.StoredLaws.{each_none, each_put}
-use Rattle.mx_schema.proofs.WholeKeyLaws.{both, lt_is}
+use Rattle.mx_schema.proofs.OrderLaws.{both, lt_is}
 use Rattle.mx_space.specs.declared.build.BuildFault.{BuildFault}
 use Rattle.mx_space.specs.declared.build.BuildFault.TheVariants as fault
 use Rattle.mx_space.specs.Builds.{build_fault, build_fault_from, build_fault_of, row_fault}
 use Rattle.mx_space.specs.Built.{AreLong, IsBuilt}
 use Rattle.mx_space.specs.Entries.{IndexEntry}
-use Rattle.mx_space.specs.Kept.{AreUnique, HaveKeys, StoresEntries, kept_entries}
+use Rattle.mx_space.specs.Kept.{StoresEntries, kept_entries}
 use Rattle.mx_space.specs.KeptKeys.{kept_key}
 use Rattle.mx_space.proofs.BytesLaws.{stores_more, stores_none}
 use Rattle.mx_space.proofs.EntriesLaws.{entries_with, none_tied, tied_is, without_entry}
@@ -263,3 +264,42 @@ all_built def long all kept left over part = by_others part.others refl (part.to
         let same : part.so_far ≡ all = ap (with_all part.so_far) (sym is) ∙ part.together in
         (part.fault_is ∙ ap (build_fault_from def part.so_far) is, subst (λ t. StoresEntries kept (kept_entries def t)) same part.built.keeps)
     by_others (entry ∷ others) is none = absurd cc
+
+-- ---- what an index that can be made has
+
+-- each tuple has a key, and in a unique index it has it alone
+abbrev AreInIndex : IndexDef → Tuples → Type 0
+AreInIndex def tuples = HaveKeys def tuples × (def.unique ≡ true → AreUnique def tuples)
+
+module _ (def : IndexDef) (other : (def.id.0 == 0) ≡ false) where
+  both_none : {X : Type 0} (one rest : Option X) → option_or one rest ≡ None → (one ≡ None) × (rest ≡ None)
+  both_none None rest e = (refl, e)
+  both_none (Some x) rest e = absurd cc
+
+  none_held : (b : Bool) (held : Option (List ℕ)) → b ≡ true → (if b && is_some held then Some fault.Duplicate else None) ≡ None → held ≡ None
+  none_held true None u e = refl
+  none_held true (Some x) u e = absurd cc
+  none_held false held u e = absurd cc
+
+  one_more_in : (before : Tuples) (entry : Indexed) (read : Result Key NoKey) → key_in def.key entry.1 ≡ read → AreInIndex def before → row_fault def before read ≡ None
+      → AreInIndex def (insert before entry.0 entry.1)
+  one_more_in before entry (Err why) is are e = absurd cc
+  one_more_in before entry (Ok key) is (have, alone) e = (
+    each_put (λ row. (k : Key) × (key_in def.key row.1 ≡ Ok k)) before entry.0 entry.1 (key, is) have,
+    λ u. put_unique def u before (alone u) have entry.0 entry.1 key is
+        (ap (λ (t : Tuples). get t key) (sym (ap (λ b. if b then before else indexed_with def empty (entries before)) other))
+        ∙ none_held def.unique (get (tuples_by_index def before) key) u e),
+  )
+
+  all_in : (before : Tuples) (others : List Indexed) → AreInIndex def before → build_fault_from def before others ≡ None → AreInIndex def (with_all before others)
+  all_in before [] are e = are
+  all_in before (entry ∷ others) are e =
+      let (first, later) = both_none (row_fault def before (key_in def.key entry.1)) (build_fault_from def (insert before entry.0 entry.1) others) e in
+      all_in (insert before entry.0 entry.1) others (one_more_in before entry (key_in def.key entry.1) refl are first) later
+
+  pub built_has : (tuples : Tuples) → build_fault def tuples ≡ None → AreInIndex def tuples
+  built_has tuples e =
+      subst (AreInIndex def) (all_together tuples) (all_in empty (entries tuples) (
+        each_none (λ row. (k : Key) × (key_in def.key row.1 ≡ Ok k)),
+        λ u one other first second key here there has had. absurd (not_none first (sym here ∙ get-empty key_cmp one)),
+      ) e)

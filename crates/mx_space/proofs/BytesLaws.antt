@@ -17,7 +17,7 @@ use Rattle.mx_key.specs.Keys.{Key, AreFit, key_cmp}
 use Rattle.mx_key.specs.Comparable.{comparable_of}
 use Rattle.mx_key.proofs.EncodingLaws.{bytes_order}
 use Rattle.mx_key.proofs.KeyLaws.{key_cmp-IsAntisymmetric, key_cmp_total}
-use Rattle.mx_schema.proofs.WholeKeyLaws.{both, lt_is}
+use Rattle.mx_schema.proofs.OrderLaws.{both, lt_is}
 use Rattle.mx_space.specs.Entries.{IndexEntry}
 use Rattle.mx_space.specs.Kept.{StoresEntries, entry_bytes}
 use Rattle.mx_space.proofs.EntriesLaws.{tied_is}

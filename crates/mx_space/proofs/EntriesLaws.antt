@@ -16,7 +16,7 @@ use Rattle.mx_schema.specs.Picks.{Indexed}
 use Rattle.mx_schema.specs.State.{Tuples, key_in, key_or_none}
 use Rattle.mx_schema.proofs.StoredLaws.{each_put}
 use Rattle.mx_schema.proofs.TakenLaws.{each_left}
-use Rattle.mx_schema.proofs.WholeKeyLaws.{both, lt_is}
+use Rattle.mx_schema.proofs.OrderLaws.{both, lt_is}
 use Rattle.mx_space.specs.Built.{AreLong}
 use Rattle.mx_space.specs.Kept.{kept_entries, kept_entry}
 use Rattle.mx_space.specs.KeptKeys.{kept_key}

@@ -8,7 +8,7 @@ use Rattle.std.specs.BTreeMap.Range.{entries_between}
 use Rattle.mx_key.specs.declared.edge.Edge.TheVariants as edge
 use Rattle.mx_key.specs.declared.edge.KeyRange.{KeyRange}
 use Rattle.mx_key.specs.Comparable.{bound_of, holds}
-use Rattle.mx_schema.proofs.PickLaws.{entries_held}
+use Rattle.mx_space.proofs.PickLaws.{entries_held}
 use Rattle.mx_space.specs.Entries.{IndexEntry, first_from}
 
 abbrev head_of : List IndexEntry → Option IndexEntry

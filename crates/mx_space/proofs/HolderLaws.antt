@@ -1,6 +1,6 @@
 -- The tuple that has a key in a unique index is that of the first entry from the key, where it begins with it.
 use Rattle.std.proofs.Common.{◌≡◌, ◌≢◌, ℕ, Bool, true, false, cond, not, List, [], ◌∷◌, ◌++◌, map, length, take, Option, Some, None, Ok, inl, inr, refl, sym, ap, ◌∙◌, subst, append-nil, true≢false}
-use Rattle.std.specs.Prelude.{IfSome, IsTrue, is_some, ◌==◌, if◌then◌else◌}
+use Rattle.std.specs.Prelude.{IsTrue, is_some, ◌==◌, if◌then◌else◌}
 use Rattle.std.specs.FinMap.{empty, entries, entries_sorted, get, get-entries}
 use Rattle.std.specs.FinMap.Entries as pairs
 use Rattle.std.specs.List as list
@@ -16,25 +16,26 @@ use Rattle.mx_key.specs.Comparable.{comparable_of}
 use Rattle.mx_key.proofs.EncodingLaws.{bytes_order}
 use Rattle.mx_schema.specs.declared.index_def.IndexDef.{IndexDef}
 use Rattle.mx_schema.specs.declared.schema.Schema.{Schema}
-use Rattle.mx_schema.specs.Catalogues.{StandByKey, index_with}
+use Rattle.mx_schema.specs.Catalogues.{index_with}
 use Rattle.mx_schema.specs.Picks.{Indexed, entry_key, indexed_with, tuples_by_index}
+use Rattle.mx_schema.specs.Sound.{AreUnique, HaveKeys}
 use Rattle.mx_schema.specs.State.{Tuples, key_in, key_or_none}
 use Rattle.mx_schema.proofs.StoredLaws.{fit_joined, keys_joined}
 use Rattle.mx_schema.proofs.TakenLaws.{each_found}
-use Rattle.mx_schema.proofs.WholeKeyLaws.{key_length}
+use Rattle.mx_schema.proofs.PartLaws.{key_length}
 use Rattle.mx_space.specs.declared.space.Space.{Space}
 use Rattle.mx_space.specs.Changes.{index_kept}
 use Rattle.mx_space.specs.Entries.{IndexEntry, first_from}
 use Rattle.mx_space.specs.Built.{AreLong}
-use Rattle.mx_space.specs.Kept.{AreUnique, HaveKeys, HoldsOneEach, StoresByNumber, StoresEntries, StoresIndexed, entry_bytes, kept_entries}
+use Rattle.mx_space.specs.Kept.{HoldsOneEach, StoresByNumber, StoresEntries, StoresIndexed, entry_bytes, kept_entries}
 use Rattle.mx_space.specs.KeptKeys.{kept_key}
 use Rattle.mx_space.proofs.BytesLaws.{one_by_bytes}
 use Rattle.mx_space.proofs.EntriesLaws.{entry_is_of, entry_there}
 use Rattle.mx_space.proofs.IndexedLaws.{AreApart, Held, held_is, held_there, not_none}
 use Rattle.mx_space.proofs.MemberLaws.{begins, each_is_found, first_passing, not_below, passing_has}
-use Rattle.mx_space.proofs.SpaceLaws.{index_there, keys_long}
+use Rattle.mx_space.proofs.SpaceLaws.{index_there, space_long}
 
-fit_behind : (one other : Key) → AreFit (one ++ other) → AreFit other
+pub fit_behind : (one other : Key) → AreFit (one ++ other) → AreFit other
 fit_behind [] other fit = fit
 fit_behind (part ∷ one) other fit = fit_behind one other fit.1
 
@@ -214,7 +215,7 @@ module _ (schema : Option Schema) (space : Space) (all : Tuples) (primary def : 
     (first : index_with 0 space.schema.indexes ≡ Some primary) (there : index_with def.id.0 space.schema.indexes ≡ Some def)
     (one_each : HoldsOneEach def all) (fit : AreFit wanted) (apart : def.id.0 ≢ 0) where
   long : AreLong (length primary.key) all
-  long = keys_long primary.key (entries all) (subst (λ (o : Option IndexDef). IfSome o (λ def. StandByKey def.key all)) first stores.holds.stands)
+  long = space_long schema space all primary stores first
 
   other : (def.id.0 == 0) ≡ false
   other = ne_eqb def.id.0 0 apart

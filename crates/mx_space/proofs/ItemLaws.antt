@@ -1,8 +1,8 @@
 -- The entries of each index after they were changed in place.
-use Rattle.std.proofs.Common.{◌≡◌, ℕ, suc, List, [], ◌∷◌, length, drop, Option, refl, ap, ◌∙◌, arith}
+use Rattle.std.proofs.Common.{◌≡◌, ℕ, suc, List, [], ◌∷◌, length, drop, map, Option, refl, ap, ◌∙◌, arith}
 use Rattle.std.specs.Prelude.{Vec}
 use Rattle.std.specs.Vec.{with_items}
-use Rattle.std.proofs.lemmas.List.{take_at}
+use Rattle.std.proofs.lemmas.List.{length-map, take_at}
 use Rattle.mx_space.specs.declared.change.Change.{Change}
 use Rattle.mx_space.specs.Changes.{all_changed, all_without}
 use Rattle.mx_space.specs.Entries.{IndexEntry}
@@ -31,3 +31,6 @@ module _ {Z : Type 0} (v : Vec (List IndexEntry) Z) where
 
   pub items_without : (now : List (List IndexEntry)) (keys : List (Option (List ℕ))) → now ≡ all_without keys v.items → (with_items v now).items ≡ all_without keys v.items
   items_without now keys is = items_now v now (all_without keys v.items) is (without_long keys v.items)
+
+  pub items_cleared : (now : List (List IndexEntry)) → now ≡ map (λ _. []) v.items → (with_items v now).items ≡ map (λ _. []) v.items
+  items_cleared now is = items_now v now (map (λ _. []) v.items) is (length-map v.items (λ _. []))

@@ -10,7 +10,7 @@ use Rattle.std.specs.List.{AllByRecursion}
 use Rattle.std.specs.Ordering.{eq_by_cmp, is_eq, is_gt, is_lt, ordering_reverse, ordering_then}
 use Rattle.mx_key.specs.Keys.{Key, key_cmp, part_cmp}
 use Rattle.mx_key.proofs.KeyLaws.{key_cmp_total, part_cmp-IsAntisymmetric, part_cmp_total}
-use Rattle.mx_schema.proofs.WholeKeyLaws.{both, lt_is}
+use Rattle.mx_schema.proofs.OrderLaws.{both, lt_is}
 use Rattle.mx_space.proofs.EntriesLaws.{tied_is, ties_itself}
 
 module _ {X : Type 0} where

@@ -14,11 +14,12 @@ use Rattle.mx_key.specs.Ranges.{End, Inclusive, Exclusive, Open, Range, is_from,
 use Rattle.mx_key.proofs.KeyLaws.{key_cmp-IsAntisymmetric, key_cmp_total, part_cmp_total}
 use Rattle.mx_schema.specs.declared.index_def.IndexDef.{IndexDef}
 use Rattle.mx_schema.specs.Picks.{Indexed, entry_key, indexed_with, tuples_by_index}
+use Rattle.mx_schema.specs.Sound.{AreUnique, HaveKeys}
 use Rattle.mx_schema.specs.State.{Tuples, key_in, key_or_none}
 use Rattle.mx_schema.proofs.TakenLaws.{each_found}
-use Rattle.mx_schema.proofs.WholeKeyLaws.{both, lt_is}
+use Rattle.mx_schema.proofs.OrderLaws.{both, lt_is}
 use Rattle.mx_space.specs.Built.{AreLong}
-use Rattle.mx_space.specs.Kept.{AreUnique, HaveKeys, kept_entries}
+use Rattle.mx_space.specs.Kept.{kept_entries}
 use Rattle.mx_space.specs.KeptKeys.{kept_key}
 use Rattle.mx_space.proofs.EntriesLaws.{entry_is_of, entry_there, primary_behind, primary_in, tied_is, ties_itself}
 use Rattle.mx_space.proofs.HolderLaws.{entry_key_is, key_long, one_holder, unique_apart}

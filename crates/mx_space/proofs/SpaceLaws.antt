@@ -1,14 +1,13 @@
 -- A space with a tuple more, with one less, and as it was.
-use Rattle.std.proofs.Common.{◌≡◌, ℕ, Bool, true, false, cond, List, [], ◌∷◌, map, length, Option, Some, None, Ok, refl, sym, ap, ◌∙◌, subst}
+use Rattle.std.proofs.Common.{◌≡◌, ◌≢◌, ℕ, Bool, true, false, cond, List, [], ◌∷◌, map, length, Option, Some, None, Ok, refl, sym, ap, ◌∙◌, subst}
 use Rattle.std.specs.Prelude.{IfSome, ◌==◌, if◌then◌else◌}
 use Rattle.std.specs.BTreeMap.{insert_entry, is_at}
 use Rattle.std.specs.Cmp.Lexicographic.{slice_cmp}
 use Rattle.std.specs.FinMap.{empty, entries, from_entries, get, get-remove, insert, remove, same_map}
-use Rattle.std.specs.List.{AllByRecursion, AllZip}
+use Rattle.std.specs.List.{AllZip}
 use Rattle.std.specs.Map.{remove_entry}
 use Rattle.std.specs.Ordering.{eq_by_cmp, nat_cmp}
 use Rattle.mx_tuple.specs.Fields.{tuple_of}
-use Rattle.mx_key.specs.declared.part.Part.{Part}
 use Rattle.mx_key.specs.Keys.{Key, AreFit, key_cmp}
 use Rattle.mx_key.specs.Comparable.{comparable_of}
 use Rattle.mx_key.proofs.KeyLaws.{key_cmp-IsAntisymmetric, key_cmp_total}
@@ -18,11 +17,11 @@ use Rattle.mx_schema.specs.Catalogues.{StandByKey, index_with}
 use Rattle.mx_schema.specs.Picks.{Indexed}
 use Rattle.mx_schema.specs.State.{Tuples, key_in}
 use Rattle.mx_schema.specs.Stored.{StandByPrimary, StoresSpace}
-use Rattle.mx_schema.proofs.StateLaws.{stands_after}
-use Rattle.mx_schema.proofs.StoredLaws.{each_none, no_entries, stores_put}
+use Rattle.mx_schema.proofs.StateLaws.{none_stand, stands_after}
+use Rattle.mx_schema.proofs.StoredLaws.{no_entries, stores_put}
 use Rattle.mx_schema.proofs.StoredLaws as stored
 use Rattle.mx_schema.proofs.TakenLaws.{each_found, each_left, stores_left}
-use Rattle.mx_schema.proofs.WholeKeyLaws.{key_length}
+use Rattle.mx_schema.proofs.PartLaws.{key_length, stand_whole}
 use Rattle.mx_space.specs.declared.change.Change.{Change}
 use Rattle.mx_space.specs.declared.space.Space.{Space}
 use Rattle.mx_space.specs.Changes.{CanUndo, Puts, Removes, all_changed, all_without, index_kept}
@@ -46,30 +45,33 @@ nothing_kept def kept none = by_number (def.id.0 == 0)
     by_number true = none
     by_number false = subst (StoresEntries kept) (sym (no_kept def)) (stores_none kept none)
 
-stands_none : (schema : Schema) → StandByPrimary schema empty
-stands_none schema = by_index (index_with 0 schema.indexes)
-  where
-    by_index : (def : Option IndexDef) → IfSome def (λ def. StandByKey def.key empty)
-    by_index None = tt
-    by_index (Some def) = each_none (λ entry. key_in def.key entry.1 ≡ Ok entry.0)
-
+-- a new space
 pub new_space : (space : Space) (schema : Schema) → space.schema ≡ schema → space.tuples.entries ≡ [] → AllZip (StoresIndex empty) schema.indexes space.indexes.items
     → StoresIndexed (Some schema) space empty
 new_space space schema same none each = record {
   holds = record {
     is = ap (λ s. Some s) (sym same);
     keeps = stored.stores_none space.tuples.entries none;
-    stands = stands_none space.schema;
+    stands = none_stand space.schema;
   };
   indexes = subst (λ (s : Schema). AllZip (StoresIndex empty) s.indexes space.indexes.items) (sym same) each;
 }
 
--- ---- how long keys are
+-- ---- a write
 
-pub keys_long : (parts : List Part) (all : List Indexed) → AllByRecursion (λ entry. key_in parts entry.1 ≡ Ok entry.0) all
-    → AllByRecursion (λ (entry : Indexed). length entry.0 ≡ length parts) all
-keys_long parts [] stand = tt
-keys_long parts (entry ∷ all) stand = (key_length parts (tuple_of entry.1).fields entry.0 stand.0, keys_long parts all stand.1)
+-- the primary keys have as many parts as the index of the number 0
+pub space_long : (was : Option Schema) (space : Space) (all : Tuples) (primary : IndexDef) → StoresIndexed was space all → index_with 0 space.schema.indexes ≡ Some primary
+    → AreLong (length primary.key) all
+space_long was space all primary stores there =
+    stand_whole primary.key (entries all) (subst (λ (o : Option IndexDef). IfSome o (λ def. StandByKey def.key all)) there stores.holds.stands)
+
+-- so they have some number of parts, where there is one
+pub primary_long : (was : Option Schema) (space : Space) (all : Tuples) → StoresIndexed was space all → (long : ℕ) × (index_with 0 space.schema.indexes ≢ None → AreLong long all)
+primary_long was space all stores = by_index (index_with 0 space.schema.indexes) refl
+  where
+    by_index : (o : Option IndexDef) → index_with 0 space.schema.indexes ≡ o → (long : ℕ) × (index_with 0 space.schema.indexes ≢ None → AreLong long all)
+    by_index None is = (0, λ there. absurd (there is))
+    by_index (Some primary) is = (length primary.key, λ there. space_long was space all primary stores is)
 
 module _ (schema : Option Schema) (before after : Space) (all : Tuples) (stores : StoresIndexed schema before all) (same : after.schema ≡ before.schema) where
   -- a space as it was
@@ -82,7 +84,7 @@ module _ (schema : Option Schema) (before after : Space) (all : Tuples) (stores 
 
   module _ (primary : IndexDef) (there : index_with 0 before.schema.indexes ≡ Some primary) where
     long : AreLong (length primary.key) all
-    long = keys_long primary.key (entries all) (subst (λ (o : Option IndexDef). IfSome o (λ def. StandByKey def.key all)) there stores.holds.stands)
+    long = space_long schema before all primary stores there
 
     module _ (key : Key) (tuple : List ℕ) (keyed : key_in primary.key tuple ≡ Ok key) (changes : List Change) (puts : AllZip (Puts key tuple (get all key)) before.schema.indexes changes) where
       put_all_in : AllZip (StoresIndex (insert all key tuple)) before.schema.indexes (all_changed changes before.indexes.items) × AllZip CanUndo changes before.indexes.items

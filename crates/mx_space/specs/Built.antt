@@ -4,9 +4,10 @@ use Rattle.std.specs.FinMap.{entries}
 use Rattle.std.specs.List.{AllByRecursion}
 use Rattle.mx_schema.specs.declared.index_def.IndexDef.{IndexDef}
 use Rattle.mx_schema.specs.Picks.{Indexed}
+use Rattle.mx_schema.specs.Sound.{AreUnique, HaveKeys}
 use Rattle.mx_schema.specs.State.{Tuples}
 use Rattle.mx_space.specs.Entries.{IndexEntry}
-use Rattle.mx_space.specs.Kept.{AreUnique, HaveKeys, StoresEntries, kept_entries}
+use Rattle.mx_space.specs.Kept.{StoresEntries, kept_entries}
 
 -- the tuples' primary keys have so many parts
 abbrev pub AreLong : ℕ → Tuples → Type 0

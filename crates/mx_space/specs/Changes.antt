@@ -1,5 +1,5 @@
 -- Only private functions and proofs need these: what a write changes in the entries of each index.
-use Rattle.std.specs.Prelude.{◌≡◌, ◌≢◌, ◌⊎◌, ℕ, suc, Bool, true, false, List, [], ◌∷◌, Option, Some, None, ◌==◌, if◌then◌else◌}
+use Rattle.std.specs.Prelude.{◌≡◌, ◌≢◌, ◌⊎◌, ℕ, Bool, true, false, List, [], ◌∷◌, Option, Some, None, ◌==◌, if◌then◌else◌}
 use Rattle.std.specs.BTreeMap.{insert_entry, is_at}
 use Rattle.std.specs.Cmp.Lexicographic.{slice_cmp}
 use Rattle.std.specs.Map.{remove_entry}
@@ -42,10 +42,11 @@ index_kept id [] kept = None
 index_kept id (def ∷ defs) [] = None
 index_kept id (def ∷ defs) (one ∷ others) = if def.id.0 == id then Some one else index_kept id defs others
 
--- the place of the index of a number
-abbrev pub index_at : (id : ℕ) → List IndexDef → ℕ
-index_at id [] = 0
-index_at id (def ∷ defs) = if def.id.0 == id then 0 else suc (index_at id defs)
+-- the entries of each index without those of the indexes of a number
+abbrev pub kept_without : (id : ℕ) → List IndexDef → List (List IndexEntry) → List (List IndexEntry)
+kept_without id [] kept = kept
+kept_without id (def ∷ defs) [] = []
+kept_without id (def ∷ defs) (one ∷ others) = if def.id.0 == id then kept_without id defs others else one ∷ kept_without id defs others
 
 -- what was added can be taken back
 abbrev pub CanUndo : Change → List IndexEntry → Type 0

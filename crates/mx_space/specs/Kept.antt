@@ -1,13 +1,14 @@
 -- The entries of a space's indexes, and what memory keeps of them.
-use Rattle.std.specs.Prelude.{◌≡◌, ◌⊎◌, ℕ, Bool, true, false, List, [], ◌∷◌, map, Option, Some, Ok, ◌==◌, if◌then◌else◌}
-use Rattle.std.specs.FinMap.{FinMap, entries, from_entries, get}
+use Rattle.std.specs.Prelude.{◌≡◌, ◌⊎◌, Bool, true, false, List, [], map, Option, ◌==◌}
+use Rattle.std.specs.FinMap.{FinMap, entries, from_entries}
 use Rattle.std.specs.List.{AllByRecursion, AllZip}
 use Rattle.mx_key.specs.Keys.{Key, AreFit, key_cmp}
 use Rattle.mx_key.specs.Comparable.{comparable_of}
 use Rattle.mx_schema.specs.declared.index_def.IndexDef.{IndexDef}
 use Rattle.mx_schema.specs.declared.schema.Schema.{Schema}
 use Rattle.mx_schema.specs.Picks.{Indexed}
-use Rattle.mx_schema.specs.State.{Tuples, key_in}
+use Rattle.mx_schema.specs.Sound.{AreUnique, HaveKeys}
+use Rattle.mx_schema.specs.State.{Tuples}
 use Rattle.mx_schema.specs.Stored.{StoresSpace}
 use Rattle.mx_space.specs.declared.space.Space.{Space}
 use Rattle.mx_space.specs.Entries.{IndexEntry}
@@ -20,15 +21,6 @@ kept_entry def entry = (kept_key def entry.0 entry.1, entry.0)
 -- the entries of an index of another number than 0: the primary key of each tuple
 abbrev pub kept_entries : IndexDef → Tuples → FinMap key_cmp Key
 kept_entries def tuples = from_entries (map (kept_entry def) (entries tuples))
-
--- no two tuples have one key in the index
-abbrev pub AreUnique : IndexDef → Tuples → Type 0
-AreUnique def tuples = (one other : Key) (first second : List ℕ) (key : Key) → get tuples one ≡ Some first → get tuples other ≡ Some second
-    → key_in def.key first ≡ Ok key → key_in def.key second ≡ Ok key → one ≡ other
-
--- each tuple has a key in the index
-abbrev pub HaveKeys : IndexDef → Tuples → Type 0
-HaveKeys def tuples = AllByRecursion (λ (entry : Indexed). (key : Key) × (key_in def.key entry.1 ≡ Ok key)) (entries tuples)
 
 -- A key has at most one tuple in the index, and each tuple has a key. So it is in the index of the number 0, whose keys are the tuples' own.
 abbrev pub HoldsOneEach : IndexDef → Tuples → Type 0
@@ -58,8 +50,3 @@ StoresIndex tuples def kept = StoresByNumber (def.id.0 == 0) def tuples kept
 pub record StoresIndexed (schema : Option Schema) (space : Space) (tuples : Tuples) : Type 0 where
   pub holds : StoresSpace schema space.schema space.tuples.entries tuples
   pub indexes : AllZip (StoresIndex tuples) space.schema.indexes space.indexes.items
-
--- the indexes without that of a number
-abbrev pub without_first_index : (id : ℕ) → List IndexDef → List IndexDef
-without_first_index id [] = []
-without_first_index id (def ∷ defs) = if def.id.0 == id then defs else def ∷ without_first_index id defs

@@ -4,3 +4,7 @@ pub mod Changes
 pub mod Entries
 pub mod Kept
 pub mod KeptKeys
+pub mod Scans
+pub mod Selecting
+pub mod Spaces
+pub mod Stored

@@ -1,6 +1,6 @@
 //! The entries of an index that is made of tuples which are there.
 
-ghost use Rattle.std.specs.Prelude.{◌≡◌, ◌⊎◌, ◌==◌, ℕ, Some, None, Ok, Err, true, false, length, is_some, MatchResult};
+ghost use Rattle.std.specs.Prelude.{◌≡◌, ◌≢◌, ◌⊎◌, ◌==◌, ℕ, Some, None, Ok, Err, true, false, length, is_some, MatchResult};
 ghost use Rattle.std.specs.FinMap as finite;
 ghost use Rattle.mx_key.specs.declared.fault.NoKey.{NoKey};
 ghost use Rattle.mx_key.specs.Comparable.{comparable_of};
@@ -13,7 +13,7 @@ ghost use Rattle.mx_schema.specs.Stored.{StoresTuples};
 ghost use Rattle.mx_space.specs.declared.build.BuildFault.TheVariants as fault;
 ghost use Rattle.mx_space.specs.Builds.{build_fault, build_fault_of, row_fault};
 ghost use Rattle.mx_space.specs.Built.{AreLong, IsBuilt};
-ghost use Rattle.mx_space.specs.Kept.{StoresEntries, kept_entries};
+ghost use Rattle.mx_space.specs.Kept.{StoresEntries, StoresIndex, kept_entries};
 
 use crate::entries::is_joined;
 use crate::index::Index;
@@ -43,11 +43,30 @@ impl From<AllocError> for BuildFault {
     }
 }
 
+/// The entries of an index, where that of the number 0 has none and there are no tuples.
+///
+/// # Errors
+/// The fault of the first tuple that has one.
+pub(crate) fn new_entries(
+    alloc: Global,
+    def: &IndexDef,
+    tuples: &BTreeMap<Bytes, Bytes>,
+) -> Result<TreeIndex, BuildFault>
+    ensures { (all : plain.Tuples) (long : ℕ) → StoresTuples tuples.now.entries all → (def.now.id.0 ≡ 0 → all ≡ finite.empty) → (def.now.id.0 ≢ 0 → AreLong long all) → MatchResult result
+        (λ index. (build_fault def.now all ≡ None) × StoresIndex all def.now index)
+        (λ why. (build_fault def.now all ≡ Some why) ⊎ (why ≡ fault.NoMemory)) }
+{
+    if def.id.0 == 0 {
+        return Ok(TreeIndex::new(alloc));
+    }
+    build(alloc, def, tuples)
+}
+
 /// The entries of an index of another number than 0.
 ///
 /// # Errors
 /// The fault of the first tuple that has one.
-pub(crate) fn build(
+fn build(
     alloc: Global,
     def: &IndexDef,
     tuples: &BTreeMap<Bytes, Bytes>,

@@ -1,4 +1,4 @@
-//! One space in memory with all its indexes kept.
+//! A database's state in memory: its spaces, each with all its indexes kept.
 #![tactic(auto)]
 
 mod build;
@@ -6,11 +6,18 @@ mod change;
 mod changes;
 mod entries;
 mod index;
+mod pick;
 mod places;
+mod selection;
 mod space;
+mod spaces;
+mod state;
 mod tree_index;
 
 pub use build::BuildFault;
 pub use index::Index;
+pub use pick::{MAX_RESULT_SIZE, Pick, SelectFault, SelectStop};
 pub use space::Space;
+pub use spaces::SpaceEntry;
+pub use state::State;
 pub use tree_index::TreeIndex;

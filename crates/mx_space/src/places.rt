@@ -1,11 +1,12 @@
 //! Where the entries of an index stand among those of the others.
 
-ghost use Rattle.std.specs.Prelude.{◌≡◌, ◌≤◌, length, OnOk, OnErr};
+ghost use Rattle.std.specs.Prelude.{◌≡◌, ◌≤◌, ◌++◌, [], drop, length, map, take, OnOk, OnErr};
 ghost use Rattle.std.specs.List.{insert, remove};
 ghost use Rattle.std.specs.Option.{option_copied};
 ghost use Rattle.mx_schema.specs.RowParts.{index_place};
-ghost use Rattle.mx_space.specs.Changes.{index_at, index_kept};
+ghost use Rattle.mx_space.specs.Changes.{index_kept, kept_without};
 
+use crate::index::Index;
 use crate::tree_index::TreeIndex;
 use mx_base::IndexId;
 use mx_schema::IndexDef;
@@ -41,20 +42,6 @@ pub(crate) fn place_behind(defs: &[IndexDef], id: IndexId) -> usize
     place_behind(others, id) + 1
 }
 
-/// The place of the index of this number.
-pub(crate) fn place_at(defs: &[IndexDef], id: IndexId) -> usize
-    ensures place { result ≡ index_at id.0 defs.now }
-    ensures bound { result ≤ length defs.now }
-{
-    let Some((def, others)) = defs.split_first() else {
-        return 0;
-    };
-    if def.id.0 == id.0 {
-        return 0;
-    }
-    place_at(others, id) + 1
-}
-
 /// Puts the entries of an index at a place, where there are so many before it.
 ///
 /// # Errors
@@ -65,6 +52,7 @@ pub(crate) fn insert_index(
     index: TreeIndex,
 ) -> Result<(), AllocError>
     ensures ok { OnOk result (indexes.new.items ≡ insert indexes.old.items place index) }
+    ensures within { OnOk result (place ≤ length indexes.old.items) }
     ensures err { OnErr result (indexes.new.items ≡ indexes.old.items) }
 {
     if place > indexes.len() {
@@ -81,4 +69,39 @@ pub(crate) fn remove_index(indexes: &mut Vec<TreeIndex>, place: usize)
     if place < indexes.len() {
         indexes.remove(place);
     }
+}
+
+/// Takes the entries of the indexes of this number out, where those of the first of these indexes stand at
+/// this place.
+pub(crate) fn remove_indexes(
+    defs: &[IndexDef],
+    indexes: &mut Vec<TreeIndex>,
+    place: usize,
+    id: IndexId,
+)
+    ensures { indexes.new.items ≡ take place indexes.old.items ++ kept_without id.0 defs.now (drop place indexes.old.items) }
+{
+    let Some((def, others)) = defs.split_first() else {
+        return;
+    };
+    if place >= indexes.len() {
+        return;
+    }
+    if def.id.0 == id.0 {
+        indexes.remove(place);
+        remove_indexes(others, indexes, place, id);
+    } else {
+        remove_indexes(others, indexes, place + 1, id);
+    }
+}
+
+/// Takes all entries of each index out.
+pub(crate) fn clear_all(indexes: &mut [TreeIndex])
+    ensures { indexes.new ≡ map (λ _. []) indexes.old }
+{
+    let Some((index, others)) = indexes.split_first_mut() else {
+        return;
+    };
+    index.clear();
+    clear_all(others);
 }

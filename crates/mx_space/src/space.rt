@@ -1,33 +1,42 @@
 //! A space with its indexes.
 
-ghost use Rattle.std.specs.Prelude.{◌≡◌, ◌≢◌, ◌⊎◌, ℕ, List, Option, Some, None, Ok, IfOk, MatchOption, MatchResult};
+ghost use Rattle.std.specs.Prelude.{◌≡◌, ◌≢◌, ◌⊎◌, ℕ, List, Option, Some, None, Ok, true, IfOk, MatchOption, MatchResult, ◌==◌, if◌then◌else◌};
 ghost use Rattle.std.specs.FinMap as finite;
 ghost use Rattle.std.specs.List.{AllZip};
 ghost use Rattle.std.specs.Option.{option_copied};
+ghost use Rattle.mx_msgpack.specs.Items.{IsArray};
 ghost use Rattle.mx_key.specs.Comparable.{comparable_of};
 ghost use Rattle.mx_key.specs.Keys.{Key, AreFit};
 ghost use Rattle.mx_schema.specs.declared.index_def.IndexDef as indexed;
 ghost use Rattle.mx_schema.specs.declared.schema.Schema as described;
 ghost use Rattle.mx_schema.specs.Catalogues.{index_with};
 ghost use Rattle.mx_schema.specs.Picks.{tuples_by_index};
+ghost use Rattle.mx_schema.specs.SchemaChanges.{schema_with_index, schema_without_index};
+ghost use Rattle.mx_schema.specs.Sound.{AreUnique, HaveKeys};
 ghost use Rattle.mx_schema.specs.State as plain;
 ghost use Rattle.mx_schema.specs.State.{key_in};
 ghost use Rattle.mx_schema.specs.Stored.{StoresTuples};
-ghost use Rattle.mx_schema.specs.SchemaChecks.{indexes_with};
 ghost use Rattle.mx_space.specs.declared.build.BuildFault.TheVariants.{NoMemory};
 ghost use Rattle.mx_space.specs.Builds.{build_fault};
+ghost use Rattle.mx_space.specs.Built.{AreLong};
 ghost use Rattle.mx_space.specs.Changes.{Puts, Removes, index_kept};
-ghost use Rattle.mx_space.specs.Kept.{HoldsOneEach, StoresIndexed, without_first_index};
+ghost use Rattle.mx_space.specs.Kept.{HoldsOneEach, StoresIndexed};
+ghost use Rattle.mx_space.specs.Scans.{SelectsByKey};
 
-use crate::build::{BuildFault, build};
+use crate::build::{BuildFault, new_entries};
 use crate::change::{Change, put_all, remove_all};
 use crate::changes::{changes_of, removals_of};
 use crate::entries::is_joined;
 use crate::index::Index;
-use crate::places::{find_index, insert_index, place_at, place_behind, remove_index};
+use crate::pick::{Pick, SelectFault};
+use crate::places::{
+    clear_all, find_index, insert_index, place_behind, remove_index, remove_indexes,
+};
+use crate::selection::{as_fault, select_entries};
 use crate::tree_index::TreeIndex;
 use mx_base::IndexId;
-use mx_msgpack::Bytes;
+use mx_key::{KeyRange, range_of_key};
+use mx_msgpack::{Bytes, Tuples};
 use mx_schema::{IndexDef, Keyed, Schema};
 use std::alloc::{AllocError, Global};
 use std::collections::BTreeMap;
@@ -66,6 +75,20 @@ impl Space {
         &self.schema
     }
 
+    /// The tuples by the comparable bytes of their primary keys.
+    pub(crate) fn tuples(&self) -> &BTreeMap<Bytes, Bytes>
+        ensures { result.now ≡ self.now.tuples }
+    {
+        &self.tuples
+    }
+
+    /// What describes the space, and its tuples.
+    pub fn into_parts(self) -> (Schema, BTreeMap<Bytes, Bytes>)
+        ensures { (result.0 ≡ self.schema) × (result.1 ≡ self.tuples) }
+    {
+        (self.schema, self.tuples)
+    }
+
     /// The tuple whose primary key has these comparable bytes.
     pub fn tuple(&self, key: &Bytes) -> Option<&[u8]>
         ensures { (all : plain.Tuples) (wanted : Key) → StoresTuples self.now.tuples.entries all → AreFit wanted → key.now ≡ comparable_of wanted
@@ -92,6 +115,27 @@ impl Space {
             return None;
         }
         self.tuple(primary)
+    }
+
+    /// As `State::select`, by the entries that are kept of an index of another number than 0.
+    pub(crate) fn select(
+        &self,
+        alloc: Global,
+        def: &IndexDef,
+        wanted: &Pick<'_>,
+        found: &mut Tuples,
+    ) -> Result<Option<KeyRange>, SelectFault>
+        requires array { IsArray wanted.now.key.now }
+        ensures { (schema : Option described.Schema) (all : plain.Tuples) (long : ℕ) → StoresIndexed schema self.now all → AreLong long all
+            → index_with def.now.id.0 self.now.schema.indexes ≡ Some def.now → def.now.id.0 ≢ 0
+            → HaveKeys def.now all → (def.now.unique ≡ true → AreUnique def.now all)
+            → SelectsByKey (finite.entries (tuples_by_index def.now all)) def.now wanted.now found.new result }
+    {
+        let range = range_of_key(alloc, &def.key, wanted.iterator, wanted.key)?;
+        let Some(index) = self.index(def.id) else {
+            return Err(SelectFault::NoMemory);
+        };
+        as_fault(select_entries(alloc, index, &self.tuples, def.unique, range, wanted, found))
     }
 
     /// Puts a tuple in the place of the one that has its primary key, in every index. The space has an index
@@ -133,44 +177,55 @@ impl Space {
         Ok(())
     }
 
-    /// Describes the space by a schema that has one more index, which has this number, and makes the entries
-    /// of that index.
+    /// Adds an index and makes its entries. A space that gets a primary index has no tuples, and one that
+    /// gets another index has a primary one.
     ///
     /// # Errors
     /// The fault of the first tuple, in the order of primary keys, that has no key in the index or, in a
     /// unique one, the key of a tuple before it; or out of memory. Nothing changed then.
-    pub fn add_index(
-        &mut self,
-        alloc: Global,
-        schema: Schema,
-        id: IndexId,
-    ) -> Result<(), BuildFault>
-        ensures { (was : Option described.Schema) (all : plain.Tuples) (primary def : indexed.IndexDef) → StoresIndexed was self.old all
-            → index_with 0 self.old.schema.indexes ≡ Some primary → index_with id.0 self.old.schema.indexes ≡ None
-            → schema.indexes ≡ indexes_with def self.old.schema.indexes → def.id.0 ≡ id.0 → id.0 ≢ 0
+    pub fn add_index(&mut self, alloc: Global, def: IndexDef) -> Result<(), BuildFault>
+        ensures { (was : Option described.Schema) (all : plain.Tuples) → StoresIndexed was self.old all
+            → (def.id.0 ≡ 0 → all ≡ finite.empty) → (def.id.0 ≢ 0 → index_with 0 self.old.schema.indexes ≢ None)
             → MatchResult result
-            (λ _. (build_fault def all ≡ None) × StoresIndexed (Some schema) self.new all)
+            (λ _. (build_fault def all ≡ None) × StoresIndexed (Some (schema_with_index def self.old.schema)) self.new all)
             (λ why. ((build_fault def all ≡ Some why) ⊎ (why ≡ NoMemory)) × StoresIndexed was self.new all) }
     {
-        let Some(def) = schema.index(id) else {
-            return Err(BuildFault::NoMemory);
-        };
-        let index = build(alloc, def, &self.tuples)?;
-        let place = place_behind(self.schema.indexes.as_slice(), id);
+        let index = new_entries(alloc, &def, &self.tuples)?;
+        let place = place_behind(self.schema.indexes.as_slice(), def.id);
         insert_index(&mut self.indexes, place, index)?;
-        self.schema = schema;
+        if let Err(fault) = self.schema.indexes.insert(def) {
+            remove_index(&mut self.indexes, place);
+            return Err(BuildFault::from(fault));
+        }
         Ok(())
     }
 
-    /// Describes the space by a schema that hasn't got the index of this number, which isn't 0, and drops its
-    /// entries.
-    pub fn drop_index(&mut self, schema: Schema, id: IndexId)
-        ensures { (was : Option described.Schema) (all : plain.Tuples) → StoresIndexed was self.old all → id.0 ≢ 0
-            → schema.indexes ≡ without_first_index id.0 self.old.schema.indexes → StoresIndexed (Some schema) self.new all }
+    /// Whether an index can be made of the tuples, as `add_index` makes it.
+    ///
+    /// # Errors
+    /// As of `add_index`.
+    pub fn check_index(&self, alloc: Global, def: &IndexDef) -> Result<(), BuildFault>
+        ensures { (was : Option described.Schema) (all : plain.Tuples) → StoresIndexed was self.now all
+            → (def.now.id.0 ≡ 0 → all ≡ finite.empty) → (def.now.id.0 ≢ 0 → index_with 0 self.now.schema.indexes ≢ None)
+            → MatchResult result
+            (λ _. build_fault def.now all ≡ None)
+            (λ why. (build_fault def.now all ≡ Some why) ⊎ (why ≡ NoMemory)) }
     {
-        let place = place_at(self.schema.indexes.as_slice(), id);
-        remove_index(&mut self.indexes, place);
-        self.schema = schema;
+        new_entries(alloc, def, &self.tuples)?;
+        Ok(())
+    }
+
+    /// Drops an index with its entries, and with the primary one all tuples.
+    pub fn drop_index(&mut self, id: IndexId)
+        ensures { (was : Option described.Schema) (all : plain.Tuples) → StoresIndexed was self.old all
+            → StoresIndexed (Some (schema_without_index id.0 self.old.schema)) self.new (if id.0 == 0 then finite.empty else all) }
+    {
+        remove_indexes(self.schema.indexes.as_slice(), &mut self.indexes, 0, id);
+        self.schema.indexes.remove(id);
+        if id.0 == 0 {
+            self.tuples.clear();
+            clear_all(self.indexes.as_mut_slice());
+        }
     }
 
     /// What a tuple changes in each index.

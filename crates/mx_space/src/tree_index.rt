@@ -6,6 +6,7 @@ use crate::index::Index;
 use mx_msgpack::Bytes;
 use std::alloc::{AllocError, Global};
 use std::collections::BTreeMap;
+use std::collections::btree_map::Range;
 use std::marker::Model;
 use std::ops::Bound;
 
@@ -47,9 +48,17 @@ impl Index for TreeIndex {
         self.entries.remove(key);
     }
 
+    fn clear(&mut self) {
+        self.entries.clear();
+    }
+
     fn first_from(&self, key: &Bytes) -> Option<(&Bytes, &Bytes)> {
         self.entries
             .range((Bound::Included(key), Bound::Unbounded))
             .next()
+    }
+
+    fn range<'a>(&'a self, low: Bound<&Bytes>, high: Bound<&Bytes>) -> Range<'a, Bytes, Bytes> {
+        self.entries.range((low, high))
     }
 }

@@ -1,0 +1,191 @@
+-- What an iterator picks of the tuples that are kept under bytes, and how one more is kept.
+use Rattle.std.proofs.Common.{◌≡◌, ◌≢◌, ℕ, zero, suc, ◌<◌, Bool, true, false, cond, not, ◌&&◌, List, [], ◌∷◌, map, take, drop, length, filter, Option, Some, ◌==◌, if◌then◌else◌, refl, sym, ap, ◌∙◌, subst, arith}
+use Rattle.std.specs.declared.cmp.Ordering.{Ordering}
+use Rattle.std.specs.declared.cmp.Ordering.TheVariants.{Less, Equal, Greater}
+use Rattle.std.specs.Ordering.{nat_cmp, is_lt, is_gt, is_le, ordering_reverse}
+use Rattle.std.specs.Cmp.Lexicographic.{slice_cmp}
+use Rattle.std.specs.List.{take-map, drop-map}
+use Rattle.std.specs.BTreeMap.Range.{is_from_start, is_past_end, range_contains, entries_between}
+use Rattle.std.proofs.lemmas.Bool.Decides.{nat_tests}
+use Rattle.std.proofs.lemmas.List.{length-map}
+use Rattle.std.proofs.lemmas.Cmp.{nat_list_cmp_total}
+use Rattle.mx_key.specs.declared.edge.Edge.{Edge}
+use Rattle.mx_key.specs.declared.edge.Edge.TheVariants as edge
+use Rattle.mx_key.specs.declared.edge.KeyRange.{KeyRange}
+use Rattle.mx_key.specs.declared.iterator.IterKind.{IterKind}
+use Rattle.mx_key.specs.declared.iterator.IterKind.TheVariants.{Eq, Req, All, Lt, Le, Ge, Gt}
+use Rattle.mx_key.specs.Keys.{Key, AreFit}
+use Rattle.mx_key.specs.Ranges.{Range, AreFitEnds, lies_in, range_of, descends, range_until}
+use Rattle.mx_key.specs.Comparable.{comparable_of, edges_of, holds, bound_of, is_within_low, is_within_high}
+use Rattle.mx_schema.specs.Stored.{StoredTuple, stored_tuple}
+use Rattle.mx_space.specs.declared.pick.Source.TheVariants as source
+use Rattle.mx_schema.specs.Picks.{Indexed, directed, window, picked, last_key, up_to_last, range_read, pick}
+use Rattle.mx_space.specs.Selecting.{AreFitEntries, last_key_or, last_key_of, found_in, row_of}
+use Rattle.mx_space.proofs.WindowLaws.{map-directed}
+
+-- the bytes of a range hold those of exactly the keys that lie in it
+abbrev pub HoldsItsKeys : Range → Type 0
+HoldsItsKeys range = (sought : Key) → AreFit sought → holds (edges_of range) (comparable_of sought) ≡ lies_in range sought
+
+none_less : ¬ (0 < 0)
+none_less = omega arith
+
+not_zero : (n : ℕ) → ¬ (0 ≡ suc n)
+not_zero n same = omega arith
+
+eqb-same : (a b : ℕ) → a ≡ b → (a == b) ≡ true
+eqb-same a b same = grind (arith, nat_tests)
+
+eqb-apart : (a b : ℕ) → a ≢ b → (a == b) ≡ false
+eqb-apart a b apart = grind (arith, nat_tests)
+
+-- ---- the entries between the bounds of a range
+
+le_turns : (o : Ordering) → is_le o ≡ not (is_lt (ordering_reverse o))
+le_turns Less = refl
+le_turns Equal = refl
+le_turns Greater = refl
+
+lt_turns : (o : Ordering) → is_lt o ≡ is_gt (ordering_reverse o)
+lt_turns Less = refl
+lt_turns Equal = refl
+lt_turns Greater = refl
+
+not_le_turns : (o : Ordering) → not (is_le o) ≡ is_lt (ordering_reverse o)
+not_le_turns Less = refl
+not_le_turns Equal = refl
+not_le_turns Greater = refl
+
+between_from : (edge : Edge) (bytes : List ℕ) → is_from_start (slice_cmp nat_cmp) (bound_of edge) bytes ≡ is_within_low edge bytes
+between_from (edge.Inclusive end) bytes =
+    le_turns (slice_cmp nat_cmp end bytes) ∙ ap (λ o. not (is_lt o)) (sym (nat_list_cmp_total.antisymm bytes end))
+between_from (edge.Exclusive end) bytes =
+    lt_turns (slice_cmp nat_cmp end bytes) ∙ ap is_gt (sym (nat_list_cmp_total.antisymm bytes end))
+between_from edge.Open bytes = refl
+
+between_up_to : (edge : Edge) (bytes : List ℕ) → not (is_past_end (slice_cmp nat_cmp) (bound_of edge) bytes) ≡ is_within_high edge bytes
+between_up_to (edge.Inclusive end) bytes =
+    ap not (lt_turns (slice_cmp nat_cmp end bytes)) ∙ ap (λ o. not (is_gt o)) (sym (nat_list_cmp_total.antisymm bytes end))
+between_up_to (edge.Exclusive end) bytes =
+    not_le_turns (slice_cmp nat_cmp end bytes) ∙ ap is_lt (sym (nat_list_cmp_total.antisymm bytes end))
+between_up_to edge.Open bytes = refl
+
+between_is_held : (range : KeyRange) (bytes : List ℕ)
+    → range_contains (slice_cmp nat_cmp) (bound_of range.low) (bound_of range.high) bytes ≡ holds range bytes
+between_is_held range bytes = λ i. between_from range.low bytes i && between_up_to range.high bytes i
+
+pub entries_held : (range : KeyRange) (entries : List StoredTuple)
+    → entries_between (slice_cmp nat_cmp) (bound_of range.low) (bound_of range.high) entries ≡ filter (λ entry. holds range entry.0) entries
+entries_held range entries = λ i. filter (λ entry. between_is_held range entry.0 i) entries
+
+-- entries that have their tuples stay as they are
+pub entries_stay : (all : List StoredTuple) → map (row_of source.Entries) all ≡ all
+entries_stay [] = refl
+entries_stay (entry ∷ all) = ap (λ l. entry ∷ l) (entries_stay all)
+
+-- ---- what is kept in a range
+
+pub kept_in_range : (range : Range) → HoldsItsKeys range → (all : List Indexed) → AreFitEntries all
+    → filter (λ entry. holds (edges_of range) entry.0) (map stored_tuple all) ≡ map stored_tuple (filter (λ entry. lies_in range entry.0) all)
+kept_in_range range law [] fit = refl
+kept_in_range range law (entry ∷ all) fit =
+    ap (λ b. cond b (stored_tuple entry ∷ filter held (map stored_tuple all)) (filter held (map stored_tuple all))) (law entry.0 fit.0)
+    ∙ by_test (lies_in range entry.0) (kept_in_range range law all fit.1)
+  where
+    held : StoredTuple → Bool
+    held one = holds (edges_of range) one.0
+
+    lying : Indexed → Bool
+    lying one = lies_in range one.0
+
+    by_test : (b : Bool) → filter held (map stored_tuple all) ≡ map stored_tuple (filter lying all)
+        → cond b (stored_tuple entry ∷ filter held (map stored_tuple all)) (filter held (map stored_tuple all)) ≡ map stored_tuple (cond b (entry ∷ filter lying all) (filter lying all))
+    by_test true others = ap (λ l. stored_tuple entry ∷ l) others
+    by_test false others = others
+
+tuples_of_kept : (all : List Indexed) → map (λ (entry : StoredTuple). entry.1) (map stored_tuple all) ≡ map (λ (entry : Indexed). entry.1) all
+tuples_of_kept [] = refl
+tuples_of_kept (entry ∷ all) = ap (λ l. entry.1 ∷ l) (tuples_of_kept all)
+
+last_from_kept : (key : Key) (entries : List Indexed) → last_key_or (comparable_of key) (map stored_tuple entries) ≡ comparable_of (last_key key entries)
+last_from_kept key [] = refl
+last_from_kept key (entry ∷ others) = last_from_kept entry.0 others
+
+last_of_kept : (entry : Indexed) (others : List Indexed) → last_key_of (map stored_tuple (entry ∷ others)) ≡ Some (comparable_of (last_key entry.0 others))
+last_of_kept entry others = ap Some (last_from_kept entry.0 others)
+
+-- What was found ends with this key, and the range is read up to it.
+pub record ReadsTo (found : List StoredTuple) (down : Bool) (range : Range) (read : Option Range) : Type 0 where
+  pub last : Key
+  pub is : last_key_of found ≡ Some (comparable_of last)
+  pub read_is : read ≡ Some (range_until down last range)
+
+-- of entries that were picked, as many as the limit
+full_reads : (iterator : IterKind) (key : Key) (found : List Indexed) (limit : ℕ) → 0 < limit → length found ≡ limit
+    → ReadsTo (map stored_tuple found) (descends iterator) (range_of iterator key) (range_read iterator key limit found)
+full_reads iterator key [] zero more full = absurd (none_less more)
+full_reads iterator key (entry ∷ others) zero more full = absurd (none_less more)
+full_reads iterator key [] (suc n) more full = absurd (not_zero n full)
+full_reads iterator key (entry ∷ others) (suc n) more full =
+    let to_last = range_until (descends iterator) (last_key entry.0 others) (range_of iterator key) in
+    let all : (suc (length others) == suc n) ≡ true = eqb-same (suc (length others)) (suc n) full in
+    record {
+      last = last_key entry.0 others;
+      is = last_of_kept entry others;
+      read_is = ap (λ b. Some (if b then to_last else range_of iterator key)) all;
+    }
+
+-- of fewer entries than the limit
+short_reads : (iterator : IterKind) (key : Key) (found : List Indexed) (limit : ℕ) → 0 < limit → (length found == limit) ≡ false
+    → range_read iterator key limit found ≡ Some (range_of iterator key)
+short_reads iterator key found zero more short = absurd (none_less more)
+short_reads iterator key found (suc n) more short =
+    ap (λ b. Some (if b then up_to_last (descends iterator) found (range_of iterator key) else range_of iterator key)) short
+
+module _ (iterator : IterKind) (key : Key) (law : HoldsItsKeys (range_of iterator key)) (all : List Indexed) (fit : AreFitEntries all) (kept : List StoredTuple) (same : map stored_tuple all ≡ kept) (offset limit : ℕ) where
+  -- what is found of what is kept
+  abbrev pub found_by_key : List StoredTuple
+  found_by_key = found_in kept (edges_of (range_of iterator key)) iterator offset limit
+
+  -- it is what the iterator picks
+  pub found_is_picked : found_by_key ≡ map stored_tuple (picked iterator key offset limit all)
+  found_is_picked =
+      let lying = filter (λ (entry : Indexed). lies_in (range_of iterator key) entry.0) all in
+      ap (λ l. window offset limit (directed (descends iterator) (filter (λ entry. holds (edges_of (range_of iterator key)) entry.0) l))) (sym same)
+      ∙ ap (λ l. window offset limit (directed (descends iterator) l)) (kept_in_range (range_of iterator key) law all fit)
+      ∙ ap (window offset limit) (map-directed stored_tuple (descends iterator) lying)
+      ∙ ap (take limit) (drop-map stored_tuple offset (directed (descends iterator) lying))
+      ∙ take-map stored_tuple limit (drop offset (directed (descends iterator) lying))
+
+  pub tuples_are_picked : map (λ entry. entry.1) found_by_key ≡ (pick all iterator key offset limit).tuples
+  tuples_are_picked = ap (map (λ (entry : StoredTuple). entry.1)) found_is_picked ∙ tuples_of_kept (picked iterator key offset limit all)
+
+  length_of_tuples : length (pick all iterator key offset limit).tuples ≡ length (picked iterator key offset limit all)
+  length_of_tuples = length-map (picked iterator key offset limit all) (λ (entry : Indexed). entry.1)
+
+  -- the range is read up to the last one where the limit was reached
+  pub reads_to_last : 0 < limit → length (pick all iterator key offset limit).tuples ≡ limit
+      → ReadsTo found_by_key (descends iterator) (range_of iterator key) (pick all iterator key offset limit).read
+  reads_to_last more full =
+      subst (λ found. ReadsTo found (descends iterator) (range_of iterator key) (pick all iterator key offset limit).read)
+      (sym found_is_picked)
+      (full_reads iterator key (picked iterator key offset limit all) limit more (sym length_of_tuples ∙ full))
+
+  -- and else to its end
+  pub reads_to_end : 0 < limit → length (pick all iterator key offset limit).tuples ≢ limit
+      → (pick all iterator key offset limit).read ≡ Some (range_of iterator key)
+  reads_to_end more short =
+      short_reads iterator key (picked iterator key offset limit all) limit more (eqb-apart (length (picked iterator key offset limit all)) limit (λ full. short (length_of_tuples ∙ full)))
+
+-- ---- the range of a key
+
+-- a fit key makes fit ends
+pub fit_ends : (iterator : IterKind) (key : Key) → AreFit key → AreFitEnds (range_of iterator key)
+fit_ends iterator [] fit = (tt, tt)
+fit_ends Eq (part ∷ parts) fit = (fit, fit)
+fit_ends Req (part ∷ parts) fit = (fit, fit)
+fit_ends All (part ∷ parts) fit = (fit, tt)
+fit_ends Ge (part ∷ parts) fit = (fit, tt)
+fit_ends Gt (part ∷ parts) fit = (fit, tt)
+fit_ends Le (part ∷ parts) fit = (tt, fit)
+fit_ends Lt (part ∷ parts) fit = (tt, fit)

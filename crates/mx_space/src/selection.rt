@@ -1,0 +1,262 @@
+//! What a SELECT picks of an index.
+
+ghost use Rattle.std.specs.Prelude.{◌≡◌, ◌≢◌, ◌⊎◌, ◌<◌, List, [], length, map, Some, Ok, IfOk, IfSome, IsTrue, MatchOption, MatchResult};
+ghost use Rattle.std.specs.BTreeMap.Range.{IsLeBy, IsLtBy};
+ghost use Rattle.std.specs.Cmp.Lexicographic.{slice_cmp};
+ghost use Rattle.std.specs.FinMap as finite;
+ghost use Rattle.std.specs.List.{AllByRecursion};
+ghost use Rattle.std.specs.Option.{option_map};
+ghost use Rattle.std.specs.Ordering.{nat_cmp};
+ghost use Rattle.std.specs.Range.Bound.{IsForward};
+ghost use Rattle.mx_msgpack.specs.Items.{IsArray};
+ghost use Rattle.mx_key.specs.declared.edge.Edge.TheVariants as edges;
+ghost use Rattle.mx_key.specs.declared.iterator.IterKind.TheVariants as iterators;
+ghost use Rattle.mx_key.specs.Comparable.{bound_of, comparable_of, edges_of};
+ghost use Rattle.mx_key.specs.Keys.{Key, AreFit};
+ghost use Rattle.mx_key.specs.Parts.{key_of_array};
+ghost use Rattle.mx_key.specs.Ranges.{range_of};
+ghost use Rattle.mx_schema.specs.Picks.{Indexed, tuples_by_index, indexed_with};
+ghost use Rattle.mx_schema.specs.State as plain;
+ghost use Rattle.mx_schema.specs.Stored.{StoresTuples, stored_tuple};
+ghost use Rattle.mx_space.specs.Scans.{Selects, SelectsByKey};
+ghost use Rattle.mx_space.specs.Selecting.{AreFitEntries, IsCollected, IsStopped, as_fault, found_in, rows_found};
+
+use crate::index::Index;
+use crate::pick::{Pick, SelectFault, SelectStop, Source, collect, collect_one, pass_over};
+use crate::tree_index::TreeIndex;
+use mx_key::{Edge, IterKind, KeyRange, range_of_key};
+use mx_msgpack::{Bytes, Tuples, known_array};
+use mx_schema::{IndexDef, Keyed, index_tuple};
+use std::alloc::{AllocError, Global};
+use std::collections::BTreeMap;
+
+/// As `State::select`, of these tuples by their primary keys, which are those of the index of the number 0
+/// where `is_own`.
+pub(crate) fn select_from(
+    alloc: Global,
+    tuples: &BTreeMap<Bytes, Bytes>,
+    is_own: bool,
+    def: &IndexDef,
+    wanted: &Pick<'_>,
+    found: &mut Tuples,
+) -> Result<Option<KeyRange>, SelectFault>
+    requires array { IsArray wanted.now.key.now }
+    ensures { (all : plain.Tuples) → StoresTuples tuples.now.entries all
+        → (IsTrue is_own → def.now.id.0 ≡ 0 → AllByRecursion (λ (entry : Indexed). length entry.0 ≡ length def.now.key) (finite.entries all))
+        → SelectsByKey (finite.entries (tuples_by_index def.now all)) def.now wanted.now found.new result }
+{
+    let range = range_of_key(alloc, &def.key, wanted.iterator, wanted.key)?;
+    let indexed = other_index(alloc, def, tuples)?;
+    let is_whole = is_whole_key(is_own, indexed.is_none(), def, wanted.key);
+    let kept = first_map(&indexed, tuples);
+    as_fault(select_range(alloc, kept, range, is_whole, wanted, found))
+}
+
+/// The tuples under their keys in an index of another number than 0.
+fn other_index(
+    alloc: Global,
+    def: &IndexDef,
+    tuples: &BTreeMap<Bytes, Bytes>,
+) -> Result<Option<BTreeMap<Bytes, Bytes>>, AllocError>
+    ensures { (all : plain.Tuples) → StoresTuples tuples.now.entries all → IfOk result (λ found. MatchOption found
+        (def.now.id.0 ≡ 0)
+        (λ indexed. (def.now.id.0 ≢ 0) × StoresTuples indexed.entries (tuples_by_index def.now all))) }
+{
+    if def.id.0 == 0 {
+        return Ok(None);
+    }
+    Ok(Some(index_tuples(alloc, def, tuples)?))
+}
+
+pub(crate) fn as_fault(
+    read: Result<Option<KeyRange>, SelectStop>,
+) -> Result<Option<KeyRange>, SelectFault>
+    ensures { result ≡ as_fault read }
+{
+    match read {
+        Ok(read) => Ok(read),
+        Err(stop) => Err(SelectFault::from(stop)),
+    }
+}
+
+fn first_map<'a>(
+    first: &'a Option<BTreeMap<Bytes, Bytes>>,
+    second: &'a BTreeMap<Bytes, Bytes>,
+) -> &'a BTreeMap<Bytes, Bytes>
+    ensures { MatchOption first.now (result.now ≡ second.now) (λ map. result.now ≡ map) }
+{
+    match first {
+        Some(map) => map,
+        None => second,
+    }
+}
+
+/// Whether a key, which is an array, has all parts of the keys of a space's own tuples in its first index.
+fn is_whole_key(is_own: bool, is_first: bool, def: &IndexDef, key: &[u8]) -> bool
+    requires array { IsArray key.now }
+    ensures { IsTrue result → IsTrue is_own × IsTrue is_first × ((fitting : Key) → key_of_array def.now.key key.now ≡ Ok fitting → length fitting ≡ length def.now.key) }
+{
+    is_own && is_first && has_all_parts(def, key)
+}
+
+/// Whether a key, which is an array, has as many parts as the index.
+fn has_all_parts(def: &IndexDef, key: &[u8]) -> bool
+    requires array { IsArray key.now }
+    ensures { IsTrue result → (fitting : Key) → key_of_array def.now.key key.now ≡ Ok fitting → length fitting ≡ length def.now.key }
+{
+    known_array(key).count as usize == def.key.len()
+}
+
+/// Copies of tuples under their keys in an index.
+fn index_tuples(
+    alloc: Global,
+    def: &IndexDef,
+    tuples: &BTreeMap<Bytes, Bytes>,
+) -> Result<BTreeMap<Bytes, Bytes>, AllocError>
+    ensures { (all : plain.Tuples) → StoresTuples tuples.now.entries all
+        → IfOk result (λ indexed. StoresTuples indexed.entries (indexed_with def.now finite.empty (finite.entries all))) }
+{
+    let mut indexed = BTreeMap::new(alloc);
+    for (key, tuple) in tuples {
+        let Keyed { key, tuple } = index_tuple(alloc, def, key.as_slice(), tuple.as_slice())?;
+        indexed.insert(key, tuple)?;
+    }
+    Ok(indexed)
+}
+
+/// The range is that of a key, which has all parts of the entries' keys where `is_whole`.
+fn select_range(
+    alloc: Global,
+    kept: &BTreeMap<Bytes, Bytes>,
+    range: KeyRange,
+    is_whole: bool,
+    wanted: &Pick<'_>,
+    found: &mut Tuples,
+) -> Result<Option<KeyRange>, SelectStop>
+    requires { IsForward (IsLeBy (slice_cmp nat_cmp)) (IsLtBy (slice_cmp nat_cmp)) (bound_of range.low) (bound_of range.high) }
+    ensures { (all : plain.Tuples) (key : Key) → StoresTuples kept.now.entries all → AreFit key
+        → (IsTrue is_whole → AllByRecursion (λ (entry : Indexed). length entry.0 ≡ length key) (finite.entries all))
+        → range ≡ edges_of (range_of wanted.now.iterator key) → Selects (finite.entries all) wanted.now key found.new result }
+{
+    found.clear();
+    if wanted.limit == 0 {
+        return Ok(None);
+    }
+    let last = collect_found(kept, &range, is_whole, wanted, found)?;
+    Ok(Some(read_to(alloc, range, wanted, found, last)?))
+}
+
+/// As `Space::select`, of the range of a key.
+pub(crate) fn select_entries(
+    alloc: Global,
+    index: &TreeIndex,
+    tuples: &BTreeMap<Bytes, Bytes>,
+    unique: bool,
+    range: KeyRange,
+    wanted: &Pick<'_>,
+    found: &mut Tuples,
+) -> Result<Option<KeyRange>, SelectStop>
+    requires { IsForward (IsLeBy (slice_cmp nat_cmp)) (IsLtBy (slice_cmp nat_cmp)) (bound_of range.low) (bound_of range.high) }
+    ensures { (all : List Indexed) (key : Key) → AreFitEntries all → AreFit key → range ≡ edges_of (range_of wanted.now.iterator key)
+        → rows_found unique tuples.now.entries index.now range wanted.now.iterator wanted.now.offset wanted.now.limit ≡ found_in (map stored_tuple all) range wanted.now.iterator wanted.now.offset wanted.now.limit
+        → Selects all wanted.now key found.new result }
+{
+    found.clear();
+    if wanted.limit == 0 {
+        return Ok(None);
+    }
+    let last = collect_rows(index, tuples, unique, &range, wanted, found)?;
+    Ok(Some(read_to(alloc, range, wanted, found, last)?))
+}
+
+/// The range of keys that was read: up to the key of the last tuple where the limit was reached.
+fn read_to(
+    alloc: Global,
+    mut range: KeyRange,
+    wanted: &Pick<'_>,
+    found: &Tuples,
+    last: Option<&[u8]>,
+) -> Result<KeyRange, AllocError>
+    requires { 0 < wanted.now.limit }
+    ensures { (all : List Indexed) (key : Key) → AreFitEntries all → AreFit key → range ≡ edges_of (range_of wanted.now.iterator key)
+        → IsCollected found.now (found_in (map stored_tuple all) range wanted.now.iterator wanted.now.offset wanted.now.limit) (option_map (λ key. key.now) last.entry)
+        → IfOk result (λ read. Selects all wanted.now key found.now (Ok (Some read))) }
+{
+    if found.len() == wanted.limit as usize {
+        if let Some(last) = last {
+            range.end_with(alloc, wanted.iterator.descends(), last)?;
+        }
+    }
+    Ok(range)
+}
+
+/// Copies the tuples that the entries in the range lead to, and gives the key of the last one.
+fn collect_rows<'a>(
+    index: &'a TreeIndex,
+    tuples: &'a BTreeMap<Bytes, Bytes>,
+    unique: bool,
+    range: &KeyRange,
+    wanted: &Pick<'_>,
+    found: &mut Tuples,
+) -> Result<Option<&'a [u8]>, SelectStop>
+    requires none { found.old ≡ [] }
+    requires forward { IsForward (IsLeBy (slice_cmp nat_cmp)) (IsLtBy (slice_cmp nat_cmp)) (bound_of range.now.low) (bound_of range.now.high) }
+    ensures { MatchResult result
+        (λ last. IsCollected found.new (rows_found unique tuples.now.entries index.now range.now wanted.now.iterator wanted.now.offset wanted.now.limit) (option_map (λ key. key.now) last))
+        (λ stop. IsStopped stop (rows_found unique tuples.now.entries index.now range.now wanted.now.iterator wanted.now.offset wanted.now.limit)) }
+{
+    let down = wanted.iterator.descends();
+    let mut entries = index.range(range.low_bound(), range.high_bound());
+    pass_over(&mut entries, down, wanted.offset);
+    let source = Source::Tuples { tuples, unique };
+    collect(&mut entries, down, source, wanted.limit, found)
+}
+
+/// Copies the tuples that are found in the range, and gives the key of the last one.
+fn collect_found<'a>(
+    kept: &'a BTreeMap<Bytes, Bytes>,
+    range: &KeyRange,
+    is_whole: bool,
+    wanted: &Pick<'_>,
+    found: &mut Tuples,
+) -> Result<Option<&'a [u8]>, SelectStop>
+    requires none { found.old ≡ [] }
+    requires forward { IsForward (IsLeBy (slice_cmp nat_cmp)) (IsLtBy (slice_cmp nat_cmp)) (bound_of range.now.low) (bound_of range.now.high) }
+    requires more { 0 < wanted.now.limit }
+    ensures { (all : plain.Tuples) (key : Key) → StoresTuples kept.now.entries all → AreFit key
+        → (IsTrue is_whole → AllByRecursion (λ (entry : Indexed). length entry.0 ≡ length key) (finite.entries all))
+        → range.now ≡ edges_of (range_of wanted.now.iterator key) → MatchResult result
+        (λ last. IsCollected found.new (found_in kept.now.entries range.now wanted.now.iterator wanted.now.offset wanted.now.limit) (option_map (λ key. key.now) last))
+        (λ stop. IsStopped stop (found_in kept.now.entries range.now wanted.now.iterator wanted.now.offset wanted.now.limit)) }
+{
+    if is_whole {
+        if let Some(key) = exact_key(range, wanted.iterator) {
+            let entry = kept.get_key_value(key);
+            return collect_one(entry, wanted.offset, found);
+        }
+    }
+    let down = wanted.iterator.descends();
+    let mut entries = kept.range((range.low_bound(), range.high_bound()));
+    pass_over(&mut entries, down, wanted.offset);
+    collect(&mut entries, down, Source::Entries, wanted.limit, found)
+}
+
+/// The key with which a range of EQ or REQ begins.
+fn exact_key(range: &KeyRange, iterator: IterKind) -> Option<&Bytes>
+    ensures { IfSome result (λ key. (range.now.low ≡ edges.Inclusive key.now) × ((iterator ≡ iterators.Eq) ⊎ (iterator ≡ iterators.Req))) }
+{
+    match iterator {
+        IterKind::Eq | IterKind::Req => inclusive(&range.low),
+        IterKind::All | IterKind::Lt | IterKind::Le | IterKind::Ge | IterKind::Gt => None,
+    }
+}
+
+fn inclusive(edge: &Edge) -> Option<&Bytes>
+    ensures { IfSome result (λ key. edge.now ≡ edges.Inclusive key.now) }
+{
+    match edge {
+        Edge::Inclusive(key) => Some(key),
+        Edge::Exclusive(_) => None,
+        Edge::Open => None,
+    }
+}
