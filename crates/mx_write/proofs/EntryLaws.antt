@@ -1,6 +1,6 @@
 -- The tuple that has a key in a unique index.
-use Rattle.std.proofs.Common.{◌≡◌, ℕ, cond, List, [], ◌∷◌, Option, Some, None, Ok, refl, sym, ap, ◌∙◌, subst}
-use Rattle.std.specs.Prelude.{IfSome}
+use Rattle.std.proofs.Common.{◌≡◌, inl, inr, ℕ, Bool, true, false, cond, List, [], ◌∷◌, Option, Some, None, Ok, refl, sym, ap, ◌∙◌, subst, eqb-true}
+use Rattle.std.specs.Prelude.{IfSome, ◌==◌, ◌||◌, if◌then◌else◌}
 use Rattle.std.specs.declared.cmp.Ordering.{Ordering}
 use Rattle.std.specs.declared.cmp.Ordering.TheVariants.{Less, Equal, Greater}
 use Rattle.std.specs.FinMap.{entries, get, get-entries}
@@ -15,12 +15,16 @@ use Rattle.mx_key.proofs.KeyLaws.{key_cmp-IsAntisymmetric}
 use Rattle.mx_msgpack.proofs.Options.{same_some}
 use Rattle.mx_schema.specs.declared.index_def.IndexDef.{IndexDef}
 use Rattle.mx_schema.specs.declared.schema.Schema.{Schema}
-use Rattle.mx_schema.specs.Catalogues.{StandByKey, index_with}
-use Rattle.mx_schema.specs.Picks.{Indexed}
+use Rattle.mx_schema.specs.Catalogues.{StandByKey, index_with, schema_of}
+use Rattle.mx_schema.specs.Picks.{Indexed, tuples_by_index}
+use Rattle.mx_schema.specs.Sound.{AreIndexed, HaveKeys}
 use Rattle.mx_schema.specs.State.{State, Tuples, key_in, tuples_in}
 use Rattle.mx_schema.specs.Stored.{StandByPrimary}
 use Rattle.mx_write.specs.declared.scope.Target.{Target}
-use Rattle.mx_write.specs.Lookup.{entry_under}
+use Rattle.mx_schema.proofs.AloneLaws.{Alone}
+use Rattle.mx_schema.proofs.DescribedLaws.{its_keyed}
+use Rattle.mx_space.specs.Kept.{HoldsOneEach, StoresIndexed}
+use Rattle.mx_write.specs.Lookup.{entry_under, holder_of, is_unique}
 use Rattle.mx_write.specs.Steps.{IsKeyOf, IsTarget}
 
 -- ---- a tuple of a space stands under its own key
@@ -45,6 +49,22 @@ own_key_is schema primary tuples key tuple there stands found =
 
 -- ---- the tuple that has a key
 
+pub unique_is : (def : IndexDef) → def.unique ≡ true → is_unique def ≡ true
+unique_is def unique = by_number (def.id.0 == 0)
+  where
+    by_number : (b : Bool) → (b || def.unique) ≡ true
+    by_number true = refl
+    by_number false = unique
+
+-- what each index has, an index has that is found
+found_has : (P : IndexDef → Type 0) (id : ℕ) (defs : List IndexDef) (def : IndexDef) → index_with id defs ≡ Some def → AllByRecursion P defs → P def
+found_has P id [] def there have = absurd cc
+found_has P id (other ∷ others) def there (first, rest) = by_test (other.id.0 == id) there (λ later. found_has P id others def later rest)
+  where
+    by_test : (b : Bool) → (if b then Some other else index_with id others) ≡ Some def → (index_with id others ≡ Some def → P def) → P def
+    by_test true there later = let same : other ≡ def = cc in subst P same first
+    by_test false there later = later there
+
 module _ (before : State) (target : Target) (is : IsTarget before target) where
   abbrev space : ℕ
   space = target.scope.space.0
@@ -54,6 +74,30 @@ module _ (before : State) (target : Target) (is : IsTarget before target) where
 
   abbrev pair : Key → List ℕ → Indexed
   pair key tuple = (key, tuple)
+
+  -- the key of a unique index that a tuple has it has alone
+  pub one_each : (def : IndexDef) → index_with def.id.0 target.schema.now.indexes ≡ Some def → is_unique def ≡ true → HoldsOneEach def (tuples_in before space)
+  one_each def there unique = by_number (def.id.0 == 0) refl unique
+    where
+      keyed : AreIndexed target.schema.now (tuples_in before space)
+      keyed = subst (λ s. AreIndexed s (tuples_in before space)) (sym is.schema) (its_keyed before is.holds.sound space target.stored.now.schema is.stored.holds.is).2
+
+      by_number : (b : Bool) → (def.id.0 == 0) ≡ b → (b || def.unique) ≡ true → HoldsOneEach def (tuples_in before space)
+      by_number true zero unique = inl (eqb-true def.id.0 0 zero)
+      by_number false other unique = inr (
+        unique,
+        found_has (Alone (tuples_in before space)) def.id.0 target.schema.now.indexes def there keyed.unique unique,
+        found_has (λ d. HaveKeys d (tuples_in before space)) def.id.0 target.schema.now.indexes def there keyed.have,
+      )
+
+  -- so a lookup finds what the definition says
+  pub held_so : (def : IndexDef) (wanted : Key) (key : List ℕ) (found : Option (List ℕ)) → index_with def.id.0 target.schema.now.indexes ≡ Some def → is_unique def ≡ true
+      → ((schema : Option Schema) (all : Tuples) (primary : IndexDef) → StoresIndexed schema target.stored.now all → index_with 0 target.stored.now.schema.indexes ≡ Some primary
+      → index_with def.id.0 target.stored.now.schema.indexes ≡ Some def → HoldsOneEach def all → found ≡ get (tuples_by_index def all) wanted)
+      → found ≡ holder_of before space def wanted
+  held_so def wanted key found there unique told =
+      told (schema_of before space) (tuples_in before space) target.primary.now is.stored (ap (λ (s : Schema). index_with 0 s.indexes) (sym is.schema) ∙ is.primary)
+      (ap (λ (s : Schema). index_with def.id.0 s.indexes) (sym is.schema) ∙ there) (one_each def there unique)
 
   pub entry_is : (bytes tuple : List ℕ) (own : Option Key) → IsKeyOf (Some bytes) own
       → ((key : Key) → AreFit key → bytes ≡ comparable_of key → Some tuple ≡ get (tuples_in before space) key)
@@ -65,5 +109,5 @@ module _ (before : State) (target : Target) (is : IsTarget before target) where
         ap (option_map (pair key)) (sym e),
         fit,
         same,
-        own_key_is target.schema.now target.primary.now (tuples_in before space) key tuple is.primary is.stored.stands (sym e),
+        own_key_is target.schema.now target.primary.now (tuples_in before space) key tuple is.primary (subst (λ s. StandByPrimary s (tuples_in before space)) (sym is.schema) is.stored.holds.stands) (sym e),
       )

@@ -1,58 +1,90 @@
 -- What memory holds after the change that a write came to.
-use Rattle.std.proofs.Common.{◌≡◌, ◌⊎◌, inl, inr, refl, ℕ, Bool, true, false, List, Option, Some, None, Result, Ok, Err, true≢false, sym, ap, subst}
-use Rattle.std.specs.Prelude.{◌==◌, ◌||◌, MatchResult, OnErr, OnOk}
-use Rattle.std.specs.FinMap.{insert, remove}
-use Rattle.mx_schema.specs.declared.state.State as coded
+use Rattle.std.proofs.Common.{◌≡◌, ◌⊎◌, inl, inr, ℕ, List, [], ◌∷◌, Option, Some, None, Result, Ok, Err, refl, sym, ap, ◌∙◌, subst}
+use Rattle.std.specs.Prelude.{MatchResult}
+use Rattle.std.specs.FinMap.{get}
+use Rattle.std.specs.Option.{IfNone}
+use Rattle.mx_key.specs.Keys.{Key, AreFit}
 use Rattle.mx_schema.specs.Catalogues.{schema_of}
-use Rattle.mx_schema.specs.State.{State, index_rows, space_rows, tuples_in}
-use Rattle.mx_schema.specs.Stored.{Holds, HoldsBy}
-use Rattle.mx_schema.proofs.StateLaws.{holds_described, schema_set}
-use Rattle.mx_write.specs.declared.made.Effect.{Effect}
+use Rattle.mx_schema.specs.State.{State, tuples_in}
+use Rattle.mx_space.specs.declared.state.State as coded
+use Rattle.mx_space.specs.Spaces.{space_under}
+use Rattle.mx_space.specs.Stored.{Holds, HoldsBy, HoldsSpace}
+use Rattle.mx_write.specs.declared.made.Effect.TheVariants.{Removed}
 use Rattle.mx_write.specs.declared.made.Made as code
 use Rattle.mx_write.specs.declared.writable.Writer.{Writer}
-use Rattle.mx_write.specs.Change.{state_after_changed, state_with}
+use Rattle.mx_key.specs.Arrays.{key_array}
+use Rattle.mx_write.specs.Change.{Change, state_after_change, state_after_changed}
+use Rattle.mx_write.specs.Installs.{MayChange}
 use Rattle.mx_write.specs.Judge.{judged_write}
-use Rattle.mx_write.specs.Made.{Made, nothing}
-use Rattle.mx_write.specs.Makes.{HasKey, MakesWrite, tuple_after}
-use Rattle.mx_write.specs.Writable.{describes_schema}
+use Rattle.mx_write.specs.Lookup.{tuple_under}
+use Rattle.mx_write.specs.Made.{Made, nothing, row_with}
+use Rattle.mx_write.specs.Makes.{MakesWrite, tuple_after, tuples_shown}
 use Rattle.mx_write.specs.Writes.{Write}
-use Rattle.mx_write.proofs.WrittenLaws.{Wrote, wrote}
+use Rattle.mx_write.proofs.EachSpaceLaws.{OfSpace, change_of}
+use Rattle.mx_write.proofs.SoundLaws.{change_sound}
+use Rattle.mx_write.proofs.WrittenLaws.{Wrote, makes as makes_so, wrote}
 
-neither : (spaces indexes : Bool) → (spaces || indexes) ≡ false → (spaces ≡ false) × (indexes ≡ false)
-neither true indexes e = absurd (true≢false e)
-neither false indexes e = (refl, e)
+-- what either end of a call tells
+pub at_either : {X E P Q R S : Type 0} (result : Result X E) → MatchResult result (λ _. P) (λ _. Q) → (P → R) → (Q → S) → MatchResult result (λ _. R) (λ _. S)
+at_either (Ok x) told ok err = ok told
+at_either (Err e) told ok err = err told
 
-module _ (before : State) (space : ℕ) (write : Write) (one : code.Made) (made : Made) (makes : MakesWrite before space write one made) where
-  -- the write changes something, so its space describes no spaces and no indexes
-  elsewhere : (writer : Writer) → (judged_write writer before space write).outcome ≡ Ok made → describes_schema space ≡ false
-  elsewhere writer outcome = by_case (wrote writer before space made write outcome)
+-- what memory has of each space
+abbrev pub held : coded.State → OfSpace
+held memory = λ space schema tuples. HoldsSpace schema (space_under space memory.spaces.entries.items) tuples
+
+module _ (before : State) (memory : coded.State) (holds : Holds memory before) (space : ℕ) (key : Key) (fit : AreFit key) (tuple : Option (List ℕ)) (changes : MayChange before space key tuple) where
+  -- memory has what comes after a change, where it has the tuples of that state by its descriptions
+  pub held_after : (new : coded.State) → HoldsBy (schema_of (state_after_change before (change_of space key tuple))) new (state_after_change before (change_of space key tuple))
+      → Holds new (state_after_change before (change_of space key tuple))
+  held_after new has = record { spaces = has; sound = change_sound before holds.sound space key tuple fit changes }
+
+pub held_before : (before : State) (memory new : coded.State) → Holds memory before → HoldsBy (schema_of before) new before → Holds new before
+held_before before memory new holds has = record { spaces = has; sound = holds.sound }
+
+-- ---- what a write came to
+
+module _ (before : State) (space : ℕ) (write : Write) (one : code.Made) (made : Made) (makes : MakesWrite before space write one made) (writer : Writer)
+    (outcome : (judged_write writer before space write).outcome ≡ Ok made) where
+  wrote_so : Wrote before space write made
+  wrote_so = by_case (wrote writer before space made write outcome)
     where
-      by_case : (made ≡ nothing) ⊎ Wrote before space write made → describes_schema space ≡ false
+      by_case : (made ≡ nothing) ⊎ Wrote before space write made → Wrote before space write made
       by_case (inl none) = let change = makes.change in let same = ap (λ (m : Made). m.change) none in absurd cc
-      by_case (inr so) = so.elsewhere
+      by_case (inr so) = so
 
-  module _ (writer : Writer) (outcome : (judged_write writer before space write).outcome ≡ Ok made) where
-    -- what describes spaces stays
-    pub schema_stays : (tuple : Option (List ℕ)) (q : ℕ) → schema_of (state_with before space makes.key tuple) q ≡ schema_of before q
-    schema_stays None q =
-        let others = neither (space == space_rows) (space == index_rows) (elsewhere writer outcome) in
-        schema_set before space (remove (tuples_in before space) makes.key) others.0 others.1 q
-    schema_stays (Some tuple) q =
-        let others = neither (space == space_rows) (space == index_rows) (elsewhere writer outcome) in
-        schema_set before space (insert (tuples_in before space) makes.key tuple) others.0 others.1 q
+  its_made : made ≡ record { row = Some (row_with space write (key_array wrote_so.key)); change = Some (change_of space wrote_so.key wrote_so.tuple); shown = wrote_so.shown }
+  its_made = (makes_so space write wrote_so.key wrote_so.tuple wrote_so.shown made wrote_so.made).1
 
-    -- memory has the change
-    pub installed : (after : coded.State) → HoldsBy (schema_of before) after (state_with before space makes.key (tuple_after one.effect))
-        → Holds after (state_after_changed before made.change)
-    installed after holds =
-        let now = state_with before space makes.key (tuple_after one.effect) in
-        subst (Holds after) (ap (state_after_changed before) (sym makes.change))
-        (holds_described (schema_of before) (schema_of now) after now (λ q. sym (schema_stays (tuple_after one.effect) q)) holds)
+  same_change : change_of space wrote_so.key wrote_so.tuple ≡ change_of space makes.key (tuple_after one.effect)
+  same_change = one_change _ _ (sym (ap (λ (m : Made). m.change) its_made) ∙ makes.change)
+    where
+      one_change : (x y : Change) → Some x ≡ Some y → x ≡ y
+      one_change x y e = cc
 
-    pub put_has : (effect : Effect) → one.effect ≡ effect → HasKey makes.schema makes.key (tuple_after effect)
-    put_has effect is = subst (λ e. HasKey makes.schema makes.key (tuple_after e)) is makes.has
+  -- it was judged by what it changes
+  pub judged_so : MayChange before space makes.key (tuple_after one.effect)
+  judged_so = subst (λ (change : Change). MayChange before space change.key change.tuple) same_change wrote_so.changes
 
--- a call that succeeds, and one that doesn't
-pub either_way : {X E P R : Type 0} (Q : Type 0) (result : Result X E) → OnOk result P → OnErr result Q → (P → R) → MatchResult result (λ _. R) (λ _. Q)
-either_way Q (Ok x) holds other follows = follows holds
-either_way Q (Err e) other holds follows = holds
+  pub changed_so : (P : State → Type 0) → P (state_after_change before (change_of space makes.key (tuple_after one.effect))) → P (state_after_changed before made.change)
+  changed_so P = subst (λ change. P (state_after_changed before change)) (sym makes.change)
+
+  -- what it removes stood there
+  pub stood_so : (tuple : List ℕ) → one.effect ≡ Removed tuple → get (tuples_in before space) makes.key ≡ Some tuple
+  stood_so tuple removed = by_tuple wrote_so.tuple refl wrote_so.shows
+    where
+      key_same : wrote_so.key ≡ makes.key
+      key_same = ap (λ (change : Change). change.key) same_change
+
+      shown_same : wrote_so.shown ≡ tuple ∷ []
+      shown_same = sym (ap (λ (m : Made). m.shown) its_made) ∙ makes.shown ∙ ap tuples_shown removed
+
+      one_tuple : (x y : List ℕ) → x ∷ [] ≡ y ∷ [] → x ≡ y
+      one_tuple x y e = cc
+
+      by_tuple : (put : Option (List ℕ)) → wrote_so.tuple ≡ put → IfNone put ((old : List ℕ) × (tuple_under before space wrote_so.key ≡ Some old) × (wrote_so.shown ≡ old ∷ []))
+          → get (tuples_in before space) makes.key ≡ Some tuple
+      by_tuple (Some put) is shows =
+          let no : Some put ≡ None = sym is ∙ ap (λ (change : Change). change.tuple) same_change ∙ ap tuple_after removed in absurd cc
+      by_tuple None is (old, stands, shown) =
+          ap (get (tuples_in before space)) (sym key_same) ∙ stands ∙ ap (λ t. Some t) (one_tuple old tuple (sym shown ∙ shown_same))

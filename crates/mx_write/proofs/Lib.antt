@@ -5,9 +5,13 @@ pub mod TargetLaws
 pub mod MadeLaws
 pub mod UniqueLaws
 pub mod WrittenLaws
+pub mod EachSpaceLaws
 pub mod InstallLaws
+pub mod KeyNameLaws
 pub mod RowJudgeLaws
 pub mod RowLaws
+pub mod CheckedLaws
+pub mod DescriptionLaws
 pub mod SoundLaws
 mod EntryLaws
 pub mod PlaceLaws

@@ -6,6 +6,7 @@ use Rattle.mx_base.specs.declared.kinds.Unsupported.TheVariants.{SystemSpaceWrit
 use Rattle.mx_base.specs.declared.refusal.Refusal.{Refusal}
 use Rattle.mx_base.specs.declared.refusal.Refusal.TheVariants.{Unsupported}
 use Rattle.mx_base.specs.declared.refusal.Refusal.TheVariants.{IndexMissing, IndexNotUnique, SpaceMissing}
+use Rattle.mx_msgpack.specs.Items.{items_of}
 use Rattle.mx_key.specs.Arrays.{key_array}
 use Rattle.mx_key.specs.Keys.{Key}
 use Rattle.mx_key.specs.Parts.{whole_key}
@@ -24,6 +25,7 @@ use Rattle.mx_schema.proofs.SoundLaws.{sound_key}
 use Rattle.mx_tuple.specs.Fields.{tuple_of}
 use Rattle.mx_write.specs.declared.writable.Writer.TheVariants.{Client, Journal}
 use Rattle.mx_write.specs.Delete.{delete_found, deletes}
+use Rattle.mx_write.specs.Descriptions.{drop_fault}
 use Rattle.mx_write.specs.Insert.{inserts}
 use Rattle.mx_write.specs.Judge.{change_in, judged_row, judged_write, refusal_in, row_change, row_refusal}
 use Rattle.mx_write.specs.Judged.{found, judged_as, unless}
@@ -33,11 +35,12 @@ use Rattle.mx_write.specs.Replace.{replaces}
 use Rattle.mx_update.specs.Updates.{updated}
 use Rattle.mx_write.specs.Update.{the_operations, tuple_or_refusal, update_found, updates}
 use Rattle.mx_write.specs.Upsert.{upserts}
-use Rattle.mx_write.specs.Writable.{describes_schema, found_name, is_read_only, primary_name, schema_refusal, leader_refusal, write_refusal}
+use Rattle.mx_write.specs.Writable.{begins_with_system_number, describes_schema, is_read_only, leader_refusal, own_row_refusal, primary_name, schema_refusal, write_refusal}
 use Rattle.mx_write.specs.Writes.{Write, Insert, Replace, Update, Delete, Upsert}
+use Rattle.mx_write.proofs.KeyNameLaws.{key_of_users}
 use Rattle.mx_write.proofs.StageLaws.{came_by, goes_on, is_found, none_refuses, passed_so}
 use Rattle.mx_write.proofs.UniqueLaws.{number_is}
-use Rattle.mx_write.proofs.WrittenLaws.{Sought, SoughtSo, entry_there, makes, no_schema, no_schema_found, placed, sought_by, sought_so, wrote_row}
+use Rattle.mx_write.proofs.WrittenLaws.{Sought, SoughtSo, entry_there, by_space, in_place_elsewhere, makes, of_users, placed, sought_by, sought_so, wrote_row}
 
 -- ---- what a client may write, a journal may
 
@@ -50,10 +53,33 @@ may_by false true setting one other client why elsewhere e = absurd cc
 may_by false false true one other client why elsewhere e = refl
 may_by false false false one other client why elsewhere e = refl
 
+may_here : (schema read_only setting : Bool) (one : Option Refusal) (client : Option Refusal) (why : Refusal)
+    → (if schema then one else if read_only then Some why else if setting then client else None) ≡ None
+    → (if schema then one else if read_only then Some why else if setting then None else None) ≡ None
+may_here true read_only setting one client why e = e
+may_here false true setting one client why e = absurd cc
+may_here false false true one client why e = refl
+may_here false false false one client why e = refl
+
+-- where the space describes nothing, whatever the name is
 pub journal_may : (space type : ℕ) (named other : Option (List ℕ)) → describes_schema space ≡ false → write_refusal Client space type named ≡ None
     → write_refusal Journal space type other ≡ None
 journal_may space type named other =
     may_by (describes_schema space) (is_read_only space) (space == settings) (schema_refusal type named) (schema_refusal type other) (leader_refusal Client named) (Unsupported SystemSpaceWrite)
+
+-- by the same name
+pub journal_may_so : (space type : ℕ) (named : Option (List ℕ)) → write_refusal Client space type named ≡ None → write_refusal Journal space type named ≡ None
+journal_may_so space type named =
+    may_here (describes_schema space) (is_read_only space) (space == settings) (schema_refusal type named) (leader_refusal Client named) (Unsupported SystemSpaceWrite)
+
+-- the row of a user's space or index may be dropped by its key
+pub journal_drops : (space : ℕ) (named : List ℕ) → describes_schema space ≡ true → begins_with_system_number (items_of named) ≡ false
+    → write_refusal Journal space delete_type (Some named) ≡ None
+journal_drops space named describes of_user =
+    ap (λ b. if b then own_row_refusal (Some named) else otherwise) describes ∙ ap (λ b. if b then Some (Unsupported SystemSpaceWrite) else None) of_user
+  where
+    otherwise : Option Refusal
+    otherwise = if is_read_only space then Some (Unsupported SystemSpaceWrite) else if space == settings then leader_refusal Journal (Some named) else None
 
 -- ---- INSERT, REPLACE and UPSERT, whose rows are as they were sent
 
@@ -64,7 +90,7 @@ module _ (before : State) (space : ℕ) (tuple : List ℕ) (is : Made) where
       let (schema, e1, r1) = came_by (the_space before space) _ is e in
       let (u2, e2, r2) = came_by (unless (write_refusal Client space insert_type (Some tuple))) _ is r1 in
       let writable = passed_so _ u2 e2 in
-      let may = none_refuses _ (journal_may space insert_type (Some tuple) (Some tuple) (no_schema Client space insert_type tuple writable) writable) in
+      let may = none_refuses _ (journal_may_so space insert_type (Some tuple) writable) in
       goes_on (the_space before space) _ schema e1 ∙ goes_on (unless (write_refusal Journal space insert_type (Some tuple))) _ tt may ∙ r2
 
   pub replaced_again : (replaces Client before space tuple).outcome ≡ Ok is → (replaces Journal before space tuple).outcome ≡ Ok is
@@ -73,7 +99,7 @@ module _ (before : State) (space : ℕ) (tuple : List ℕ) (is : Made) where
       let (schema, e1, r1) = came_by (the_space before space) _ is e in
       let (u2, e2, r2) = came_by (unless (write_refusal Client space replace_type (Some tuple))) _ is r1 in
       let writable = passed_so _ u2 e2 in
-      let may = none_refuses _ (journal_may space replace_type (Some tuple) (Some tuple) (no_schema Client space replace_type tuple writable) writable) in
+      let may = none_refuses _ (journal_may_so space replace_type (Some tuple) writable) in
       goes_on (the_space before space) _ schema e1 ∙ goes_on (unless (write_refusal Journal space replace_type (Some tuple))) _ tt may ∙ r2
 
   pub upserted_again : (base : ℕ) (operations : List ℕ) → (upserts Client before space base tuple operations).outcome ≡ Ok is
@@ -83,7 +109,7 @@ module _ (before : State) (space : ℕ) (tuple : List ℕ) (is : Made) where
       let (schema, e1, r1) = came_by (the_space before space) _ is e in
       let (u2, e2, r2) = came_by (unless (write_refusal Client space upsert_type (Some tuple))) _ is r1 in
       let writable = passed_so _ u2 e2 in
-      let may = none_refuses _ (journal_may space upsert_type (Some tuple) (Some tuple) (no_schema Client space upsert_type tuple writable) writable) in
+      let may = none_refuses _ (journal_may_so space upsert_type (Some tuple) writable) in
       goes_on (the_space before space) _ schema e1 ∙ goes_on (unless (write_refusal Journal space upsert_type (Some tuple))) _ tt may ∙ r2
 
 -- ---- UPDATE and DELETE, whose rows have the primary key
@@ -108,11 +134,11 @@ module _ (before : State) (space : ℕ) (schema : Schema) (primary : IndexDef) (
       ap (λ b. entry_under before space (if b then Some own else primary_key_of primary (holder_of before space primary own))) first
       ∙ ap (option_map (λ (tuple : List ℕ). (own, tuple))) stands
 
-  sought_again : (type : ℕ) (named : Option (List ℕ)) (stage : Sought) → describes_schema space ≡ false → write_refusal Client space type named ≡ None
+  sought_again : (type : ℕ) (stage : Sought) → write_refusal Journal space type (Some (key_array own)) ≡ None
       → (sought_by Journal before space type 0 (key_array own) stage).outcome ≡ (stage schema primary (Some (own, old))).outcome
-  sought_again type named stage elsewhere may =
+  sought_again type stage may =
       goes_on (the_space before space) _ schema (is_found (SpaceMissing (record { 0 = space })) (schema_of before space) schema described)
-      ∙ goes_on (unless (write_refusal Journal space type (primary_name 0 (key_array own)))) _ tt (none_refuses _ (journal_may space type named (primary_name 0 (key_array own)) elsewhere may))
+      ∙ goes_on (unless (write_refusal Journal space type (primary_name 0 (key_array own)))) _ tt (none_refuses _ may)
       ∙ goes_on (the_unique_index space schema 0) _ primary primary_there
       ∙ goes_on (the_primary schema) _ primary (is_found (IndexMissing (record { 0 = 0 }) schema.def.name) (index_with 0 schema.indexes) primary there)
       ∙ goes_on (the_key primary (key_array own)) _ own (ap (key_or_refusal (length primary.key)) whole)
@@ -151,17 +177,20 @@ module _ (before : State) (space : ℕ) (is : Made) (row : Row) (sound : IsSound
           → (judged_row before row).outcome ≡ Ok is
       by_entry so None at e = let none : is ≡ nothing = cc in absurd (no_row row is none left)
       by_entry so (Some (own, old)) at e =
-          let (u1, e1, r1) = came_by (unless (write_refusal Client space delete_type (found_name index old))) _ is e in
+          let (u1, e1, r1) = came_by (unless (write_refusal Client space delete_type (Some old))) _ is e in
+          let (u2, e2, r2) = came_by (unless (drop_fault before space old)) _ is r1 in
           let found = passed_so _ u1 e1 in
-          let elsewhere = no_schema_found Client space delete_type index key old so.writable found in
-          let (short, is_so) = makes space (Delete index key) own None (old ∷ []) is r1 in
+          let (short, is_so) = makes space (Delete index key) own None (old ∷ []) is r2 in
           let stands = entry_there before space so.primary so.def so.asked own old at in
           let whole = key_whole before space so.schema so.primary own old sound so.described so.there stands (delete_key_short space (key_array own) short) in
+          let may : write_refusal Journal space delete_type (Some (key_array own)) ≡ None = by_space space
+          (λ elsewhere. journal_may space delete_type (Some old) (Some (key_array own)) elsewhere found)
+          (λ describes. journal_drops space (key_array own) describes
+          (key_of_users before sound space so.schema so.primary own old describes so.described so.there stands whole (of_users Client space delete_type old describes found))) in
           let again : (deletes Journal before space 0 (key_array own)).outcome ≡ Ok is =
-          sought_again before space so.schema so.primary own old so.described so.there stands whole delete_type (primary_name index key)
-          (λ schema primary. delete_found Journal before space 0 (key_array own)) elsewhere so.writable
-          ∙ goes_on (unless (write_refusal Journal space delete_type (found_name 0 old))) _ tt
-          (none_refuses _ (journal_may space delete_type (found_name index old) (found_name 0 old) elsewhere found))
+          sought_again before space so.schema so.primary own old so.described so.there stands whole delete_type
+          (λ schema primary. delete_found Journal before space 0 (key_array own)) may
+          ∙ goes_on (unless (write_refusal Journal space delete_type (Some old))) _ tt (none_refuses _ (journal_may_so space delete_type (Some old) found))
           ∙ r1 in
           ap (λ r. (judged_row before r).outcome) (one_row row (delete_row space (key_array own)) is (ap (λ (m : Made). m.row) is_so) left) ∙ again
 
@@ -177,9 +206,9 @@ module _ (before : State) (space : ℕ) (is : Made) (row : Row) (sound : IsSound
           → (judged_row before row).outcome ≡ Ok is
       by_entry so None at e = let none : is ≡ nothing = cc in absurd (no_row row is none left)
       by_entry so (Some (own, old)) at e =
-          let (u1, e1, r1) = came_by (unless (write_refusal Client space update_type (found_name index old))) _ is e in
+          let (u1, e1, r1) = came_by (unless (write_refusal Client space update_type (Some old))) _ is e in
           let found = passed_so _ u1 e1 in
-          let elsewhere = no_schema_found Client space update_type index key old so.writable found in
+          let elsewhere = in_place_elsewhere Client space update_type (Some old) refl found in
           let (applied, e2, r2) = came_by (the_operations operations) _ is r1 in
           let (new, e3, r3) = came_by (judged_as (tuple_or_refusal (updated base old applied))) _ is r2 in
           let (keyed, at_last) = placed Client before space is so.schema so.primary (Update index base key operations) own new (new ∷ []) r3 in
@@ -187,10 +216,9 @@ module _ (before : State) (space : ℕ) (is : Made) (row : Row) (sound : IsSound
           let stands = entry_there before space so.primary so.def so.asked own old at in
           let whole = key_whole before space so.schema so.primary own old sound so.described so.there stands (update_key_short space base (key_array own) operations short) in
           let again : (updates Journal before space 0 base (key_array own) operations).outcome ≡ Ok is =
-          sought_again before space so.schema so.primary own old so.described so.there stands whole update_type (primary_name index key)
-          (update_found Journal before space 0 base (key_array own) operations) elsewhere so.writable
-          ∙ goes_on (unless (write_refusal Journal space update_type (found_name 0 old))) _ tt
-          (none_refuses _ (journal_may space update_type (found_name index old) (found_name 0 old) elsewhere found))
+          sought_again before space so.schema so.primary own old so.described so.there stands whole update_type
+          (update_found Journal before space 0 base (key_array own) operations) (journal_may space update_type (Some old) (Some (key_array own)) elsewhere found)
+          ∙ goes_on (unless (write_refusal Journal space update_type (Some old))) _ tt (none_refuses _ (journal_may_so space update_type (Some old) found))
           ∙ r1 in
           ap (λ r. (judged_row before r).outcome) (one_row row (update_row space base (key_array own) operations) is (ap (λ (m : Made). m.row) is_so) left) ∙ again
 

@@ -1,5 +1,5 @@
 -- The row that a write leaves can be written to a journal.
-use Rattle.std.proofs.Common.{◌≡◌, ◌⊎◌, inl, inr, ℕ, ◌<◌, ◌≤◌, ◌^◌, false, List, length, Option, Some, None, Ok, refl, sym, ap, ◌∙◌, subst, arith}
+use Rattle.std.proofs.Common.{◌≡◌, ◌⊎◌, inl, inr, ℕ, ◌<◌, ◌≤◌, ◌^◌, List, length, Option, Some, None, Ok, refl, sym, ap, ◌∙◌, subst, arith}
 use Rattle.mx_key.specs.Arrays.{key_array}
 use Rattle.mx_key.specs.Keys.{Key, AreFit}
 use Rattle.mx_key.proofs.KeyArrayLaws.{array_spelled}
@@ -13,7 +13,6 @@ use Rattle.mx_write.specs.declared.writable.Writer.TheVariants.{Client}
 use Rattle.mx_write.specs.Judge.{judged_write}
 use Rattle.mx_write.specs.Lookup.{tuple_under}
 use Rattle.mx_write.specs.Made.{Made, nothing, row_with}
-use Rattle.mx_write.specs.Writable.{describes_schema}
 use Rattle.mx_write.specs.Writes.{IsWellFormed, Write, Insert, Replace, Update, Delete, Upsert}
 use Rattle.mx_write.proofs.RowJudgeLaws.{delete_key_short, one_row, update_key_short}
 use Rattle.mx_write.proofs.WrittenLaws.{Wrote, makes, wrote, wrote_row}
@@ -29,7 +28,7 @@ key_inner key fit short = array_spelled key fit (omega arith)
 -- a tuple that stands under a key of a sound state tells that the key fits
 key_fit : (before : State) (space : ℕ) (write : Write) (is : Made) (so : Wrote before space write is) (old : List ℕ) → IsSound before → tuple_under before space so.key ≡ Some old
     → AreFit so.key
-key_fit before space write is so old sound stands = (sound_key before space so.schema so.primary so.key old sound so.described so.there stands).1
+key_fit before space write is so old sound stands = (sound_key before space so.changes.schema so.changes.primary so.key old sound so.changes.described so.changes.there stands).1
 
 parts : (before : State) (space : ℕ) (write : Write) (is : Made) (so : Wrote before space write is) → IsSound before → IsWellFormed write
     → length (row_body_text (row_with space write (key_array so.key))) ≤ max_body_size → IsOfType (row_with space write (key_array so.key))
@@ -74,10 +73,10 @@ module _ (before : State) (space : ℕ) (write : Write) (is : Made) where
           let left : ◌≡◌ {A = Option Row} None (Some (row_with space write (key_array so.key))) = sym none ∙ ap (λ (m : Made). m.row) is_so in
           absurd cc
 
-  -- the row is of the write's space, which describes no spaces and no indexes
-  pub writes_elsewhere : (row : Row) → (judged_write Client before space write).outcome ≡ Ok is → is.row ≡ Some row → (describes_schema space ≡ false) × (row.space.0 ≡ space)
-  writes_elsewhere row e left =
+  -- the row is of the write's space
+  pub row_of_space : (row : Row) → (judged_write Client before space write).outcome ≡ Ok is → is.row ≡ Some row → row.space.0 ≡ space
+  row_of_space row e left =
       let so = wrote_row Client before space is write row e left in
       let is_so = (makes space write so.key so.tuple so.shown is so.made).1 in
       let same : row ≡ row_with space write (key_array so.key) = one_row row (row_with space write (key_array so.key)) is (ap (λ (m : Made). m.row) is_so) left in
-      (so.elsewhere, ap (λ (r : Row). r.space.0) same ∙ space_kept space write (key_array so.key))
+      ap (λ (r : Row). r.space.0) same ∙ space_kept space write (key_array so.key)

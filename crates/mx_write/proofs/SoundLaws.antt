@@ -1,62 +1,164 @@
 -- A state stays sound where a write changes it, and the tuple of the write is bytes.
-use Rattle.std.proofs.Common.{◌≡◌, ◌⊎◌, inl, inr, ℕ, Bool, true, false, List, Option, Some, None, Ok, refl, sym, subst}
-use Rattle.std.specs.Prelude.{IfSome, ◌==◌, ◌||◌}
-use Rattle.std.specs.FinMap.{insert, remove}
+use Rattle.std.proofs.lemmas.Bool.Decides.{nat_tests}
+use Rattle.std.proofs.Common.{arith, ◌≡◌, ◌⊎◌, inl, inr, ℕ, Bool, true, false, List, Option, Some, None, Ok, refl, sym, subst, eqb-true}
+use Rattle.std.specs.Prelude.{IfSome, ◌==◌, ◌&&◌, if◌then◌else◌}
+use Rattle.std.specs.FinMap.{empty, insert, remove}
 use Rattle.mx_key.specs.Keys.{Key, AreFit}
 use Rattle.mx_key.proofs.TupleFitLaws.{tuple_key_fits}
 use Rattle.mx_schema.specs.declared.index_def.IndexDef.{IndexDef}
-use Rattle.mx_schema.specs.declared.schema.Schema.{Schema}
-use Rattle.mx_schema.specs.Catalogues.{index_with, schema_of}
+use Rattle.mx_schema.specs.declared.index_def.IndexRow.{IndexRow}
+use Rattle.mx_schema.specs.Catalogues.{StandByKey, schema_of}
+use Rattle.mx_schema.specs.SchemaChanges.{without_index}
 use Rattle.mx_schema.specs.Sound.{AreKeyed, IsSound}
 use Rattle.mx_schema.specs.State.{State, Tuples, index_rows, key_in, space_rows, tuples_in}
+use Rattle.mx_schema.proofs.AloneLaws.{indexed_left, indexed_put}
+use Rattle.mx_schema.proofs.DescribedLaws.{its_keyed}
+use Rattle.mx_schema.proofs.KeyedLaws.{two_key}
 use Rattle.mx_schema.proofs.SoundLaws.{sound_key, sound_set}
+use Rattle.mx_schema.proofs.SoundRowLaws.{index_added, last_index_dropped, other_index_dropped, space_added, space_dropped}
 use Rattle.mx_schema.proofs.StateLaws.{stands_after, stands_left}
 use Rattle.mx_schema.proofs.StoredLaws.{each_put}
 use Rattle.mx_schema.proofs.TakenLaws.{each_left}
 use Rattle.mx_write.specs.declared.writable.Writer.{Writer}
-use Rattle.mx_write.specs.Change.{state_after_changed, state_with}
+use Rattle.mx_write.specs.Change.{state_after_change, state_after_changed, state_with}
+use Rattle.mx_write.specs.Descriptions.{index_named_by, space_named_by}
+use Rattle.mx_write.specs.Installs.{MayChange}
 use Rattle.mx_write.specs.Judge.{judged_write}
 use Rattle.mx_write.specs.Made.{Made, nothing}
-use Rattle.mx_write.specs.Writable.{describes_schema}
 use Rattle.mx_write.specs.Writes.{HasBytes, Write, Insert, Replace, Update, Delete, Upsert}
-use Rattle.mx_write.proofs.WrittenLaws.{IsKeyOfWrite, Wrote, makes, wrote}
+use Rattle.mx_write.proofs.CheckedLaws.{all_take}
+use Rattle.mx_write.proofs.DescriptionLaws.{DroppedIndex, added_index, added_space, dropped_index, dropped_space}
+use Rattle.mx_write.proofs.WrittenLaws.{Wrote, makes, wrote}
 
--- the key of a write has numbers of 64 bits
-module _ (before : State) (space : ℕ) (schema : Schema) (primary : IndexDef) (key : Key) (sound : IsSound before) (described : schema_of before space ≡ Some schema)
-    (there : index_with 0 schema.indexes ≡ Some primary) where
-  write_key_fits : (write : Write) → HasBytes write → IsKeyOfWrite before space primary write key → AreFit key
-  write_key_fits (Insert tuple) bytes is = tuple_key_fits primary.key tuple key bytes is
-  write_key_fits (Replace tuple) bytes is = tuple_key_fits primary.key tuple key bytes is
-  write_key_fits (Update index base asked operations) bytes (old, stands) = (sound_key before space schema primary key old sound described there stands).1
-  write_key_fits (Delete index asked) bytes (old, stands) = (sound_key before space schema primary key old sound described there stands).1
-  write_key_fits (Upsert base tuple operations) bytes is = tuple_key_fits primary.key tuple key bytes is
+-- ---- one change
 
-  -- one tuple more or less leaves each under its key
-  keyed_after : (tuple : Option (List ℕ)) → AreFit key → IfSome tuple (λ (put : List ℕ). key_in primary.key put ≡ Ok key) → (describes_schema space ≡ false)
-      → IsSound (state_with before space key tuple)
-  keyed_after tuple fit has elsewhere = by_tuple tuple has
+module _ (before : State) (sound : IsSound before) where
+  module _ (space : ℕ) (key : Key) (fit : AreFit key) where
+    -- the space's tuples after it
+    abbrev tuples_after : Option (List ℕ) → Tuples
+    tuples_after None = remove (tuples_in before space) key
+    tuples_after (Some put) = insert (tuples_in before space) key put
+
+    keyed_after : (tuple : Option (List ℕ)) (changes : MayChange before space key tuple) → AreKeyed (Some changes.schema) (tuples_after tuple)
+    keyed_after None changes =
+        let was = its_keyed before sound space changes.schema changes.described in (
+          stands_left changes.schema (tuples_in before space) key was.0,
+          each_left key (λ row. AreFit row.0) (tuples_in before space) was.1,
+          indexed_left changes.schema (tuples_in before space) key was.2,
+        )
+    keyed_after (Some put) changes =
+        let was = its_keyed before sound space changes.schema changes.described in
+        let stands : StandByKey changes.primary.key (tuples_in before space) =
+        subst (λ (o : Option IndexDef). IfSome o (λ def. StandByKey def.key (tuples_in before space))) changes.there was.0 in (
+          stands_after changes.schema (tuples_in before space) key put
+              (subst (λ (o : Option IndexDef). IfSome o (λ def. key_in def.key put ≡ Ok key)) (sym changes.there) changes.fits.own) was.0,
+          each_put (λ row. AreFit row.0) (tuples_in before space) key put fit was.1,
+          indexed_put (tuples_in before space) key put changes.schema changes.primary changes.there was.2
+              (all_take before space changes.schema changes.primary changes.there stands key put changes.fits.own changes.schema.indexes was.2.apart was.2.have was.2.unique
+              changes.fits.keyed changes.fits.free),
+        )
+
+    -- as the state describes it
+    pub keyed_so : (tuple : Option (List ℕ)) (changes : MayChange before space key tuple) → AreKeyed (schema_of before space) (tuples_after tuple)
+    keyed_so tuple changes = subst (λ s. AreKeyed s (tuples_after tuple)) (sym changes.described) (keyed_after tuple changes)
+
+    -- in a space that describes nothing
+    plain_sound : (tuple : Option (List ℕ)) → MayChange before space key tuple → (space == space_rows) ≡ false → (space == index_rows) ≡ false
+        → IsSound (state_after_change before (record { space = space; key = key; tuple = tuple }))
+    plain_sound None changes no_space no_index =
+        subst (λ b. IsSound (state_with (if b && true then without_index before (space_named_by key) (index_named_by key) else before) space key None)) (sym no_index)
+        (sound_set before space (tuples_after None) no_space no_index sound (keyed_so None changes))
+    plain_sound (Some put) changes no_space no_index =
+        subst (λ b. IsSound (state_with (if b && false then without_index before (space_named_by key) (index_named_by key) else before) space key (Some put))) (sym no_index)
+        (sound_set before space (tuples_after (Some put)) no_space no_index sound (keyed_so (Some put) changes))
+
+  -- in the two spaces whose rows describe others
+
+  space_put_sound : (key : Key) (row : List ℕ) → AreFit key → MayChange before space_rows key (Some row)
+      → IsSound (state_after_change before (record { space = space_rows; key = key; tuple = Some row }))
+  space_put_sound key row fit changes =
+      let (def, new) = added_space before sound key row changes in
+      subst (λ k. IsSound (state_with before space_rows k (Some row))) (sym new.same)
+      (space_added before sound row def new.is new.high new.absent
+      (subst (λ k. AreKeyed (schema_of before space_rows) (insert (tuples_in before space_rows) k row)) new.same (keyed_so space_rows key fit (Some row) changes)))
+
+  space_removed_sound : (key : Key) → AreFit key → MayChange before space_rows key None → IsSound (state_after_change before (record { space = space_rows; key = key; tuple = None }))
+  space_removed_sound key fit changes =
+      let (row, def, old) = dropped_space before sound key changes in
+      subst (λ k. IsSound (state_with before space_rows k None)) (sym old.same)
+      (space_dropped before sound def.id.0 old.high old.without old.no_tuples
+      (subst (λ k. AreKeyed (schema_of before space_rows) (remove (tuples_in before space_rows) k)) old.same (keyed_so space_rows key fit None changes)))
+
+  index_put_sound : (key : Key) (row : List ℕ) → AreFit key → MayChange before index_rows key (Some row)
+      → IsSound (state_after_change before (record { space = index_rows; key = key; tuple = Some row }))
+  index_put_sound key row fit changes =
+      let (index, new) = added_index before sound key row changes in
+      subst (λ k. IsSound (state_with before index_rows k (Some row))) (sym new.same)
+      (index_added before sound row index new.schema new.is new.high new.there new.no_row new.no_index new.first new.have new.alone
+      (subst (λ k. AreKeyed (schema_of before index_rows) (insert (tuples_in before index_rows) k row)) new.same (keyed_so index_rows key fit (Some row) changes)))
+
+  index_removed_sound : (key : Key) → AreFit key → MayChange before index_rows key None → IsSound (state_after_change before (record { space = index_rows; key = key; tuple = None }))
+  index_removed_sound key fit changes =
+      let (row, index, old) = dropped_index before sound key changes in
+      subst (λ k. IsSound (after k)) (sym old.same)
+      (by_number row index old (subst (λ k. AreKeyed (schema_of before index_rows) (remove (tuples_in before index_rows) k)) old.same (keyed_so index_rows key fit None changes))
+      (index.def.id.0 == 0) refl)
     where
-      was : AreKeyed (Some schema) (tuples_in before space)
-      was = subst (λ s. AreKeyed s (tuples_in before space)) described (sound space)
+      after : Key → State
+      after k = state_after_change before (record { space = index_rows; key = k; tuple = None })
 
-      by_test : (one other : Bool) → (one || other) ≡ false → (one ≡ false) × (other ≡ false)
-      by_test true other e = absurd cc
-      by_test false other e = (refl, e)
+      turned : (n : ℕ) → (n == 0) ≡ false → (0 == n) ≡ false
+      turned n e = grind (arith, nat_tests)
 
-      set : (all : Tuples) → AreKeyed (Some schema) all → IsSound (insert before space all)
-      set all keyed =
-          let apart = by_test (space == space_rows) (space == index_rows) elsewhere in
-          sound_set before space all apart.0 apart.1 sound (subst (λ s. AreKeyed s all) (sym described) keyed)
+      by_number : (row : List ℕ) (index : IndexRow) (old : DroppedIndex before key row index)
+          → AreKeyed (schema_of before index_rows) (remove (tuples_in before index_rows) (two_key index.space.0 index.def.id.0)) → (b : Bool)
+          → (index.def.id.0 == 0) ≡ b → IsSound (after (two_key index.space.0 index.def.id.0))
+      by_number row index old keyed true zero =
+          let is_zero : index.def.id.0 ≡ 0 = eqb-true index.def.id.0 0 zero in
+          subst (λ n. IsSound (after (two_key index.space.0 n))) (sym is_zero)
+          (last_index_dropped before index.space.0 old.schema sound old.high old.there (old.last is_zero)
+          (subst (λ n. AreKeyed (schema_of before index_rows) (remove (tuples_in before index_rows) (two_key index.space.0 n))) is_zero keyed))
+      by_number row index old keyed false other =
+          subst (λ b. IsSound (state_with (if b then insert before index.space.0 empty else before) index_rows (two_key index.space.0 index.def.id.0) None)) (sym other)
+          (other_index_dropped before sound index.space.0 index.def.id.0 old.schema old.high old.there (turned index.def.id.0 other) keyed)
 
-      by_tuple : (tuple : Option (List ℕ)) → IfSome tuple (λ (put : List ℕ). key_in primary.key put ≡ Ok key) → IsSound (state_with before space key tuple)
-      by_tuple None has =
-          set (remove (tuples_in before space) key)
-          (stands_left schema (tuples_in before space) key was.0, each_left key (λ entry. AreFit entry.0) (tuples_in before space) was.1)
-      by_tuple (Some put) has =
-          set (insert (tuples_in before space) key put) (
-            stands_after schema (tuples_in before space) key put (subst (λ (o : Option IndexDef). IfSome o (λ def. key_in def.key put ≡ Ok key)) (sym there) has) was.0,
-            each_put (λ entry. AreFit entry.0) (tuples_in before space) key put fit was.1,
-          )
+  -- ---- any space
+
+  pub change_sound : (space : ℕ) (key : Key) (tuple : Option (List ℕ)) → AreFit key → MayChange before space key tuple
+      → IsSound (state_after_change before (record { space = space; key = key; tuple = tuple }))
+  change_sound space key tuple fit changes = by_tests (space == space_rows) refl (space == index_rows) refl
+    where
+      of_spaces : (tuple : Option (List ℕ)) → MayChange before space_rows key tuple → IsSound (state_after_change before (record { space = space_rows; key = key; tuple = tuple }))
+      of_spaces None changes = space_removed_sound key fit changes
+      of_spaces (Some row) changes = space_put_sound key row fit changes
+
+      of_indexes : (tuple : Option (List ℕ)) → MayChange before index_rows key tuple → IsSound (state_after_change before (record { space = index_rows; key = key; tuple = tuple }))
+      of_indexes None changes = index_removed_sound key fit changes
+      of_indexes (Some row) changes = index_put_sound key row fit changes
+
+      by_tests : (spaces : Bool) → (space == space_rows) ≡ spaces → (indexes : Bool) → (space == index_rows) ≡ indexes
+          → IsSound (state_after_change before (record { space = space; key = key; tuple = tuple }))
+      by_tests true is indexes other =
+          let same = eqb-true space space_rows is in
+          subst (λ n. IsSound (state_after_change before (record { space = n; key = key; tuple = tuple }))) (sym same)
+          (of_spaces tuple (subst (λ n. MayChange before n key tuple) same changes))
+      by_tests false apart true is =
+          let same = eqb-true space index_rows is in
+          subst (λ n. IsSound (state_after_change before (record { space = n; key = key; tuple = tuple }))) (sym same)
+          (of_indexes tuple (subst (λ n. MayChange before n key tuple) same changes))
+      by_tests false apart false other = plain_sound space key fit tuple changes apart other
+
+  -- ---- a write
+
+  -- the key of a write has numbers of 64 bits
+  write_key_fits : (space : ℕ) (write : Write) (is : Made) (so : Wrote before space write is) → HasBytes write → AreFit so.key
+  write_key_fits space (Insert tuple) is so bytes = tuple_key_fits so.changes.primary.key tuple so.key bytes so.key_is
+  write_key_fits space (Replace tuple) is so bytes = tuple_key_fits so.changes.primary.key tuple so.key bytes so.key_is
+  write_key_fits space (Update index base asked operations) is so bytes =
+      (sound_key before space so.changes.schema so.changes.primary so.key so.key_is.0 sound so.changes.described so.changes.there so.key_is.1).1
+  write_key_fits space (Delete index asked) is so bytes =
+      (sound_key before space so.changes.schema so.changes.primary so.key so.key_is.0 sound so.changes.described so.changes.there so.key_is.1).1
+  write_key_fits space (Upsert base tuple operations) is so bytes = tuple_key_fits so.changes.primary.key tuple so.key bytes so.key_is
 
 -- so a write of bytes keeps a state sound
 pub stays_sound : (writer : Writer) (before : State) (space : ℕ) (write : Write) (is : Made) → IsSound before → HasBytes write
@@ -67,6 +169,5 @@ stays_sound writer before space write is sound bytes e = by_case (wrote writer b
     by_case (inl none) = subst (λ (m : Made). IsSound (state_after_changed before m.change)) (sym none) sound
     by_case (inr so) =
         let is_so = (makes space write so.key so.tuple so.shown is so.made).1 in
-        let fit = write_key_fits before space so.schema so.primary so.key sound so.described so.there write bytes so.key_is in
         subst (λ (m : Made). IsSound (state_after_changed before m.change)) (sym is_so)
-        (keyed_after before space so.schema so.primary so.key sound so.described so.there so.tuple fit so.has so.elsewhere)
+        (change_sound before sound space so.key so.tuple (write_key_fits before sound space write is so bytes) so.changes)

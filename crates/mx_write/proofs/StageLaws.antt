@@ -1,5 +1,5 @@
 -- How a write goes on from stage to stage, and where it ends.
-use Rattle.std.proofs.Common.{◌≡◌, ◌⊎◌, ℕ, inl, inr, List, Option, Some, None, Result, Ok, Err, refl, sym, ap, ◌∙◌, subst}
+use Rattle.std.proofs.Common.{◌≡◌, ◌⊎◌, ℕ, inl, inr, Option, Some, None, Result, Ok, Err, refl, sym, ap, ◌∙◌, subst}
 use Rattle.mx_base.specs.declared.refusal.Refusal.{Refusal}
 use Rattle.mx_base.specs.declared.refusal.Refusal.TheVariants.{OutOfMemory}
 use Rattle.mx_base.specs.declared.ids.IndexId.{IndexId}
@@ -8,8 +8,12 @@ use Rattle.mx_base.specs.declared.refusal.Refusal.TheVariants.{IndexMissing, Spa
 use Rattle.mx_schema.specs.declared.index_def.IndexDef.{IndexDef}
 use Rattle.mx_schema.specs.declared.schema.Schema.{Schema}
 use Rattle.mx_schema.specs.Catalogues.{index_with, schema_of}
-use Rattle.mx_schema.specs.State.{State, Tuples, tuples_in}
-use Rattle.mx_schema.specs.Stored.{Holds, StoredTuple, StoresSpace}
+use Rattle.mx_schema.specs.State.{State, tuples_in}
+use Rattle.mx_space.specs.Kept.{StoresIndexed}
+use Rattle.mx_space.specs.declared.space.Space.{Space}
+use Rattle.mx_space.specs.declared.state.State as coded
+use Rattle.mx_space.specs.Spaces.{space_under}
+use Rattle.mx_space.specs.Stored.{Holds, HoldsSpace}
 use Rattle.mx_write.specs.declared.made.Made as code
 use Rattle.mx_write.specs.declared.scope.Target.{Target}
 use Rattle.mx_write.specs.Lookup.{the_index, the_space}
@@ -104,18 +108,20 @@ module _ (space : ℕ) (schema : Schema) (index : IndexId) where
 
 -- ---- a space as the code has it
 
--- by what describes it, which stands in its table
-pub stores_by : (described : Option Schema) (one other : Schema) (kept : List StoredTuple) (tuples : Tuples) → other ≡ one
-    → StoresSpace described one kept tuples → StoresSpace described other kept tuples
-stores_by described one other kept tuples same = subst (λ s. StoresSpace described s kept tuples) (sym same)
+-- a space that memory has is stored with its indexes
+pub space_stored : (before : State) (memory : coded.State) (id : ℕ) (found : Option Space) (space : Space) → Holds memory before
+    → found ≡ space_under id memory.spaces.entries.items → found ≡ Some space → StoresIndexed (schema_of before id) space (tuples_in before id)
+space_stored before memory id found space holds is there =
+    subst (λ o. HoldsSpace (schema_of before id) o (tuples_in before id)) (sym is ∙ there) (holds.spaces id)
 
 -- a space that was found, with its primary index
 pub is_target : (before : State) (target : Target) → Holds target.scope.state.now before
-    → StoresSpace (schema_of before target.scope.space.0) target.table.now.schema target.table.now.tuples.entries (tuples_in before target.scope.space.0)
-    → target.schema.now ≡ target.table.now.schema → index_with 0 target.schema.now.indexes ≡ Some target.primary.now → IsTarget before target
+    → StoresIndexed (schema_of before target.scope.space.0) target.stored.now (tuples_in before target.scope.space.0)
+    → target.schema.now ≡ target.stored.now.schema → index_with 0 target.schema.now.indexes ≡ Some target.primary.now → IsTarget before target
 is_target before target holds stored same there = record {
   holds = holds;
-  stored = stores_by _ _ _ _ _ same stored;
+  stored = stored;
+  schema = same;
   primary = there;
 }
 

@@ -1,5 +1,5 @@
 -- Whether a tuple is another one, and whether an index is free, as the code tests it.
-use Rattle.std.proofs.Common.{◌≡◌, ℕ, Bool, true, false, not, List, [], ◌∷◌, Option, Some, None, Ok, Err, refl, sym, ap, ◌∙◌, subst}
+use Rattle.std.proofs.Common.{◌≡◌, ℕ, Bool, true, false, not, List, [], ◌∷◌, Option, Some, None, Result, Ok, Err, refl, sym, ap, ◌∙◌, subst}
 use Rattle.std.specs.Prelude.{◌==◌, ◌||◌, if◌then◌else◌}
 use Rattle.std.specs.FinMap.{get}
 use Rattle.std.specs.Ordering.{is_eq}
@@ -18,7 +18,7 @@ use Rattle.mx_schema.proofs.StoredLaws.{primary_index}
 use Rattle.mx_write.specs.Judged.{Judged, next_stage, unless}
 use Rattle.mx_write.specs.Lookup.{holder_of, own_key}
 use Rattle.mx_write.specs.Steps.{IsReplaced, refusal_of}
-use Rattle.mx_write.specs.Unique.{are_free, duplicate, is_another, is_free, is_free_if_unique, is_same_key}
+use Rattle.mx_write.specs.Unique.{are_free, duplicate, duplicate_refusal, held_refusal, is_another, is_free, is_free_if_unique, is_same_key}
 
 -- two keys are one where their bytes are
 pub same_by_bytes : (one other : Key) → AreFit one → AreFit other → is_same_key one other ≡ bytes_eq (comparable_of one) (comparable_of other)
@@ -77,23 +77,45 @@ module _ (before : State) (space : ℕ) (schema : Schema) (primary : IndexDef) (
   by_unique unique = if unique then is_free before space schema primary None tuple primary else record { reads = []; outcome = Ok tt }
 
   -- an INSERT tests it first
-  tested_first : (is_free_if_unique before space schema primary None tuple primary).outcome ≡ (is_free before space schema primary None tuple primary).outcome
+  pub tested_first : (is_free_if_unique before space schema primary None tuple primary).outcome ≡ (is_free before space schema primary None tuple primary).outcome
   tested_first = ap (λ b. (by_unique (b || primary.unique)).outcome) (number_is 0 schema.indexes primary is)
 
-  pub key_is_taken : (why : Refusal) (old : List ℕ) → get (tuples_in before space) (own_key primary tuple) ≡ Some old → Some why ≡ duplicate schema primary true
+  abbrev by_holder : (holder : Option (List ℕ)) → Result (Unit {0}) Refusal
+  by_holder holder = (unless (held_refusal before space schema primary None tuple primary holder)).outcome
+
+  pub key_is_taken : (why : Refusal) (old : List ℕ) → get (tuples_in before space) (own_key primary tuple) ≡ Some old → why ≡ duplicate_refusal space schema primary (Some old)
       → (others : List IndexDef) → Some why ≡ refusal_of (are_free before space schema primary None tuple (primary ∷ others)).outcome
   key_is_taken why old there told others =
-      let held : is_another primary None (holder_of before space primary (own_key primary tuple)) ≡ true =
-      ap (is_another primary None) (holder_is (own_key primary tuple) ∙ there) in
       let refuses : (is_free_if_unique before space schema primary None tuple primary).outcome ≡ Err why =
-      tested_first ∙ ap (λ b. (unless (duplicate schema primary b)).outcome) held ∙ ap (λ r. (unless r).outcome) (sym told) in
+      tested_first ∙ ap by_holder (holder_is (own_key primary tuple) ∙ there) ∙ ap (λ r. Err r) (sym told) in
       ap (λ outcome. refusal_of (next_stage (is_free_if_unique before space schema primary None tuple primary).reads outcome (λ _. are_free before space schema primary None tuple others)).outcome) (sym refuses)
 
   pub key_is_free : get (tuples_in before space) (own_key primary tuple) ≡ None → (others : List IndexDef)
       → refusal_of (are_free before space schema primary None tuple (primary ∷ others)).outcome ≡ refusal_of (are_free before space schema primary None tuple others).outcome
   key_is_free none others =
-      let held : is_another primary None (holder_of before space primary (own_key primary tuple)) ≡ false =
-      ap (is_another primary None) (holder_is (own_key primary tuple) ∙ none) in
       let passes : (is_free_if_unique before space schema primary None tuple primary).outcome ≡ Ok tt =
-      tested_first ∙ ap (λ b. (unless (duplicate schema primary b)).outcome) held in
+      tested_first ∙ ap by_holder (holder_is (own_key primary tuple) ∙ none) in
       ap (λ outcome. refusal_of (next_stage (is_free_if_unique before space schema primary None tuple primary).reads outcome (λ _. are_free before space schema primary None tuple others)).outcome) passes
+
+-- ---- another index
+
+-- the code's answer is what the definition says, by the tuple that was found
+module _ (before : State) (space : ℕ) (schema : Schema) (primary : IndexDef) (key : Option Key) (tuple : List ℕ) (def : IndexDef) where
+  unless_is : (fault : Option Refusal) → fault ≡ refusal_of (unless fault).outcome
+  unless_is None = refl
+  unless_is (Some why) = refl
+
+  pub free_by : (told : Option Refusal) (holder : Option (List ℕ)) → holder ≡ holder_of before space def (own_key def tuple)
+      → told ≡ held_refusal before space schema primary key tuple def holder → told ≡ refusal_of (is_free before space schema primary key tuple def).outcome
+  free_by told holder is same =
+      same ∙ ap (held_refusal before space schema primary key tuple def) is ∙ unless_is (held_refusal before space schema primary key tuple def (holder_of before space def (own_key def tuple)))
+
+  pub none_held : None ≡ held_refusal before space schema primary key tuple def None
+  none_held = ap (duplicate space schema def None) (no_other primary None key refl)
+
+  pub held_by_same : (held : List ℕ) (is : Bool) → is ≡ is_another primary key (Some held) → is ≡ false → None ≡ held_refusal before space schema primary key tuple def (Some held)
+  held_by_same held is told same = ap (duplicate space schema def (Some held)) (sym same ∙ told)
+
+  pub held_by_another : (held : List ℕ) (is : Bool) (why : Refusal) → is ≡ is_another primary key (Some held) → is ≡ true → why ≡ duplicate_refusal space schema def (Some held)
+      → Some why ≡ held_refusal before space schema primary key tuple def (Some held)
+  held_by_another held is why told yes_is refused = ap (λ w. Some w) refused ∙ ap (duplicate space schema def (Some held)) (sym yes_is ∙ told)

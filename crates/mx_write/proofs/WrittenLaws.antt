@@ -1,11 +1,12 @@
 -- What a write that changes something came by: its space and the primary index, and the key that it changed.
 use Rattle.std.proofs.Common.{◌≡◌, ◌⊎◌, inl, inr, ℕ, ◌≤◌, Bool, true, false, List, [], ◌∷◌, length, Option, Some, None, Result, Ok, Err, refl, sym, ap, ◌∙◌}
-use Rattle.std.specs.Prelude.{IfSome, nat_lt, ◌||◌, ◌==◌, if◌then◌else◌}
+use Rattle.std.specs.Prelude.{nat_lt, ◌||◌, ◌==◌, if◌then◌else◌}
 use Rattle.std.specs.Ordering.{is_eq}
 use Rattle.std.specs.declared.cmp.Ordering.{Ordering}
 use Rattle.std.specs.declared.cmp.Ordering.TheVariants.{Less, Equal, Greater}
 use Rattle.std.proofs.lemmas.Bool.{ltb-false}
-use Rattle.std.specs.Option.{option_map}
+use Rattle.std.specs.FinMap.{get}
+use Rattle.std.specs.Option.{IfNone}
 use Rattle.mx_base.specs.declared.kinds.Unsupported.TheVariants.{SchemaInPlace, SystemSpaceWrite}
 use Rattle.mx_base.specs.declared.refusal.Refusal.{Refusal}
 use Rattle.mx_base.specs.declared.refusal.Refusal.TheVariants.{IndexMissing, PrimaryKeyChanged, SpaceMissing, TransactionTooLong, TupleTooLong, Unsupported}
@@ -13,6 +14,7 @@ use Rattle.mx_key.specs.declared.fault.NoKey.{NoKey}
 use Rattle.mx_key.specs.Arrays.{key_array}
 use Rattle.mx_key.specs.Keys.{Key, key_cmp}
 use Rattle.mx_key.proofs.KeyLaws.{key_cmp-IsAntisymmetric}
+use Rattle.mx_msgpack.specs.Items.{items_of}
 use Rattle.mx_msgpack.proofs.Options.{mapped_some}
 use Rattle.mx_row.specs.declared.row.Row.{Row}
 use Rattle.mx_row.specs.Rows.{delete_type, insert_type, max_body_size, replace_type, row_body_text, update_type, upsert_type}
@@ -21,7 +23,7 @@ use Rattle.mx_schema.specs.declared.schema.Schema.{Schema}
 use Rattle.mx_schema.specs.Bootstrap.{settings}
 use Rattle.mx_schema.specs.Catalogues.{index_with, schema_of}
 use Rattle.mx_schema.specs.Picks.{Indexed}
-use Rattle.mx_schema.specs.State.{State, key_in, key_or_none}
+use Rattle.mx_schema.specs.State.{State, key_in, key_or_none, tuples_in}
 use Rattle.mx_tuple.specs.declared.checking.FieldFault.{FieldFault}
 use Rattle.mx_tuple.specs.Fields.{max_tuple_size, tuple_of}
 use Rattle.mx_tuple.specs.Formats.{checked}
@@ -29,68 +31,89 @@ use Rattle.mx_update.specs.Updates.{updated, upserted}
 use Rattle.mx_write.specs.declared.writable.Writer.{Writer}
 use Rattle.mx_write.specs.Checks.{format_fault, key_fault, keys_fault, tuple_fault}
 use Rattle.mx_write.specs.Delete.{delete_found, deletes}
+use Rattle.mx_write.specs.Descriptions.{description_fault, drop_fault, new_index_fault}
+use Rattle.mx_write.specs.Installs.{MayChange, Fits}
 use Rattle.mx_write.specs.Insert.{inserts}
 use Rattle.mx_write.specs.Judge.{judged_write}
 use Rattle.mx_write.specs.Judged.{Judged, found, judged_as, reads_of, stopped, unless, ◌>>=◌}
-use Rattle.mx_write.specs.Lookup.{all_indexes, entry_under, entry_with, other_indexes, own_key, primary_key_with, the_index, the_key, the_primary, the_space, the_unique_index, tuple_under}
+use Rattle.mx_write.specs.Lookup.{all_indexes, holder_of, is_unique, entry_under, entry_with, other_indexes, own_key, primary_key_with, the_index, the_key, the_primary, the_space, the_unique_index, tuple_under}
 use Rattle.mx_write.specs.Made.{Made, made, nothing, row_with}
 use Rattle.mx_write.specs.Reads.{key_read}
 use Rattle.mx_write.specs.Replace.{replaces}
-use Rattle.mx_write.specs.Unique.{are_free, is_same_key}
+use Rattle.mx_write.specs.Unique.{are_free, held_refusal, is_free, is_free_if_unique, is_same_key}
 use Rattle.mx_write.specs.Update.{key_change, put_in_place, the_operations, tuple_or_refusal, update_found, updates}
 use Rattle.mx_write.specs.Upsert.{upsert_found, upserts}
-use Rattle.mx_write.specs.Writable.{described_refusal, describes_schema, found_name, is_read_only, leader_refusal, primary_name, write_refusal}
+use Rattle.mx_write.specs.Writable.{begins_with_system_number, describes_schema, is_read_only, leader_refusal, own_row_refusal, primary_name, schema_refusal, write_refusal}
 use Rattle.mx_write.specs.Writes.{Write, Insert, Replace, Update, Delete, Upsert}
-use Rattle.mx_write.proofs.StageLaws.{came_by, passed_so, was_found}
+use Rattle.mx_write.proofs.StageLaws.{came_by, goes_on, passed_so, was_found}
+use Rattle.mx_write.proofs.UniqueLaws.{holder_is, tested_first}
 
 -- ---- single stages
 
--- what can be written, where it is known, describes no space and no index
-pub no_schema : (writer : Writer) (space type : ℕ) (named : List ℕ) → write_refusal writer space type (Some named) ≡ None → describes_schema space ≡ false
-no_schema writer space type named =
-    by_test (describes_schema space) ((type == insert_type) || (type == delete_type))
-    (if is_read_only space then Some (Unsupported SystemSpaceWrite) else if space == settings then leader_refusal writer (Some named) else None)
-  where
-    by_test : (b rows : Bool) (otherwise : Option Refusal)
-        → (if b then (if rows then option_map (described_refusal type) (Some named) else Some (Unsupported SchemaInPlace)) else otherwise) ≡ None → b ≡ false
-    by_test true true otherwise e = absurd cc
-    by_test true false otherwise e = absurd cc
-    by_test false rows otherwise e = refl
+-- what is refused nowhere else is so in the two spaces that describe spaces and indexes
+abbrev refusal_by : Writer → (space type : ℕ) → (named : Option (List ℕ)) → (describes : Bool) → Option Refusal
+refusal_by writer space type named describes =
+    if describes then schema_refusal type named
+    else if is_read_only space then Some (Unsupported SystemSpaceWrite)
+    else if space == settings then leader_refusal writer named
+    else None
 
--- it is known by its primary key, or once it is found
-pub no_schema_found : (writer : Writer) (space type index : ℕ) (key old : List ℕ) → write_refusal writer space type (primary_name index key) ≡ None
-    → write_refusal writer space type (found_name index old) ≡ None → describes_schema space ≡ false
-no_schema_found writer space type index key old = by_index (index == 0)
+-- a write in place describes no space and no index
+pub in_place_elsewhere : (writer : Writer) (space type : ℕ) (named : Option (List ℕ)) → ((type == insert_type) || (type == delete_type)) ≡ false
+    → write_refusal writer space type named ≡ None → describes_schema space ≡ false
+in_place_elsewhere writer space type named in_place = by_test (describes_schema space)
   where
-    by_index : (primary : Bool) → write_refusal writer space type (if primary then Some key else None) ≡ None
-        → write_refusal writer space type (if primary then None else Some old) ≡ None → describes_schema space ≡ false
-    by_index true writable found = no_schema writer space type key writable
-    by_index false writable found = no_schema writer space type old found
+    by_rows : (rows : Bool) → rows ≡ false → (if rows then own_row_refusal named else Some (Unsupported SchemaInPlace)) ≡ None → ⊥
+    by_rows true e none = absurd cc
+    by_rows false e none = absurd cc
 
--- a tuple that a space takes has its primary key
-pub takes_key : (schema : Schema) (primary : IndexDef) (tuple : List ℕ) → tuple_fault schema primary tuple ≡ None → key_in primary.key tuple ≡ Ok (own_key primary tuple)
-takes_key schema primary tuple = by_size (nat_lt max_tuple_size (length tuple))
+    by_test : (b : Bool) → refusal_by writer space type named b ≡ None → b ≡ false
+    by_test true e = absurd (by_rows ((type == insert_type) || (type == delete_type)) in_place e)
+    by_test false e = refl
+
+-- a row that is added or taken out is a user's
+pub of_users : (writer : Writer) (space type : ℕ) (row : List ℕ) → describes_schema space ≡ true → write_refusal writer space type (Some row) ≡ None
+    → begins_with_system_number (items_of row) ≡ false
+of_users writer space type row describes e =
+    by_rows ((type == insert_type) || (type == delete_type)) (ap (refusal_by writer space type (Some row)) (sym describes) ∙ e)
+  where
+    by_number : (own : Bool) → (if own then Some (Unsupported SystemSpaceWrite) else None) ≡ None → own ≡ false
+    by_number true e = absurd cc
+    by_number false e = refl
+
+    by_rows : (rows : Bool) → (if rows then own_row_refusal (Some row) else Some (Unsupported SchemaInPlace)) ≡ None → begins_with_system_number (items_of row) ≡ false
+    by_rows true e = by_number (begins_with_system_number (items_of row)) e
+    by_rows false e = absurd cc
+
+-- a tuple that a space takes has its primary key, and a key in each other index
+pub takes_keys : (schema : Schema) (primary : IndexDef) (tuple : List ℕ) → tuple_fault schema primary tuple ≡ None
+    → (key_in primary.key tuple ≡ Ok (own_key primary tuple)) × (keys_fault (other_indexes schema.indexes) tuple ≡ None)
+takes_keys schema primary tuple = by_size (nat_lt max_tuple_size (length tuple))
   where
     others : Option Refusal
     others = keys_fault (other_indexes schema.indexes) tuple
 
-    by_key : (read : Result Key NoKey) → key_fault read others ≡ None → read ≡ Ok (key_or_none read)
-    by_key (Ok key) e = refl
+    by_key : (read : Result Key NoKey) → key_fault read others ≡ None → (read ≡ Ok (key_or_none read)) × (others ≡ None)
+    by_key (Ok key) e = (refl, e)
     by_key (Err why) e = absurd cc
 
-    by_format : (met : Result Unit FieldFault) → format_fault met (key_fault (key_in primary.key tuple) others) ≡ None → key_in primary.key tuple ≡ Ok (own_key primary tuple)
+    by_format : (met : Result Unit FieldFault) → format_fault met (key_fault (key_in primary.key tuple) others) ≡ None
+        → (key_in primary.key tuple ≡ Ok (own_key primary tuple)) × (others ≡ None)
     by_format (Ok met) e = by_key (key_in primary.key tuple) e
     by_format (Err why) e = absurd cc
 
     by_size : (long : Bool)
         → (if long then Some (TupleTooLong (length tuple)) else format_fault (checked schema.def.format (tuple_of tuple).fields) (key_fault (key_in primary.key tuple) others)) ≡ None
-        → key_in primary.key tuple ≡ Ok (own_key primary tuple)
+        → (key_in primary.key tuple ≡ Ok (own_key primary tuple)) × (others ≡ None)
     by_size true e = absurd cc
     by_size false e = by_format (checked schema.def.format (tuple_of tuple).fields) e
 
+pub takes_key : (schema : Schema) (primary : IndexDef) (tuple : List ℕ) → tuple_fault schema primary tuple ≡ None → key_in primary.key tuple ≡ Ok (own_key primary tuple)
+takes_key schema primary tuple e = (takes_keys schema primary tuple e).0
+
 -- keys that are the same one are equal
-same_key : (one other : Key) → is_same_key one other ≡ true → one ≡ other
-same_key one other same = by_order (key_cmp one other) refl same
+pub same_by_order : (one other : Key) → is_same_key one other ≡ true → one ≡ other
+same_by_order one other same = by_order (key_cmp one other) refl same
   where
     by_order : (o : Ordering) → key_cmp one other ≡ o → is_eq o ≡ true → one ≡ other
     by_order Less is e = absurd cc
@@ -101,7 +124,7 @@ key_stays : (schema : Schema) (one other : Key) → key_change schema one other 
 key_stays schema one other = by_test (is_same_key one other) refl
   where
     by_test : (b : Bool) → is_same_key one other ≡ b → (if b then None else Some (PrimaryKeyChanged schema.def.name)) ≡ None → one ≡ other
-    by_test true same e = same_key one other same
+    by_test true same e = same_by_order one other same
     by_test false other e = absurd cc
 
 -- a row that isn't too long
@@ -190,17 +213,63 @@ IsKeyOfWrite before space primary (Delete index asked) key = (old : List ℕ) ×
 IsKeyOfWrite before space primary (Upsert base tuple operations) key = key_in primary.key tuple ≡ Ok key
 
 pub record Wrote (before : State) (space : ℕ) (write : Write) (is : Made) : Type 0 where
-  pub schema : Schema
-  pub primary : IndexDef
   pub key : Key
   pub tuple : Option (List ℕ)
   pub shown : List (List ℕ)
-  pub elsewhere : describes_schema space ≡ false
-  pub described : schema_of before space ≡ Some schema
-  pub there : index_with 0 schema.indexes ≡ Some primary
-  pub key_is : IsKeyOfWrite before space primary write key
-  pub has : IfSome tuple (λ (put : List ℕ). key_in primary.key put ≡ Ok key)
+  pub changes : MayChange before space key tuple
+  pub key_is : IsKeyOfWrite before space changes.primary write key
+  pub shows : IfNone tuple ((old : List ℕ) × (tuple_under before space key ≡ Some old) × (shown ≡ old ∷ []))
   pub made : (made space write key tuple shown).outcome ≡ Ok is
+
+-- ---- a tuple that was put
+
+-- where no other tuple has its keys, none has them but the one in whose place it is put
+module _ (before : State) (space : ℕ) (schema : Schema) (primary : IndexDef) (key : Key) (tuple : List ℕ) where
+  free_still : (def : IndexDef) (is : Bool) → (if is then is_free before space schema primary None tuple def else found tt).outcome ≡ Ok tt
+      → (if is then is_free before space schema primary (Some key) tuple def else found tt).outcome ≡ Ok tt
+  free_still def false e = refl
+  free_still def true e = by_holder (holder_of before space def (own_key def tuple)) (passed_so _ tt e)
+    where
+      by_holder : (holder : Option (List ℕ)) → held_refusal before space schema primary None tuple def holder ≡ None
+          → (unless (held_refusal before space schema primary (Some key) tuple def holder)).outcome ≡ Ok tt
+      by_holder None e = refl
+      by_holder (Some held) e = absurd cc
+
+  -- also of some of the indexes
+  all_free_still : (defs : List IndexDef) → (are_free before space schema primary None tuple defs).outcome ≡ Ok tt
+      → (are_free before space schema primary (Some key) tuple defs).outcome ≡ Ok tt
+  all_free_still [] e = refl
+  all_free_still (def ∷ defs) e =
+      let (u, first, rest) = came_by (is_free_if_unique before space schema primary None tuple def) _ tt e in
+      goes_on (is_free_if_unique before space schema primary (Some key) tuple def) _ tt (free_still def (is_unique def) first) ∙ all_free_still defs rest
+
+  -- an INSERT finds the primary key free
+  first_free : index_with 0 schema.indexes ≡ Some primary → key_in primary.key tuple ≡ Ok key
+      → (is_free_if_unique before space schema primary None tuple primary).outcome ≡ Ok tt → get (tuples_in before space) key ≡ None
+  first_free there own e =
+      sym (holder_is before space schema primary tuple there key)
+      ∙ by_holder (holder_of before space primary key)
+      (ap (λ k. held_refusal before space schema primary None tuple primary (holder_of before space primary k)) (sym (ap key_or_none own))
+      ∙ passed_so _ tt (sym (tested_first before space schema primary tuple there) ∙ e))
+    where
+      by_holder : (holder : Option (List ℕ)) → held_refusal before space schema primary None tuple primary holder ≡ None → holder ≡ None
+      by_holder None e = refl
+      by_holder (Some held) e = absurd cc
+
+-- so it does where all indexes are free
+pub own_free : (before : State) (space : ℕ) (schema : Schema) (primary : IndexDef) (key : Key) (tuple : List ℕ) → index_with 0 schema.indexes ≡ Some primary
+    → key_in primary.key tuple ≡ Ok key → (are_free before space schema primary None tuple (all_indexes primary schema)).outcome ≡ Ok tt → get (tuples_in before space) key ≡ None
+own_free before space schema primary key tuple there own e =
+    let (u, first, rest) = came_by (is_free_if_unique before space schema primary None tuple primary) _ tt e in
+    first_free before space schema primary key tuple there own first
+
+-- a space that describes nothing, or the two that do
+pub by_space : {P : Type 0} (space : ℕ) → (describes_schema space ≡ false → P) → (describes_schema space ≡ true → P) → P
+by_space space elsewhere here = by_test (describes_schema space) refl elsewhere here
+  where
+    by_test : {P : Type 0} (b : Bool) → describes_schema space ≡ b → (describes_schema space ≡ false → P) → (describes_schema space ≡ true → P) → P
+    by_test true e elsewhere here = here e
+    by_test false e elsewhere here = elsewhere e
 
 module _ (writer : Writer) (before : State) (space : ℕ) (is : Made) where
   inserted : (tuple : List ℕ) → (inserts writer before space tuple).outcome ≡ Ok is → Wrote before space (Insert tuple) is
@@ -210,20 +279,36 @@ module _ (writer : Writer) (before : State) (space : ℕ) (is : Made) where
       let (u2, e2, r2) = came_by (unless (write_refusal writer space insert_type (Some tuple))) _ is r1 in
       let (primary, e3, r3) = came_by (the_index space schema 0) _ is r2 in
       let (u4, e4, r4) = came_by (unless (tuple_fault schema primary tuple)) _ is r3 in
-      let (u5, e5, r5) = came_by (are_free before space schema primary None tuple (all_indexes primary schema)) _ is r4 in
-      let own = takes_key schema primary tuple (passed_so _ u4 e4) in
+      let (u5, e5, r5) = came_by (unless (description_fault before space tuple)) _ is r4 in
+      let (u6, e6, r6) = came_by (are_free before space schema primary None tuple (all_indexes primary schema)) _ is r5 in
+      let (u7, e7, r7) = came_by (unless (new_index_fault before space tuple)) _ is r6 in
+      let (own, others) = takes_keys schema primary tuple (passed_so _ u4 e4) in
+      let (u8, first, rest) = came_by (is_free_if_unique before space schema primary None tuple primary) _ tt e6 in
+      let there = was_found (IndexMissing (record { 0 = 0 }) schema.def.name) (index_with 0 schema.indexes) primary e3 in
       record {
-        schema = schema;
-        primary = primary;
         key = own_key primary tuple;
         tuple = Some tuple;
         shown = tuple ∷ [];
-        elsewhere = no_schema writer space insert_type tuple (passed_so _ u2 e2);
-        described = was_found (SpaceMissing (record { 0 = space })) (schema_of before space) schema e1;
-        there = was_found (IndexMissing (record { 0 = 0 }) schema.def.name) (index_with 0 schema.indexes) primary e3;
+        changes = record {
+          schema = schema;
+          primary = primary;
+          described = was_found (SpaceMissing (record { 0 = space })) (schema_of before space) schema e1;
+          there = there;
+          fits = record {
+            own = own;
+            keyed = others;
+            free = all_free_still before space schema primary (own_key primary tuple) tuple (other_indexes schema.indexes) rest;
+          };
+          kind = by_space space (λ elsewhere. inl elsewhere) (λ describes. inr (record {
+            described = passed_so _ u5 e5;
+            made = passed_so _ u7 e7;
+            absent = first_free before space schema primary (own_key primary tuple) tuple there own first;
+            of_user = of_users writer space insert_type tuple describes (passed_so _ u2 e2);
+          }));
+        };
         key_is = own;
-        has = own;
-        made = r5;
+        shows = tt;
+        made = r7;
       }
 
   replaced : (tuple : List ℕ) → (replaces writer before space tuple).outcome ≡ Ok is → Wrote before space (Replace tuple) is
@@ -234,30 +319,40 @@ module _ (writer : Writer) (before : State) (space : ℕ) (is : Made) where
       let (primary, e3, r3) = came_by (the_index space schema 0) _ is r2 in
       let (u4, e4, r4) = came_by (unless (tuple_fault schema primary tuple)) _ is r3 in
       let (u5, e5, r5) = came_by (are_free before space schema primary (Some (own_key primary tuple)) tuple (other_indexes schema.indexes)) _ is r4 in
-      let own = takes_key schema primary tuple (passed_so _ u4 e4) in
+      let (own, others) = takes_keys schema primary tuple (passed_so _ u4 e4) in
       record {
-        schema = schema;
-        primary = primary;
         key = own_key primary tuple;
         tuple = Some tuple;
         shown = tuple ∷ [];
-        elsewhere = no_schema writer space replace_type tuple (passed_so _ u2 e2);
-        described = was_found (SpaceMissing (record { 0 = space })) (schema_of before space) schema e1;
-        there = was_found (IndexMissing (record { 0 = 0 }) schema.def.name) (index_with 0 schema.indexes) primary e3;
+        changes = record {
+          schema = schema;
+          primary = primary;
+          described = was_found (SpaceMissing (record { 0 = space })) (schema_of before space) schema e1;
+          there = was_found (IndexMissing (record { 0 = 0 }) schema.def.name) (index_with 0 schema.indexes) primary e3;
+          fits = record { own = own; keyed = others; free = e5 };
+          kind = inl (in_place_elsewhere writer space replace_type (Some tuple) refl (passed_so _ u2 e2));
+        };
         key_is = own;
-        has = own;
+        shows = tt;
         made = r5;
       }
 
   -- a tuple in the place of another one has its key
   pub placed : (schema : Schema) (primary : IndexDef) (write : Write) (key : Key) (tuple : List ℕ) (shown : List (List ℕ))
       → (put_in_place before space schema primary write key tuple shown).outcome ≡ Ok is
-      → (key_in primary.key tuple ≡ Ok key) × ((made space write key (Some tuple) shown).outcome ≡ Ok is)
+      → Fits before space schema primary key tuple × ((made space write key (Some tuple) shown).outcome ≡ Ok is)
   placed schema primary write key tuple shown e =
       let (u1, e1, r1) = came_by (unless (tuple_fault schema primary tuple)) _ is e in
       let (u2, e2, r2) = came_by (unless (key_change schema (own_key primary tuple) key)) _ is r1 in
       let (u3, e3, r3) = came_by (are_free before space schema primary (Some key) tuple (other_indexes schema.indexes)) _ is r2 in
-      (takes_key schema primary tuple (passed_so _ u1 e1) ∙ ap (λ k. Ok k) (key_stays schema (own_key primary tuple) key (passed_so _ u2 e2)), r3)
+      let (own, others) = takes_keys schema primary tuple (passed_so _ u1 e1) in (
+        record {
+          own = own ∙ ap (λ k. Ok k) (key_stays schema (own_key primary tuple) key (passed_so _ u2 e2));
+          keyed = others;
+          free = e3;
+        },
+        r3,
+      )
 
   updated_so : (index base : ℕ) (key operations : List ℕ) → (updates writer before space index base key operations).outcome ≡ Ok is
       → (is ≡ nothing) ⊎ Wrote before space (Update index base key operations) is
@@ -272,21 +367,24 @@ module _ (writer : Writer) (before : State) (space : ℕ) (is : Made) where
           → (is ≡ nothing) ⊎ Wrote before space (Update index base key operations) is
       by_entry so None at e = inl cc
       by_entry so (Some (own, old)) at e =
-          let (u1, e1, r1) = came_by (unless (write_refusal writer space update_type (found_name index old))) _ is e in
+          let (u1, e1, r1) = came_by (unless (write_refusal writer space update_type (Some old))) _ is e in
           let (applied, e2, r2) = came_by (the_operations operations) _ is r1 in
           let (new, e3, r3) = came_by (judged_as (tuple_or_refusal (updated base old applied))) _ is r2 in
           let put = placed so.schema so.primary (Update index base key operations) own new (new ∷ []) r3 in
           inr (record {
-            schema = so.schema;
-            primary = so.primary;
             key = own;
             tuple = Some new;
             shown = new ∷ [];
-            elsewhere = no_schema_found writer space update_type index key old so.writable (passed_so _ u1 e1);
-            described = so.described;
-            there = so.there;
+            changes = record {
+              schema = so.schema;
+              primary = so.primary;
+              described = so.described;
+              there = so.there;
+              fits = put.0;
+              kind = inl (in_place_elsewhere writer space update_type (Some old) refl (passed_so _ u1 e1));
+            };
             key_is = (old, entry_there before space so.primary so.def so.asked own old at);
-            has = put.0;
+            shows = tt;
             made = put.1;
           })
 
@@ -301,19 +399,29 @@ module _ (writer : Writer) (before : State) (space : ℕ) (is : Made) where
           → (is ≡ nothing) ⊎ Wrote before space (Delete index key) is
       by_entry so None at e = inl cc
       by_entry so (Some (own, old)) at e =
-          let (u1, e1, r1) = came_by (unless (write_refusal writer space delete_type (found_name index old))) _ is e in
+          let (u1, e1, r1) = came_by (unless (write_refusal writer space delete_type (Some old))) _ is e in
+          let (u2, e2, r2) = came_by (unless (drop_fault before space old)) _ is r1 in
+          let stands = entry_there before space so.primary so.def so.asked own old at in
           inr (record {
-            schema = so.schema;
-            primary = so.primary;
             key = own;
             tuple = None;
             shown = old ∷ [];
-            elsewhere = no_schema_found writer space delete_type index key old so.writable (passed_so _ u1 e1);
-            described = so.described;
-            there = so.there;
-            key_is = (old, entry_there before space so.primary so.def so.asked own old at);
-            has = tt;
-            made = r1;
+            changes = record {
+              schema = so.schema;
+              primary = so.primary;
+              described = so.described;
+              there = so.there;
+              fits = tt;
+              kind = by_space space (λ elsewhere. inl elsewhere) (λ describes. inr (record {
+                row = old;
+                there = stands;
+                may = passed_so _ u2 e2;
+                of_user = of_users writer space delete_type old describes (passed_so _ u1 e1);
+              }));
+            };
+            key_is = (old, stands);
+            shows = (old, stands, refl);
+            made = r2;
           })
 
   upserted_so : (base : ℕ) (tuple operations : List ℕ) → (upserts writer before space base tuple operations).outcome ≡ Ok is → Wrote before space (Upsert base tuple operations) is
@@ -323,30 +431,33 @@ module _ (writer : Writer) (before : State) (space : ℕ) (is : Made) where
       let (u2, e2, r2) = came_by (unless (write_refusal writer space upsert_type (Some tuple))) _ is r1 in
       let (primary, e3, r3) = came_by (the_index space schema 0) _ is r2 in
       let (u4, e4, r4) = came_by (unless (tuple_fault schema primary tuple)) _ is r3 in
-      let own = takes_key schema primary tuple (passed_so _ u4 e4) in
-      let put = by_old schema primary own (tuple_under before space (own_key primary tuple)) r4 in
+      let (own, others) = takes_keys schema primary tuple (passed_so _ u4 e4) in
+      let put = by_old schema primary own others (tuple_under before space (own_key primary tuple)) r4 in
       record {
-        schema = schema;
-        primary = primary;
         key = own_key primary tuple;
         tuple = Some put.0;
         shown = [];
-        elsewhere = no_schema writer space upsert_type tuple (passed_so _ u2 e2);
-        described = was_found (SpaceMissing (record { 0 = space })) (schema_of before space) schema e1;
-        there = was_found (IndexMissing (record { 0 = 0 }) schema.def.name) (index_with 0 schema.indexes) primary e3;
+        changes = record {
+          schema = schema;
+          primary = primary;
+          described = was_found (SpaceMissing (record { 0 = space })) (schema_of before space) schema e1;
+          there = was_found (IndexMissing (record { 0 = 0 }) schema.def.name) (index_with 0 schema.indexes) primary e3;
+          fits = put.1;
+          kind = inl (in_place_elsewhere writer space upsert_type (Some tuple) refl (passed_so _ u2 e2));
+        };
         key_is = own;
-        has = put.1;
+        shows = tt;
         made = put.2;
       }
     where
-      by_old : (schema : Schema) (primary : IndexDef) → key_in primary.key tuple ≡ Ok (own_key primary tuple) → (old : Option (List ℕ))
+      by_old : (schema : Schema) (primary : IndexDef) → key_in primary.key tuple ≡ Ok (own_key primary tuple) → keys_fault (other_indexes schema.indexes) tuple ≡ None → (old : Option (List ℕ))
           → (upsert_found writer before space base tuple operations schema primary old).outcome ≡ Ok is
-          → (put : List ℕ) × (key_in primary.key put ≡ Ok (own_key primary tuple))
+          → (put : List ℕ) × Fits before space schema primary (own_key primary tuple) put
           × ((made space (Upsert base tuple operations) (own_key primary tuple) (Some put) []).outcome ≡ Ok is)
-      by_old schema primary own None e =
+      by_old schema primary own others None e =
           let (u1, e1, r1) = came_by (are_free before space schema primary (Some (own_key primary tuple)) tuple (other_indexes schema.indexes)) _ is e in
-          (tuple, own, r1)
-      by_old schema primary own (Some old) e =
+          (tuple, record { own = own; keyed = others; free = e1 }, r1)
+      by_old schema primary own others (Some old) e =
           let (applied, e1, r1) = came_by (the_operations operations) _ is e in
           let (new, e2, r2) = came_by (judged_as (tuple_or_refusal (upserted base old applied))) _ is r1 in
           let put = placed schema primary (Upsert base tuple operations) (own_key primary tuple) new [] r2 in

@@ -1,7 +1,9 @@
 -- What a statement changes of a state: what stands under one primary key of a space.
-use Rattle.std.specs.Prelude.{ℕ, List, Option, Some, None}
+use Rattle.std.specs.Prelude.{ℕ, ◌&&◌, List, Option, Some, None, is_none, ◌==◌, if◌then◌else◌}
 use Rattle.mx_key.specs.Keys.{Key}
-use Rattle.mx_schema.specs.State.{State, with_tuple, without_tuple}
+use Rattle.mx_schema.specs.SchemaChanges.{without_index}
+use Rattle.mx_schema.specs.State.{State, index_rows, with_tuple, without_tuple}
+use Rattle.mx_write.specs.Descriptions.{index_named_by, space_named_by}
 
 -- the tuple that stands under a primary key of a space afterwards, or none
 pub record Change : Type 0 where
@@ -13,8 +15,15 @@ abbrev pub state_with : State → (space : ℕ) → Key → (tuple : Option (Lis
 state_with before space key None = without_tuple before space key
 state_with before space key (Some tuple) = with_tuple before space key tuple
 
+-- a space's tuples go before the row of its primary index
+abbrev pub without_dropped : State → Change → State
+without_dropped before change =
+    if (change.space == index_rows) && is_none change.tuple
+    then without_index before (space_named_by change.key) (index_named_by change.key)
+    else before
+
 abbrev pub state_after_change : State → Change → State
-state_after_change before change = state_with before change.space change.key change.tuple
+state_after_change before change = state_with (without_dropped before change) change.space change.key change.tuple
 
 -- the state is as before where nothing is changed
 abbrev pub state_after_changed : State → Option Change → State

@@ -4,6 +4,7 @@ pub mod Judged
 pub mod Lookup
 pub mod Writable
 pub mod Checks
+pub mod Descriptions
 pub mod Unique
 pub mod Change
 pub mod Made
@@ -16,3 +17,4 @@ pub mod Judge
 pub mod Views
 pub mod Makes
 pub mod Steps
+pub mod Installs

@@ -1,13 +1,18 @@
 -- Only private functions and proofs need these: how far a write was judged.
-use Rattle.std.specs.Prelude.{◌≡◌, ◌⊎◌, ⊤, ℕ, List, Option, Some, None, Result, Ok, Err, MatchResult}
+use Rattle.std.specs.Prelude.{◌≡◌, ◌≢◌, ◌⊎◌, ⊤, ℕ, Bool, true, false, List, [], ◌∷◌, Option, Some, None, Result, Ok, Err, MatchResult}
+use Rattle.std.specs.FinMap.{empty}
 use Rattle.mx_base.specs.declared.refusal.Refusal.{Refusal}
 use Rattle.mx_base.specs.declared.refusal.Refusal.TheVariants.{OutOfMemory}
 use Rattle.mx_key.specs.Comparable.{comparable_of}
 use Rattle.mx_key.specs.Keys.{Key, AreFit}
 use Rattle.mx_schema.specs.declared.index_def.IndexDef.{IndexDef}
+use Rattle.mx_schema.specs.declared.index_def.IndexRow.{IndexRow}
+use Rattle.mx_schema.specs.declared.schema.Schema.{Schema}
 use Rattle.mx_schema.specs.Catalogues.{index_with, schema_of}
-use Rattle.mx_schema.specs.State.{State, key_in, tuples_in}
-use Rattle.mx_schema.specs.Stored.{Holds, StoresSpace}
+use Rattle.mx_schema.specs.IndexRows.{index_in}
+use Rattle.mx_schema.specs.State.{State, index_rows, key_in, tuples_in}
+use Rattle.mx_space.specs.Kept.{StoresIndexed}
+use Rattle.mx_space.specs.Stored.{Holds}
 use Rattle.mx_write.specs.declared.scope.Target.{Target}
 
 -- a check passes, or refuses so, or memory ran out
@@ -36,7 +41,8 @@ JudgesAs result outcome = MatchResult result (λ x. outcome ≡ Ok x) (λ why. (
 -- a space that is there and has a primary index
 pub record IsTarget (before : State) (target : Target) : Type 0 where
   pub holds : Holds target.scope.state.now before
-  pub stored : StoresSpace (schema_of before target.scope.space.0) target.schema.now target.table.now.tuples.entries (tuples_in before target.scope.space.0)
+  pub stored : StoresIndexed (schema_of before target.scope.space.0) target.stored.now (tuples_in before target.scope.space.0)
+  pub schema : target.schema.now ≡ target.stored.now.schema
   pub primary : index_with 0 target.schema.now.indexes ≡ Some target.primary.now
 
 -- these are the comparable bytes of this key, where there is one
@@ -48,3 +54,18 @@ IsKeyOf (Some bytes) (Some key) = AreFit key × (bytes ≡ comparable_of key)
 
 abbrev pub IsReplaced : (bytes : Option (List ℕ)) → Option Key → Type 0
 IsReplaced = IsKeyOf
+
+-- ---- rows that describe indexes
+
+abbrev pub has_one : List IndexDef → Bool
+has_one [] = false
+has_one (def ∷ others) = true
+
+-- an index that may be made in its space: the primary one where there are no tuples, and others beside it
+pub record CanBeMade (before : State) (row : IndexRow) : Type 0 where
+  pub first : row.def.id.0 ≡ 0 → tuples_in before row.space.0 ≡ empty
+  pub other : (schema : Schema) → schema_of before row.space.0 ≡ Some schema → row.def.id.0 ≢ 0 → index_with 0 schema.indexes ≢ None
+
+-- so may the index that a tuple describes, where tuples of its space describe any
+abbrev pub CanBuild : State → (space : ℕ) → (tuple : List ℕ) → Type 0
+CanBuild before space tuple = space ≡ index_rows → (row : IndexRow) → index_in tuple ≡ Some row → CanBeMade before row

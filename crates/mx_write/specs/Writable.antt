@@ -1,11 +1,10 @@
 -- What can't be written so, whatever else is wrong with a tuple or a key.
 use Rattle.std.specs.Prelude.{ℕ, Bool, false, ◌||◌, List, ◌∷◌, Option, Some, None, nat_lt, ◌==◌, if◌then◌else◌}
-use Rattle.std.specs.Option.{option_map}
 use Rattle.mx_msgpack.specs.Items.{items_of}
 use Rattle.mx_msgpack.specs.Readers.{unsigned_in}
 use Rattle.mx_base.specs.declared.kinds.Unsupported.TheVariants.{SchemaInPlace, SystemSpaceWrite}
 use Rattle.mx_base.specs.declared.refusal.Refusal.{Refusal}
-use Rattle.mx_base.specs.declared.refusal.Refusal.TheVariants.{UnknownRequestType, Unsupported}
+use Rattle.mx_base.specs.declared.refusal.Refusal.TheVariants.{Unsupported}
 use Rattle.mx_row.specs.Rows.{delete_type, insert_type}
 use Rattle.mx_schema.specs.Bootstrap.{settings, cluster}
 use Rattle.mx_schema.specs.SchemaChecks.{first_user_space}
@@ -36,14 +35,15 @@ abbrev pub names_leader : Option (List ℕ) → Bool
 names_leader None = false
 names_leader (Some array) = is_leader array
 
--- a row that describes a space or an index: those of the database's own spaces stay, and further ones can't be added and dropped yet
-abbrev pub described_refusal : (type : ℕ) → (named : List ℕ) → Refusal
-described_refusal type named = if begins_with_system_number (items_of named) then Unsupported SystemSpaceWrite else UnknownRequestType type
+-- the rows that describe the database's own spaces stay; one that is dropped by another index is known once it is found
+abbrev pub own_row_refusal : (named : Option (List ℕ)) → Option Refusal
+own_row_refusal None = None
+own_row_refusal (Some array) = if begins_with_system_number (items_of array) then Some (Unsupported SystemSpaceWrite) else None
 
--- one that is dropped by another index is known once it is found
+-- a row that describes a space or an index is added and taken out, and never replaced
 abbrev pub schema_refusal : (type : ℕ) → (named : Option (List ℕ)) → Option Refusal
 schema_refusal type named =
-    if (type == insert_type) || (type == delete_type) then option_map (described_refusal type) named else Some (Unsupported SchemaInPlace)
+    if (type == insert_type) || (type == delete_type) then own_row_refusal named else Some (Unsupported SchemaInPlace)
 
 -- the leader's setting isn't written by clients
 abbrev pub leader_refusal : Writer → (named : Option (List ℕ)) → Option Refusal
@@ -61,7 +61,3 @@ write_refusal writer space type named =
 -- the key by which a row is named, where it is a primary key
 abbrev pub primary_name : (index : ℕ) → (key : List ℕ) → Option (List ℕ)
 primary_name index key = if index == 0 then Some key else None
-
--- the tuple by which a row is named that another index found
-abbrev pub found_name : (index : ℕ) → (tuple : List ℕ) → Option (List ℕ)
-found_name index tuple = if index == 0 then None else Some tuple

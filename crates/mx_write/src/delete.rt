@@ -6,16 +6,17 @@ ghost use Rattle.mx_key.specs.Keys.{Key, AreFit};
 ghost use Rattle.mx_msgpack.specs.Items.{IsArray};
 ghost use Rattle.mx_schema.specs.State as plain;
 ghost use Rattle.mx_schema.specs.State.{key_in};
-ghost use Rattle.mx_schema.specs.Stored.{Holds};
+ghost use Rattle.mx_space.specs.Stored.{Holds};
 ghost use Rattle.mx_write.specs.Delete.{delete_found, deletes};
 ghost use Rattle.mx_write.specs.Makes.{JudgesFound, JudgesMade};
 ghost use Rattle.mx_write.specs.Steps.{IsTarget};
 ghost use Rattle.mx_write.specs.Writes as statement;
 
+use crate::descriptions::check_drop;
 use crate::entry::{Entry, row_key};
 use crate::made::{Effect, Made, make};
 use crate::scope::{Scope, Target};
-use crate::writable::{found_name, write_refusal};
+use crate::writable::write_refusal;
 use crate::write::{DELETE, Write};
 use mx_base::{IndexId, Refusal};
 use mx_msgpack::Bytes;
@@ -54,14 +55,10 @@ fn remove(
 {
     let scope = target.scope;
     let old = entry.tuple;
-    if let Some(refusal) = write_refusal(
-        scope.writer,
-        scope.space,
-        DELETE,
-        found_name(index, old),
-    ) {
+    if let Some(refusal) = write_refusal(scope.writer, scope.space, DELETE, Some(old)) {
         return Err(refusal);
     }
+    check_drop(&scope, old)?;
     let row_key = row_key(target, array_or_empty(old))?;
     let tuple = Bytes::from_slice(scope.alloc, old)?;
     let write = Write::Delete { index, key };

@@ -1,19 +1,21 @@
 //! The tuple that has a key in a unique index.
 
-ghost use Rattle.std.specs.Prelude.{◌≡◌, ◌∷◌, [], Option, None, Some, Ok, IfOk, MatchOption, MatchResult};
+ghost use Rattle.std.specs.Prelude.{◌≡◌, ◌∷◌, [], true, Option, None, Some, Ok, IfOk, MatchOption, MatchResult};
 ghost use Rattle.mx_key.specs.Arrays.{key_array};
 ghost use Rattle.mx_key.specs.Comparable.{comparable_of};
 ghost use Rattle.mx_key.specs.Keys.{Key, AreFit};
 ghost use Rattle.mx_msgpack.specs.Items.{IsArray};
+ghost use Rattle.std.specs.Option.{option_copied};
 ghost use Rattle.mx_schema.specs.declared.index_def.IndexDef.{IndexDef};
+ghost use Rattle.mx_schema.specs.Catalogues.{index_with};
 ghost use Rattle.mx_schema.specs.declared.schema.Schema.{Schema};
 ghost use Rattle.mx_schema.specs.Picks.{Indexed};
 ghost use Rattle.mx_schema.specs.State as plain;
 ghost use Rattle.mx_schema.specs.State.{key_in};
-ghost use Rattle.mx_schema.specs.Stored.{Holds};
+ghost use Rattle.mx_space.specs.Stored.{Holds};
 ghost use Rattle.mx_write.specs.Judged.{Judged, reads_of, unless, ◌>>=◌ as ◌and_then◌};
 ghost use Rattle.mx_write.specs.Lookup as lookup;
-ghost use Rattle.mx_write.specs.Lookup.{entry_with, the_key, the_primary, the_space, the_unique_index};
+ghost use Rattle.mx_write.specs.Lookup.{entry_with, is_unique, the_key, the_primary, the_space, the_unique_index};
 ghost use Rattle.mx_write.specs.Made.{Made};
 ghost use Rattle.mx_write.specs.Makes.{IsRefusedBy};
 ghost use Rattle.mx_write.specs.Reads.{key_read};
@@ -64,18 +66,18 @@ impl<'a> Scope<'a> {
             × AreFit own × (entry.key ≡ comparable_of own) × (key_in found.0.primary.now.key entry.tuple.now ≡ Ok own)))
             (λ refusal. IsRefusedBy refusal whole) }
     {
-        let table = find_space(self.state, self.space)?;
+        let stored = find_space(self.state, self.space)?;
         let named = primary_name(index, key);
         if let Some(refusal) = write_refusal(self.writer, self.space, kind, named) {
             return Err(refusal);
         }
-        let schema = table.schema();
+        let schema = stored.schema();
         let def = find_unique_index(self.alloc, schema, index)?;
         let primary = find_index(self.alloc, schema, IndexId(0))?;
         let asked = find_key(self.alloc, def, key)?;
         let target = Target {
             scope: self,
-            table,
+            stored,
             schema,
             primary,
         };
@@ -90,8 +92,8 @@ fn find_entry<'a>(
     def: &IndexDef,
     key: Bytes,
 ) -> Result<Option<Entry<'a>>, AllocError>
-    ensures { (before : plain.State) (wanted : Key) → IsTarget before target.now → AreFit wanted → key ≡ comparable_of wanted
-        → IfOk result (λ found. MatchOption found
+    ensures { (before : plain.State) (wanted : Key) → IsTarget before target.now → index_with def.now.id.0 target.now.schema.now.indexes ≡ Some def.now → is_unique def.now ≡ true
+        → AreFit wanted → key ≡ comparable_of wanted → IfOk result (λ found. MatchOption found
         (entry_with before target.now.scope.space.0 target.now.primary.now def.now wanted ≡ None)
         (λ entry. (own : Key) × (entry_with before target.now.scope.space.0 target.now.primary.now def.now wanted ≡ Some (own, entry.tuple.now))
         × AreFit own × (entry.key ≡ comparable_of own) × (key_in target.now.primary.now.key entry.tuple.now ≡ Ok own))) }
@@ -99,7 +101,7 @@ fn find_entry<'a>(
     let Some(key) = primary_key_with(target, def, key)? else {
         return Ok(None);
     };
-    let Some(tuple) = target.table.tuple(&key) else {
+    let Some(tuple) = target.stored.tuple(&key) else {
         return Ok(None);
     };
     Ok(Some(Entry { key, tuple }))
@@ -111,24 +113,22 @@ fn primary_key_with(
     def: &IndexDef,
     key: Bytes,
 ) -> Result<Option<Bytes>, AllocError>
-    ensures { (before : plain.State) (wanted : Key) → IsTarget before target.now → AreFit wanted → key ≡ comparable_of wanted
-        → IfOk result (λ found. IsKeyOf found (lookup.primary_key_with before target.now.scope.space.0 target.now.primary.now def.now wanted)) }
+    ensures { (before : plain.State) (wanted : Key) → IsTarget before target.now → index_with def.now.id.0 target.now.schema.now.indexes ≡ Some def.now → is_unique def.now ≡ true
+        → AreFit wanted → key ≡ comparable_of wanted → IfOk result (λ found. IsKeyOf found (lookup.primary_key_with before target.now.scope.space.0 target.now.primary.now def.now wanted)) }
 {
     if def.id.0 == 0 {
         return Ok(Some(key));
     }
-    let scope = target.scope;
-    let holder = scope.state.holder(scope.alloc, scope.space, def, &key)?;
-    primary_key_of(target, &holder)
+    primary_key_of(target, target.stored.holder(def, &key))
 }
 
-fn primary_key_of(target: &Target<'_>, holder: &Option<Bytes>) -> Result<Option<Bytes>, AllocError>
-    ensures { IfOk result (λ found. IsKeyOf found (lookup.primary_key_of target.now.primary.now holder.now)) }
+fn primary_key_of(target: &Target<'_>, holder: Option<&[u8]>) -> Result<Option<Bytes>, AllocError>
+    ensures { IfOk result (λ found. IsKeyOf found (lookup.primary_key_of target.now.primary.now (option_copied holder.entry))) }
 {
     let Some(tuple) = holder else {
         return Ok(None);
     };
-    let array = array_or_empty(tuple.as_slice());
+    let array = array_or_empty(tuple);
     match key_of_tuple(target.scope.alloc, &target.primary.key, array) {
         Ok(key) => Ok(Some(key)),
         Err(KeyFault::Missing { .. }) => Ok(None),

@@ -1,12 +1,13 @@
 //! INSERT.
 
-ghost use Rattle.std.specs.Prelude.{◌≡◌, None, IfOk};
+ghost use Rattle.std.specs.Prelude.{◌≡◌, None, Ok, IfOk};
 ghost use Rattle.mx_key.specs.Keys.{AreFit};
 ghost use Rattle.mx_key.specs.Comparable.{comparable_of};
 ghost use Rattle.mx_msgpack.specs.Items.{IsArray};
 ghost use Rattle.mx_schema.specs.State as plain;
-ghost use Rattle.mx_schema.specs.Stored.{Holds};
-ghost use Rattle.mx_write.specs.Insert.{inserts};
+ghost use Rattle.mx_schema.specs.State.{key_in};
+ghost use Rattle.mx_space.specs.Stored.{Holds};
+ghost use Rattle.mx_write.specs.Insert.{inserts, inserts_taken};
 ghost use Rattle.mx_write.specs.Lookup.{all_indexes, own_key};
 ghost use Rattle.mx_write.specs.Makes.{JudgesMade};
 ghost use Rattle.mx_write.specs.Writes as statement;
@@ -14,10 +15,11 @@ ghost use Rattle.mx_write.specs.Steps.{IsTarget, refusal_of};
 ghost use Rattle.mx_write.specs.Unique.{are_free};
 
 use crate::checks::check_tuple;
+use crate::descriptions::{check_description, check_new_index};
 use crate::lookup::{find_index, find_space};
 use crate::made::{Effect, Made, make};
 use crate::scope::{Scope, Target};
-use crate::unique::{duplicate_in_others, duplicate_key};
+use crate::unique::{duplicate_in_others, duplicate_refusal};
 use crate::writable::write_refusal;
 use crate::write::{INSERT, Write};
 use mx_base::{IndexId, Refusal};
@@ -34,29 +36,42 @@ impl Scope<'_> {
         ensures { (before : plain.State) → Holds self.entry.state.now before
             → JudgesMade before self.entry.space.0 (statement.Insert tuple.now) result (inserts self.entry.writer before self.entry.space.0 tuple.now) }
     {
-        let table = find_space(self.state, self.space)?;
+        let stored = find_space(self.state, self.space)?;
         if let Some(refusal) = write_refusal(self.writer, self.space, INSERT, Some(tuple)) {
             return Err(refusal);
         }
-        let schema = table.schema();
+        let schema = stored.schema();
         let primary = find_index(self.alloc, schema, IndexId(0))?;
         let key = check_tuple(self.alloc, schema, primary, tuple)?;
         let target = Target {
             scope: self,
-            table,
+            stored,
             schema,
             primary,
         };
-        if let Some(refusal) = duplicate(&target, &key, tuple)? {
-            return Err(refusal);
-        }
-        let effect = Effect::Put {
-            tuple: Bytes::from_slice(self.alloc, tuple)?,
-            is_shown: true,
-        };
-        let row_key = Bytes::new(self.alloc);
-        make(self.space, &Write::Insert { tuple }, key, row_key, effect)
+        add(&target, key, tuple)
     }
+}
+
+/// What an INSERT of a tuple makes that the space takes, where this is its primary key.
+fn add(target: &Target<'_>, key: Bytes, tuple: &[u8]) -> Result<Made, Refusal>
+    ensures { (before : plain.State) → IsTarget before target.now → key_in target.now.primary.now.key tuple.now ≡ Ok (own_key target.now.primary.now tuple.now)
+        → AreFit (own_key target.now.primary.now tuple.now) → key ≡ comparable_of (own_key target.now.primary.now tuple.now)
+        → JudgesMade before target.now.scope.space.0 (statement.Insert tuple.now) result
+        (inserts_taken before target.now.scope.space.0 target.now.schema.now target.now.primary.now tuple.now) }
+{
+    let scope = target.scope;
+    check_description(target, tuple)?;
+    if let Some(refusal) = duplicate(target, &key, tuple)? {
+        return Err(refusal);
+    }
+    check_new_index(target, tuple)?;
+    let effect = Effect::Put {
+        tuple: Bytes::from_slice(scope.alloc, tuple)?,
+        is_shown: true,
+    };
+    let row_key = Bytes::new(scope.alloc);
+    make(scope.space, &Write::Insert { tuple }, key, row_key, effect)
 }
 
 /// The refusal of a tuple whose key another one has in a unique index, where this is its primary key.
@@ -66,8 +81,8 @@ fn duplicate(target: &Target<'_>, key: &Bytes, tuple: &[u8]) -> Result<Option<Re
         → IfOk result (λ found. found ≡ refusal_of (are_free before target.now.scope.space.0 target.now.schema.now target.now.primary.now None tuple.now
         (all_indexes target.now.primary.now target.now.schema.now)).outcome) }
 {
-    match target.table.tuple(key) {
-        Some(_) => Ok(Some(duplicate_key(target, target.primary)?)),
+    match target.stored.tuple(key) {
+        Some(other) => Ok(Some(duplicate_refusal(target, target.primary, other)?)),
         None => duplicate_in_others(target, None, tuple),
     }
 }

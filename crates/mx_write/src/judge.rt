@@ -1,7 +1,7 @@
 //! Any write.
 
 ghost use Rattle.mx_schema.specs.State as plain;
-ghost use Rattle.mx_schema.specs.Stored.{Holds};
+ghost use Rattle.mx_space.specs.Stored.{Holds};
 ghost use Rattle.mx_write.specs.Judge.{judged_write};
 ghost use Rattle.mx_write.specs.Makes.{JudgesFound};
 ghost use Rattle.mx_write.specs.Views.{AreArrays, write_view};

@@ -3,6 +3,7 @@
 
 mod checks;
 mod delete;
+mod descriptions;
 mod entry;
 mod insert;
 mod install;
@@ -21,6 +22,7 @@ mod writable;
 mod write;
 
 pub use checks::{check_bytes, fault_refusal};
+pub use descriptions::{described_index, described_space};
 pub use laws::{a_row_makes_its_write_again, a_write_keeps_a_state_sound, a_write_leaves_a_row};
 pub use lookup::{
     find_index, find_key, find_space, find_unique_index, index_missing, not_built, type_of,
@@ -28,7 +30,7 @@ pub use lookup::{
 pub use made::{Effect, Made, make, row_of};
 pub use operations::{update_tuple, upsert_tuple};
 pub use scope::Scope;
-pub use writable::{Writer, found_name, primary_name, write_refusal};
+pub use writable::{Writer, primary_name, write_refusal};
 pub use write::{
     DELETE, INSERT, REPLACE, UPDATE, UPSERT, Write, write_in, write_of, write_of_request,
 };

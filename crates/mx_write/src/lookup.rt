@@ -1,6 +1,6 @@
 //! How statements look up a space and an index of it.
 
-ghost use Rattle.std.specs.Prelude.{◌≡◌, ◌⊎◌, ℕ, None, Ok, Some, IfOk, MatchResult, length};
+ghost use Rattle.std.specs.Prelude.{◌≡◌, ◌⊎◌, ℕ, true, None, Ok, Some, IfOk, MatchResult, length};
 ghost use Rattle.mx_base.specs.declared.refusal.Refusal.TheVariants.{IndexMissing, KeyPartCount, OutOfMemory, SpaceMissing, UnknownRequestType};
 ghost use Rattle.mx_key.specs.Comparable.{comparable_of};
 ghost use Rattle.mx_key.specs.Keys.{Key, AreFit};
@@ -9,15 +9,16 @@ ghost use Rattle.mx_msgpack.specs.Items.{IsArray};
 ghost use Rattle.mx_schema.specs.Catalogues.{index_with, schema_of};
 ghost use Rattle.mx_schema.specs.State as plain;
 ghost use Rattle.mx_schema.specs.State.{tuples_in};
-ghost use Rattle.mx_schema.specs.Stored.{Holds, HoldsSpace};
+ghost use Rattle.mx_space.specs.Stored.{Holds, HoldsSpace};
 ghost use Rattle.mx_write.specs.Lookup as lookup;
-ghost use Rattle.mx_write.specs.Lookup.{the_key, the_unique_index};
+ghost use Rattle.mx_write.specs.Lookup.{is_unique, the_key, the_unique_index};
 ghost use Rattle.mx_write.specs.Makes.{IsRefusedBy};
 
 use mx_base::{IndexId, Name, Refusal, SpaceId, TypeName};
 use mx_key::{Misfit, PartKind, RangeFault, whole_key};
 use mx_msgpack::Bytes;
-use mx_schema::{IndexDef, Schema, State, Table};
+use mx_schema::{IndexDef, Schema};
+use mx_space::{Space, State};
 use std::alloc::{AllocError, Global};
 
 /// The refusal of a request of this type, which isn't built yet: as if the type were unknown.
@@ -33,14 +34,14 @@ pub fn not_built(kind: u8) -> Refusal
 ///
 /// # Errors
 /// The refusal of a statement on it, where there is none.
-pub fn find_space(state: &State, space: SpaceId) -> Result<&Table, Refusal>
+pub fn find_space(state: &State, id: SpaceId) -> Result<&Space, Refusal>
     ensures { (before : plain.State) → Holds state.now before → MatchResult result
-        (λ table. HoldsSpace (schema_of before space.0) (Some table.now) (tuples_in before space.0))
-        (λ refusal. (schema_of before space.0 ≡ None) × (refusal ≡ SpaceMissing space)) }
+        (λ space. HoldsSpace (schema_of before id.0) (Some space.now) (tuples_in before id.0))
+        (λ refusal. (schema_of before id.0 ≡ None) × (refusal ≡ SpaceMissing id)) }
 {
-    match state.table(space) {
-        Some(table) => Ok(table),
-        None => Err(Refusal::SpaceMissing { space }),
+    match state.space(id) {
+        Some(space) => Ok(space),
+        None => Err(Refusal::SpaceMissing { space: id }),
     }
 }
 
@@ -76,9 +77,10 @@ pub fn find_unique_index(
     schema: &Schema,
     index: IndexId,
 ) -> Result<&IndexDef, Refusal>
-    ensures { (space : ℕ) → MatchResult result
+    ensures outcome { (space : ℕ) → MatchResult result
         (λ def. (the_unique_index space schema.now index.0).outcome ≡ Ok def.now)
         (λ refusal. IsRefusedBy refusal (the_unique_index space schema.now index.0)) }
+    ensures found { IfOk result (λ def. (index_with def.now.id.0 schema.now.indexes ≡ Some def.now) × (is_unique def.now ≡ true)) }
 {
     let def = find_index(alloc, schema, index)?;
     if def.id.0 == 0 || def.unique {

@@ -2,7 +2,7 @@
 
 ghost use Rattle.mx_msgpack.specs.Items.{IsArray};
 ghost use Rattle.mx_schema.specs.State as plain;
-ghost use Rattle.mx_schema.specs.Stored.{Holds};
+ghost use Rattle.mx_space.specs.Stored.{Holds};
 ghost use Rattle.mx_write.specs.Makes.{JudgesMade};
 ghost use Rattle.mx_write.specs.Replace.{replaces};
 ghost use Rattle.mx_write.specs.Writes as statement;
@@ -27,16 +27,16 @@ impl Scope<'_> {
         ensures { (before : plain.State) → Holds self.entry.state.now before
             → JudgesMade before self.entry.space.0 (statement.Replace tuple.now) result (replaces self.entry.writer before self.entry.space.0 tuple.now) }
     {
-        let table = find_space(self.state, self.space)?;
+        let stored = find_space(self.state, self.space)?;
         if let Some(refusal) = write_refusal(self.writer, self.space, REPLACE, Some(tuple)) {
             return Err(refusal);
         }
-        let schema = table.schema();
+        let schema = stored.schema();
         let primary = find_index(self.alloc, schema, IndexId(0))?;
         let key = check_tuple(self.alloc, schema, primary, tuple)?;
         let target = Target {
             scope: self,
-            table,
+            stored,
             schema,
             primary,
         };

@@ -2,7 +2,8 @@
 
 use crate::writable::Writer;
 use mx_base::SpaceId;
-use mx_schema::{IndexDef, Schema, State, Table};
+use mx_schema::{IndexDef, Schema};
+use mx_space::{Space, State};
 use std::alloc::Global;
 
 /// A space of a state, and who writes there.
@@ -18,7 +19,7 @@ pub struct Scope<'a> {
 #[derive(Clone, Copy)]
 pub(crate) struct Target<'a> {
     pub scope: Scope<'a>,
-    pub table: &'a Table,
+    pub stored: &'a Space,
     pub schema: &'a Schema,
     pub primary: &'a IndexDef,
 }

@@ -3,16 +3,18 @@
 ghost use Rattle.std.specs.Prelude.{◌≡◌, Option, Some, true, IfOk};
 ghost use Rattle.std.specs.Option.{option_copied};
 ghost use Rattle.mx_key.specs.Keys.{Key};
+ghost use Rattle.mx_schema.specs.Catalogues.{index_with};
 ghost use Rattle.mx_schema.specs.State as plain;
 ghost use Rattle.mx_write.specs.Steps.{IsReplaced, IsTarget, refusal_of};
 ghost use Rattle.mx_write.specs.Lookup.{other_indexes};
 ghost use Rattle.mx_write.specs.Unique as spec;
 
+use crate::descriptions::described_space;
 use crate::scope::Target;
 use mx_base::{Name, Refusal};
 use mx_msgpack::Bytes;
-use mx_schema::{IndexDef, parts_or_none};
-use std::alloc::AllocError;
+use mx_schema::{IndexDef, SPACE_ROWS, parts_or_none};
+use std::alloc::{AllocError, Global};
 
 /// The refusal of a tuple whose key another one has in a unique index but the primary one. The tuple that
 /// has the primary key `replaced` is no other one.
@@ -43,42 +45,59 @@ fn duplicate_in(
     def: &IndexDef,
 ) -> Result<Option<Refusal>, AllocError>
     ensures { (before : plain.State) (key : Option Key) → IsTarget before target.now → IsReplaced (option_copied replaced.entry) key
+        → index_with def.now.id.0 target.now.schema.now.indexes ≡ Some def.now → def.now.unique ≡ true
         → IfOk result (λ found. found ≡ refusal_of (spec.is_free before target.now.scope.space.0 target.now.schema.now target.now.primary.now key tuple.now def.now).outcome) }
 {
-    let scope = target.scope;
-    let key = parts_or_none(scope.alloc, &def.key, tuple)?;
-    let holder = scope.state.holder(scope.alloc, scope.space, def, &key)?;
-    if !is_another(target, replaced, &holder)? {
+    let key = parts_or_none(target.scope.alloc, &def.key, tuple)?;
+    let Some(holder) = target.stored.holder(def, &key) else {
+        return Ok(None);
+    };
+    if !is_another(target, replaced, holder)? {
         return Ok(None);
     }
-    Ok(Some(duplicate_key(target, def)?))
+    Ok(Some(duplicate_refusal(target, def, holder)?))
 }
 
-/// Whether there is a tuple, and not the one that is replaced.
+/// Whether a tuple isn't the one that is replaced.
 fn is_another(
     target: &Target<'_>,
     replaced: Option<&Bytes>,
-    holder: &Option<Bytes>,
+    holder: &[u8],
 ) -> Result<bool, AllocError>
-    ensures { (key : Option Key) → IsReplaced (option_copied replaced.entry) key → IfOk result (λ is. is ≡ spec.is_another target.now.primary.now key holder.now) }
+    ensures { (key : Option Key) → IsReplaced (option_copied replaced.entry) key → IfOk result (λ is. is ≡ spec.is_another target.now.primary.now key (Some holder.now)) }
 {
-    let Some(tuple) = holder else {
-        return Ok(false);
-    };
     let Some(replaced) = replaced else {
         return Ok(true);
     };
-    let own = parts_or_none(target.scope.alloc, &target.primary.key, tuple.as_slice())?;
+    let own = parts_or_none(target.scope.alloc, &target.primary.key, holder)?;
     Ok(own != *replaced)
 }
 
-/// The refusal of a tuple whose key another one has in this index.
-pub(crate) fn duplicate_key(target: &Target<'_>, def: &IndexDef) -> Result<Refusal, AllocError>
-    ensures { IfOk result (λ refusal. Some refusal ≡ spec.duplicate target.now.schema.now def.now true) }
+/// The refusal of a tuple whose key this other one has in an index.
+pub(crate) fn duplicate_refusal(
+    target: &Target<'_>,
+    def: &IndexDef,
+    holder: &[u8],
+) -> Result<Refusal, AllocError>
+    ensures { IfOk result (λ refusal. refusal ≡ spec.duplicate_refusal target.now.scope.space.0 target.now.schema.now def.now (Some holder.now)) }
 {
     let alloc = target.scope.alloc;
+    if target.scope.space.0 == SPACE_ROWS {
+        let space = described_name(alloc, holder)?;
+        return Ok(Refusal::SpaceExists { space });
+    }
     Ok(Refusal::DuplicateKey {
         index: Name::from_slice(alloc, def.name.as_slice())?,
         space: Name::from_slice(alloc, target.schema.def.name.as_slice())?,
     })
+}
+
+/// The name of the space that a row describes; an empty one where it describes none.
+fn described_name(alloc: Global, row: &[u8]) -> Result<Name, AllocError>
+    ensures { IfOk result (λ name. name ≡ spec.described_name (Some row.now)) }
+{
+    match described_space(alloc, row)? {
+        Some(def) => Ok(def.name),
+        None => Name::from_slice(alloc, &[]),
+    }
 }

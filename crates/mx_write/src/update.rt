@@ -6,7 +6,7 @@ ghost use Rattle.mx_key.specs.Keys.{Key, AreFit};
 ghost use Rattle.mx_msgpack.specs.Items.{IsArray};
 ghost use Rattle.mx_schema.specs.State as plain;
 ghost use Rattle.mx_schema.specs.State.{key_in};
-ghost use Rattle.mx_schema.specs.Stored.{Holds};
+ghost use Rattle.mx_space.specs.Stored.{Holds};
 ghost use Rattle.mx_write.specs.Makes.{JudgesFound, JudgesMade};
 ghost use Rattle.mx_write.specs.Steps.{IsTarget};
 ghost use Rattle.mx_write.specs.Update.{update_found, updates};
@@ -17,7 +17,7 @@ use crate::made::Made;
 use crate::operations::update_tuple;
 use crate::place::put_in_place;
 use crate::scope::{Scope, Target};
-use crate::writable::{found_name, write_refusal};
+use crate::writable::write_refusal;
 use crate::write::{UPDATE, Write};
 use mx_base::{IndexId, Refusal};
 use mx_schema::array_or_empty;
@@ -63,8 +63,7 @@ fn change(
         (update_found target.now.scope.writer before target.now.scope.space.0 index.0 base key.now operations.now target.now.schema.now target.now.primary.now (Some (own, entry.entry.tuple.now))) }
 {
     let scope = target.scope;
-    let named = found_name(index, entry.tuple);
-    if let Some(refusal) = write_refusal(scope.writer, scope.space, UPDATE, named) {
+    if let Some(refusal) = write_refusal(scope.writer, scope.space, UPDATE, Some(entry.tuple)) {
         return Err(refusal);
     }
     let old = array_or_empty(entry.tuple);

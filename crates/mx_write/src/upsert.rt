@@ -3,7 +3,7 @@
 ghost use Rattle.std.specs.Prelude.{None, Some};
 ghost use Rattle.mx_msgpack.specs.Items.{IsArray};
 ghost use Rattle.mx_schema.specs.State as plain;
-ghost use Rattle.mx_schema.specs.Stored.{Holds};
+ghost use Rattle.mx_space.specs.Stored.{Holds};
 ghost use Rattle.mx_write.specs.Makes.{JudgesMade};
 ghost use Rattle.mx_write.specs.Steps.{HasOwnKey, IsTarget};
 ghost use Rattle.mx_write.specs.Upsert.{upsert_found, upserts};
@@ -35,20 +35,20 @@ impl Scope<'_> {
             → JudgesMade before self.entry.space.0 (statement.Upsert base tuple.now operations.now) result
             (upserts self.entry.writer before self.entry.space.0 base tuple.now operations.now) }
     {
-        let table = find_space(self.state, self.space)?;
+        let stored = find_space(self.state, self.space)?;
         if let Some(refusal) = write_refusal(self.writer, self.space, UPSERT, Some(tuple)) {
             return Err(refusal);
         }
-        let schema = table.schema();
+        let schema = stored.schema();
         let primary = find_index(self.alloc, schema, IndexId(0))?;
         let key = check_tuple(self.alloc, schema, primary, tuple)?;
         let target = Target {
             scope: self,
-            table,
+            stored,
             schema,
             primary,
         };
-        match table.tuple(&key) {
+        match stored.tuple(&key) {
             Some(old) => change(&target, base, tuple, operations, key, old),
             None => put(&target, base, tuple, operations, key),
         }

@@ -7,7 +7,6 @@ ghost use Rattle.mx_base.specs.declared.refusal.Refusal.TheVariants as refused;
 ghost use Rattle.mx_msgpack.specs.Items.{items_of};
 ghost use Rattle.mx_write.specs.Writable as spec;
 
-use crate::lookup::not_built;
 use crate::write::{DELETE, INSERT};
 use mx_base::{IndexId, Refusal, SpaceId, Unsupported};
 use mx_msgpack::{array_of, parted, unsigned_in};
@@ -51,14 +50,7 @@ pub fn primary_name(index: IndexId, key: &[u8]) -> Option<&[u8]>
     if index.0 == 0 { Some(key) } else { None }
 }
 
-/// The tuple by which a row is named that another index found.
-pub fn found_name(index: IndexId, tuple: &[u8]) -> Option<&[u8]>
-    ensures { option_copied result ≡ spec.found_name index.0 tuple.now }
-{
-    if index.0 == 0 { None } else { Some(tuple) }
-}
-
-/// A row that describes a space or an index. One that is dropped by another index is known once it is found.
+/// A row that describes a space or an index is added and taken out, and never replaced.
 fn schema_refusal(kind: u8, named: Option<&[u8]>) -> Option<Refusal>
     ensures { result ≡ spec.schema_refusal kind (option_copied named.entry) }
 {
@@ -67,20 +59,17 @@ fn schema_refusal(kind: u8, named: Option<&[u8]>) -> Option<Refusal>
             what: Unsupported::SchemaInPlace,
         });
     }
-    match named {
-        Some(array) => Some(described_refusal(kind, array)),
-        None => None,
-    }
+    own_row_refusal(named)
 }
 
-/// Further spaces and indexes can't be added and dropped yet.
-fn described_refusal(kind: u8, named: &[u8]) -> Refusal
-    ensures { result ≡ spec.described_refusal kind named.now }
+/// The rows that describe the database's own spaces stay.
+fn own_row_refusal(named: Option<&[u8]>) -> Option<Refusal>
+    ensures { result ≡ spec.own_row_refusal (option_copied named.entry) }
 {
-    if begins_with_system_number(named) {
-        return system_write();
+    match named {
+        Some(array) if begins_with_system_number(array) => Some(system_write()),
+        _ => None,
     }
-    not_built(kind)
 }
 
 fn system_write() -> Refusal
