@@ -21,7 +21,11 @@ pub mod GateLaws
 pub mod ReadLaws
 pub mod ToldLaws
 pub mod SlowLaws
+pub mod SlowMoveLaws
+pub mod SlowSchemaLaws
+pub mod SlowChangeLaws
 pub mod SlowListLaws
+pub mod SlowBuildLaws
 pub mod SlowSiteLaws
 pub mod SlowMakeLaws
 pub mod SlowWriteLaws

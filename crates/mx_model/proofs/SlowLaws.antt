@@ -1,5 +1,5 @@
 -- What the plain slow program finds and keeps is what the definitions say.
-use Rattle.std.proofs.Common.{◌≡◌, inl, inr, ℕ, suc, ◌+◌, Bool, true, false, cond, not, ◌&&◌, List, [], ◌∷◌, ◌++◌, map, drop, get_or, length, ◌<◌, ◌≤◌, refl, sym, ap, ◌∙◌, subst, append-nil, append_assoc, arith, add-one, ne_eqb, eq-eqb, nat_cmp}
+use Rattle.std.proofs.Common.{◌≡◌, inl, inr, ℕ, suc, ◌+◌, Bool, true, false, cond, not, ◌&&◌, List, [], ◌∷◌, ◌++◌, map, drop, get_or, length, ◌<◌, ◌≤◌, refl, sym, ap, ◌∙◌, subst, append-nil, arith, add-one, ne_eqb, eq-eqb, nat_cmp}
 use Rattle.std.specs.Prelude.{Option, Some, None, Result, Ok, Err, IfOk, IfSome, MatchResult, OnOk, ◌==◌, if◌then◌else◌}
 use Rattle.std.specs.BTreeMap.{insert_entry, is_at}
 use Rattle.std.specs.FinMap.{empty, entries, insert, remove}
@@ -24,20 +24,19 @@ use Rattle.mx_key.proofs.RangeLaws.{range_holds}
 use Rattle.mx_row.specs.Clocks.{clock_after}
 use Rattle.mx_schema.specs.declared.index_def.IndexDef.{IndexDef}
 use Rattle.mx_schema.specs.declared.keyed.Keyed.{Keyed}
-use Rattle.mx_schema.specs.declared.pick.Pick.{Pick}
-use Rattle.mx_schema.specs.declared.pick.SelectStop.{SelectStop}
+use Rattle.mx_space.specs.declared.pick.Pick.{Pick}
+use Rattle.mx_space.specs.declared.pick.SelectStop.{SelectStop}
 use Rattle.mx_schema.specs.declared.schema.Schema.{Schema}
-use Rattle.mx_schema.specs.declared.tables.TableEntry.{TableEntry}
 use Rattle.mx_schema.specs.Catalogues.{index_with}
 use Rattle.mx_schema.specs.Picks.{entry_key, indexed_with, total_bytes, max_result_size}
-use Rattle.mx_schema.specs.Scans.{picked_of}
-use Rattle.mx_schema.specs.Selecting.{found_in}
+use Rattle.mx_space.specs.Scans.{picked_of}
+use Rattle.mx_space.specs.Selecting.{found_in}
+use Rattle.mx_schema.specs.Sound.{IsSound}
 use Rattle.mx_schema.specs.State as plain
 use Rattle.mx_schema.specs.State.{State, key_in, tuples_in, with_tuple, without_tuple}
 use Rattle.mx_schema.specs.Stored.{StandByPrimary, StoredTuple, StoresSpace, StoresTuples, stored_list, stored_view}
-use Rattle.mx_schema.specs.Tables.{table_of}
-use Rattle.mx_schema.proofs.PickLaws as picks
-use Rattle.mx_schema.proofs.PickLaws.{fit_ends}
+use Rattle.mx_space.proofs.PickLaws as picks
+use Rattle.mx_space.proofs.PickLaws.{fit_ends}
 use Rattle.mx_schema.proofs.StateLaws.{stands_after, stands_left, tuples_set}
 use Rattle.mx_schema.proofs.StoredLaws.{PartIndexed, one_indexed, all_indexed, stores_none}
 use Rattle.mx_model.specs.declared.reply.Reply.{Reply}
@@ -47,39 +46,15 @@ use Rattle.mx_model.specs.declared.slow.SlowSpace.{SlowSpace}
 use Rattle.mx_model.specs.Answers.{answer_to}
 use Rattle.mx_model.specs.Histories.{Ledger, Asked, answer_in, commit_of, commits_of, is_out_of_memory, is_write, ledger_after, ledger_state, next_lsn, with_lsn, writable_node}
 use Rattle.mx_model.specs.Slow.{Answers, IsSlow, KeepsSpace, KeepsTuples, Takes}
-use Rattle.mx_model.specs.SlowSteps.{Finds, Gathers, IsMoved, KeepsBy, MovesTable}
+use Rattle.mx_model.specs.SlowSteps.{Finds, Gathers, KeepsBy}
 use Rattle.mx_model.specs.Transactions.{state_after}
 use Rattle.mx_model.specs.statements.Answer.{Answer, refusal_alone}
 use Rattle.mx_model.specs.statements.Select.{iterator_of, select_answer_in}
 use Rattle.mx_model.proofs.HistoryLaws.{committed-no_row, select_no_row}
 
--- ---- the tables of a state
-
--- the last tables were moved, and the others are still to come
-pub record PartMoved (whole left : List TableEntry) (spaces : ℕ → Option SlowSpace) : Type 0 where
-  pub moved : List TableEntry
-  pub same : left ++ moved ≡ whole
-  pub are : (q : ℕ) → IsMoved (table_of q moved) (spaces q)
-
--- one more was
-pub one_moved : (whole left rest : List TableEntry) (entry : TableEntry) (space : SlowSpace) (was now : ℕ → Option SlowSpace) → left ≡ rest ++ entry ∷ []
-    → MovesTable entry.table space → ((q : ℕ) → now q ≡ cond (is_at (nat_cmp entry.space.0) q) (Some space) (was q)) → PartMoved whole left was → PartMoved whole rest now
-one_moved whole left rest entry space was now next moves updates part = record {
-  moved = entry ∷ part.moved;
-  same = sym (append_assoc rest (entry ∷ []) part.moved) ∙ ap (λ l. l ++ part.moved) (sym next) ∙ part.same;
-  are = λ q. subst (IsMoved (table_of q (entry ∷ part.moved))) (sym (updates q ∙ ap (λ b. cond b (Some space) (was q)) (tie_same entry.space.0 q))) (by_test q (entry.space.0 == q));
-}
-  where
-    tie_same : (a b : ℕ) → is_at (nat_cmp a) b ≡ (a == b)
-    tie_same a b = grind (arith, nat_tests)
-
-    by_test : (q : ℕ) (b : Bool) → IsMoved (cond b (Some entry.table) (table_of q part.moved)) (cond b (Some space) (was q))
-    by_test q true = moves
-    by_test q false = part.are q
-
 -- ---- a tuple more, and one less
 
-at_same : (a b : ℕ) → is_at (nat_cmp a) b ≡ (b == a)
+pub at_same : (a b : ℕ) → is_at (nat_cmp a) b ≡ (b == a)
 at_same a b = grind (arith, nat_tests)
 
 -- one space has other tuples, and the others are as before
@@ -223,6 +198,7 @@ stays_slow slow ledger name asked reply none is =
     ∙ append-nil ledger.journal in
     record {
       keeps = subst (λ journal. KeepsTuples slow (state_after ledger.base.state journal)) (sym same) is.keeps;
+      sound = subst (λ journal. IsSound (state_after ledger.base.state journal)) (sym same) is.sound;
       clock = is.clock ∙ ap (clock_after ledger.base.clock) (sym same);
       ids = is.ids;
     }

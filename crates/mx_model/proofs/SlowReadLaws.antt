@@ -22,20 +22,20 @@ use Rattle.mx_key.specs.Parts.{key_of_array}
 use Rattle.mx_key.specs.Ranges.{Range, descends, range_of, range_until}
 use Rattle.mx_key.proofs.RangeLaws.{range_holds}
 use Rattle.mx_schema.specs.declared.index_def.IndexDef.{IndexDef}
-use Rattle.mx_schema.specs.declared.pick.Pick.{Pick}
-use Rattle.mx_schema.specs.declared.pick.SelectStop.{SelectStop}
-use Rattle.mx_schema.specs.declared.pick.SelectStop.TheVariants.{TooLong}
+use Rattle.mx_space.specs.declared.pick.Pick.{Pick}
+use Rattle.mx_space.specs.declared.pick.SelectStop.{SelectStop}
+use Rattle.mx_space.specs.declared.pick.SelectStop.TheVariants.{TooLong}
 use Rattle.mx_schema.specs.declared.schema.Schema.{Schema}
 use Rattle.mx_schema.specs.Catalogues.{index_with, schema_of}
 use Rattle.mx_schema.specs.Picks.{Selection, directed, entries_of, max_result_size, total_bytes, window}
-use Rattle.mx_schema.specs.Scans.{picked_of}
-use Rattle.mx_schema.specs.Selecting.{IsStopped, found_in, last_key_of}
+use Rattle.mx_space.specs.Scans.{picked_of}
+use Rattle.mx_space.specs.Selecting.{IsStopped, found_in, last_key_of}
 use Rattle.mx_schema.specs.State as plain
 use Rattle.mx_schema.specs.State.{State, source_of}
 use Rattle.mx_schema.specs.Stored.{StoredTuple, StoresTuples}
-use Rattle.mx_schema.proofs.PickLaws as picks
-use Rattle.mx_schema.proofs.PickLaws.{HoldsItsKeys, fit_ends}
-use Rattle.mx_schema.proofs.WindowLaws.{drop_one, filter-directed, last_after, took_last}
+use Rattle.mx_space.proofs.PickLaws as picks
+use Rattle.mx_space.proofs.PickLaws.{HoldsItsKeys, fit_ends}
+use Rattle.mx_space.proofs.WindowLaws.{drop_one, filter-directed, last_after, took_last}
 use Rattle.mx_write.specs.declared.writable.Writer.TheVariants.{Client}
 use Rattle.mx_write.specs.Judge.{judged_write}
 use Rattle.mx_write.specs.Made.{Made}

@@ -19,15 +19,17 @@ use Rattle.mx_row.specs.Rows.{delete_type, max_body_size, row_body_text}
 use Rattle.mx_write.specs.declared.writable.Writer.TheVariants.{Client}
 use Rattle.mx_write.specs.Checks.{tuple_fault}
 use Rattle.mx_write.specs.Delete.{delete_found}
+use Rattle.mx_write.specs.Descriptions.{description_fault, drop_fault, new_index_fault}
+use Rattle.mx_write.specs.Insert.{inserts_taken}
 use Rattle.mx_write.specs.Judged.{Judged, found, found_or, judged_as, next_stage, reads_of, stopped, unless, ◌>>=◌}
-use Rattle.mx_write.specs.Lookup.{entry_with, holder_of, is_unique, other_indexes, own_key, the_index, the_key, the_primary, the_unique_index, unless_unique}
+use Rattle.mx_write.specs.Lookup.{all_indexes, entry_with, holder_of, is_unique, other_indexes, own_key, the_index, the_key, the_primary, the_unique_index, unless_unique}
 use Rattle.mx_write.specs.Made.{Made, made, nothing, row_with}
 use Rattle.mx_write.specs.Makes.{IsRefusedBy}
 use Rattle.mx_write.specs.Reads.{Read, index_read, key_read, space_read}
 use Rattle.mx_write.specs.Unique.{are_free, duplicate, is_another, is_free}
 use Rattle.mx_write.specs.Update.{key_change, put_in_place}
-use Rattle.mx_write.specs.Writable.{found_name, write_refusal}
-use Rattle.mx_write.specs.Writes.{Write, Delete}
+use Rattle.mx_write.specs.Writable.{write_refusal}
+use Rattle.mx_write.specs.Writes.{Write, Delete, Insert}
 use Rattle.mx_write.proofs.UniqueLaws.{holder_is, number_is}
 use Rattle.mx_model.specs.declared.slow.read_ranges.ReadRange.{ReadRange}
 use Rattle.mx_model.specs.SlowReads.{read_view, reads_view}
@@ -250,6 +252,10 @@ module _ (before : State) (space index : ℕ) (key : List ℕ) (schema : Schema)
           → of_unique.reads ≡ index_read space ∷ key_read space index asked ∷ (rest primary (entry_with before space primary def asked)).reads
       key_asked_reads asked e = by_primary (Some primary) there ∙ ap (λ l. index_read space ∷ l) (reads_on (the_key def key) (after_key def primary) asked e)
 
+      -- a key that doesn't fit isn't read
+      pub key_refused_reads : (why : Refusal) → (the_key def key).outcome ≡ Err why → of_unique.reads ≡ index_read space ∷ []
+      key_refused_reads why e = by_primary (Some primary) there ∙ ap (λ l. index_read space ∷ l) (reads_end (the_key def key) (after_key def primary) why e)
+
 -- ---- unique indexes
 
 module _ (before : State) (space : ℕ) (schema : Schema) (primary : IndexDef) (replaced : Option Key) (tuple : List ℕ) where
@@ -263,7 +269,7 @@ module _ (before : State) (space : ℕ) (schema : Schema) (primary : IndexDef) (
   read_of def = key_read space def.id.0 (own_key def tuple)
 
   abbrev free_by : IndexDef → (is_held : Bool) → Judged (Unit {0})
-  free_by def is_held = reads_of (read_of def ∷ []) >>= λ _. unless (duplicate schema def is_held)
+  free_by def is_held = reads_of (read_of def ∷ []) >>= λ _. unless (duplicate space schema def (holder_of before space def (own_key def tuple)) is_held)
 
   module _ (def : IndexDef) (others : List IndexDef) where
     by_unique : (unique : Bool) → is_unique def ≡ unique → (free (def ∷ others)).reads ≡ ((if unique then is_free before space schema primary replaced tuple def else found tt) >>= λ _. free others).reads
@@ -314,6 +320,29 @@ module _ (at space : SpaceId) (same : at ≡ space) (old mid new : List ReadRang
       added_all old mid new (free space.0 >>= λ _. last space.0).reads whole upto (free at.0).reads
       (reads_no_more (free space.0) (λ _. last space.0) (λ _. none) ∙ ap (λ (s : SpaceId). (free s.0).reads) (sym same))
 
+-- ---- an INSERT of a tuple that the space takes
+
+module _ (before : State) (space : ℕ) (schema : Schema) (primary : IndexDef) (tuple : List ℕ) where
+  abbrev pub insert_last : Judged Made
+  insert_last = unless (new_index_fault before space tuple) >>= λ _. made space (Insert tuple) (own_key primary tuple) (Some tuple) (tuple ∷ [])
+
+  -- the last stages read nothing
+  insert_last_reads : insert_last.reads ≡ []
+  insert_last_reads =
+      reads_no_more (unless (new_index_fault before space tuple)) (λ _. made space (Insert tuple) (own_key primary tuple) (Some tuple) (tuple ∷ []))
+      (λ _. made_reads space (Insert tuple) (own_key primary tuple) (Some tuple) (tuple ∷ []))
+      ∙ unless_reads (new_index_fault before space tuple)
+
+  abbrev insert_free : Judged (Unit {0})
+  insert_free = are_free before space schema primary None tuple (all_indexes primary schema)
+
+  -- a row that describes nothing is refused before another one is looked for
+  pub insert_undescribed_reads : (why : Refusal) → description_fault before space tuple ≡ Some why → (inserts_taken before space schema primary tuple).reads ≡ []
+  insert_undescribed_reads why is = ap (λ f. (unless f >>= λ _. insert_free >>= λ _. insert_last).reads) is
+
+  pub insert_described_reads : description_fault before space tuple ≡ None → (inserts_taken before space schema primary tuple).reads ≡ insert_free.reads
+  insert_described_reads none = passed_reads (description_fault before space tuple) (insert_free >>= λ _. insert_last) none ∙ reads_no_more insert_free (λ _. insert_last) (λ _. insert_last_reads)
+
 -- ---- a tuple in the place of another one
 
 module _ (before : State) (space : ℕ) (schema : Schema) (primary : IndexDef) (write : Write) (own : Key) (tuple : List ℕ) (shown : List (List ℕ)) where
@@ -340,5 +369,8 @@ module _ (before : State) (space : ℕ) (schema : Schema) (primary : IndexDef) (
 pub delete_reads_no_more : (before : State) (space index : ℕ) (key : List ℕ) (entry : Option Indexed) → (delete_found Client before space index key entry).reads ≡ []
 delete_reads_no_more before space index key None = refl
 delete_reads_no_more before space index key (Some (own, old)) =
-    reads_no_more (unless (write_refusal Client space delete_type (found_name index old))) (λ _. made space (Delete index key) own None (old ∷ []))
-    (λ _. made_reads space (Delete index key) own None (old ∷ [])) ∙ unless_reads (write_refusal Client space delete_type (found_name index old))
+    let may = write_refusal Client space delete_type (Some old) in
+    let goes = drop_fault before space old in
+    let write = Delete index key in
+    reads_no_more (unless may) (λ _. unless goes >>= λ _. made space write own None (old ∷ []))
+    (λ _. reads_no_more (unless goes) (λ _. made space write own None (old ∷ [])) (λ _. made_reads space write own None (old ∷ [])) ∙ unless_reads goes) ∙ unless_reads may

@@ -1,7 +1,6 @@
 -- What the plain slow program answers to a write, and keeps after it.
-use Rattle.std.proofs.Common.{◌≡◌, inl, inr, ℕ, suc, ◌+◌, ◌-◌, Bool, true, false, List, [], ◌∷◌, ◌++◌, Option, Some, None, Result, Ok, Err, ◌<◌, refl, sym, ap, ◌∙◌, subst, true≢false, arith, nat_cmp}
+use Rattle.std.proofs.Common.{◌≡◌, inl, inr, ℕ, suc, ◌+◌, ◌-◌, Bool, true, false, List, [], ◌∷◌, ◌++◌, Option, Some, None, Result, Ok, Err, ◌<◌, refl, sym, ap, ◌∙◌, subst, true≢false, arith}
 use Rattle.std.specs.Prelude.{⊤, MatchResult, nat_lt, slice_index, slice_set, if◌then◌else◌}
-use Rattle.std.specs.BTreeMap.{get_by}
 use Rattle.std.proofs.lemmas.Bool.{lt-ltb, le-ltb}
 use Rattle.mx_vclock.specs.Vclocks.{max_lsn, IsNext}
 use Rattle.mx_base.specs.declared.ids.TxnName.{TxnName}
@@ -13,29 +12,24 @@ use Rattle.mx_row.specs.declared.row.Row.{Row}
 use Rattle.mx_row.specs.declared.tx.Tx.{Tx}
 use Rattle.mx_row.specs.Clocks.{clock_after, clock_after_one}
 use Rattle.mx_row.proofs.ClockLaws.{clock_after-append}
-use Rattle.mx_schema.specs.declared.schema.Schema.{Schema}
-use Rattle.mx_schema.specs.Catalogues.{schema_of}
-use Rattle.mx_schema.specs.Sound.{AreKeyed, IsSound}
-use Rattle.mx_schema.specs.State as plain
-use Rattle.mx_schema.specs.State.{State, index_rows, key_in, space_rows, tuples_in, without_tuple}
-use Rattle.mx_schema.specs.Stored.{StandByPrimary}
+use Rattle.mx_schema.specs.Sound.{IsSound}
+use Rattle.mx_schema.specs.State.{State}
 use Rattle.mx_write.specs.declared.made.Made as code
 use Rattle.mx_write.specs.declared.writable.Writer.TheVariants.{Client}
-use Rattle.mx_write.specs.Change.{state_after_changed, state_with}
-use Rattle.mx_write.specs.Judge.{judged_write, row_change}
+use Rattle.mx_write.specs.Change.{state_after_changed}
+use Rattle.mx_write.specs.Judge.{judged_write}
 use Rattle.mx_write.specs.Judged.{Judged}
 use Rattle.mx_write.specs.Made.{Made, nothing}
 use Rattle.mx_write.specs.Makes.{IsRefusedBy, MakesWrite, tuple_after}
 use Rattle.mx_write.specs.Writes.{Write, write_in}
-use Rattle.mx_write.proofs.InstallLaws.{schema_stays}
+use Rattle.mx_write.proofs.InstallLaws.{changed_so, judged_so}
+use Rattle.mx_write.proofs.SoundLaws.{change_sound}
 use Rattle.mx_model.specs.declared.reply.Reply.{Reply}
 use Rattle.mx_model.specs.declared.reply.Reply.TheVariants.{Tuples, Refused}
 use Rattle.mx_model.specs.declared.slow.Slow.{Slow}
-use Rattle.mx_model.specs.declared.slow.SlowSpace.{SlowSpace}
 use Rattle.mx_model.specs.Answers.{answer_to, state_after_row}
 use Rattle.mx_model.specs.Histories.{Ledger, answer_in, commit_of, commits_of, ledger_state, next_lsn, with_lsn, writable_node}
-use Rattle.mx_model.specs.Slow.{Answers, IsSlow, KeepsSpace, KeepsTuples, Takes}
-use Rattle.mx_model.specs.SlowSteps.{KeepsBy}
+use Rattle.mx_model.specs.Slow.{Answers, IsSlow, KeepsTuples, Takes}
 use Rattle.mx_model.specs.Transactions.{state_after}
 use Rattle.mx_model.specs.statements.Answer.{Answer, refusal_after}
 use Rattle.mx_model.specs.statements.Write.{answer_of_outcome}
@@ -43,23 +37,6 @@ use Rattle.mx_model.proofs.AnswerLaws.{write_answered, write_writes}
 use Rattle.mx_model.proofs.HistoryLaws.{state_after-append}
 use Rattle.mx_model.proofs.SlowLaws.{answer_taken, slow_is_told, told_alone}
 use Rattle.mx_model.proofs.WriteLaws.{changes_again}
-
--- ---- the state that the program keeps is sound
-
-space_keyed : (schema : Option Schema) (there : Option SlowSpace) (tuples : plain.Tuples) → KeepsSpace schema there tuples → AreKeyed schema tuples
-space_keyed None there tuples keeps = tt
-space_keyed (Some schema) None tuples keeps = let none = keeps.none in absurd cc
-space_keyed (Some schema) (Some space) tuples keeps =
-    let same : space.schema ≡ schema = one_schema schema space.schema keeps.is in
-    (subst (λ s. StandByPrimary s tuples) same keeps.stands, keeps.keeps.fit)
-  where
-    one_schema : (one other : Schema) → Some one ≡ Some other → other ≡ one
-    one_schema one other e = cc
-
-sound_kept : (slow : Slow) (state : State) → KeepsTuples slow state → IsSound state
-sound_kept slow state keeps = λ space. space_keyed (schema_of state space) (get_by (nat_cmp space) slow.spaces) (tuples_in state space) (keeps space)
-
--- ---- the answer to a write
 
 module _ (slow : Slow) (ledger : Ledger) (name : TxnName) (is : IsSlow slow ledger) (asked : Request) (space : ℕ) (write : Write) (takes : Takes slow asked)
     (writes : write_in asked ≡ Some (space, write)) where
@@ -113,21 +90,18 @@ module _ (slow : Slow) (ledger : Ledger) (name : TxnName) (is : IsSlow slow ledg
         told_alone slow ledger name asked (answer true) (Refused LsnsUsedUp) is
         (answer_by true (ap (nat_lt max_lsn) (sym lsn_is) ∙ lt-ltb max_lsn _ above)) refl refl
 
-    -- spaces that have what the write changes have what its row makes of the state
-    keeps_after : (row : Row) → made.row ≡ Some row → (spaces : ℕ → Option SlowSpace)
-        → KeepsBy (schema_of before) spaces (state_with before space makes.key (tuple_after found.effect))
-        → KeepsBy (schema_of (state_after_row before row)) spaces (state_after_row before row)
+    -- what is so after the change is so after its row
+    after_row : (row : Row) → made.row ≡ Some row → (P : State → Type 0) → P (state_after_changed before made.change) → P (state_after_row before row)
     unfolding state_after_row
-    keeps_after row leaves spaces keeps =
-        let after = state_with before space makes.key (tuple_after found.effect) in
-        let same : row_change before row ≡ Some (record { space = space; key = makes.key; tuple = tuple_after found.effect }) =
-        changes_again before space write made row (sound_kept slow before is.keeps) e leaves ∙ makes.change in
-        subst (λ (s : State). KeepsBy (schema_of s) spaces s) (sym (ap (state_after_changed before) same))
-        (λ q. subst (λ (s : Option Schema). KeepsSpace s (spaces q) (tuples_in after q))
-        (sym (schema_stays before space write found made makes Client e (tuple_after found.effect) q)) (keeps q))
+    after_row row leaves P = subst (λ change. P (state_after_changed before change)) (sym (changes_again before space write made row is.sound e leaves))
+
+    stays_sound : IsSound (state_after_changed before made.change)
+    stays_sound =
+        changed_so before space write found made makes Client e IsSound
+        (change_sound before is.sound space makes.key (tuple_after found.effect) makes.fit (judged_so before space write found made makes Client e))
 
     pub slow_writes : (new : Slow) (tuples : List (List ℕ)) (lsn : ℕ) → tuples ≡ made.shown → new.ids ≡ slow.ids
-        → KeepsBy (schema_of before) (λ q. get_by (nat_cmp q) new.spaces) (state_with before space makes.key (tuple_after found.effect))
+        → KeepsTuples new (state_after_changed before made.change)
         → IsNext slow.clock writable_node lsn → new.clock ≡ slice_set slow.clock writable_node lsn → Answers new ledger name asked (Tuples tuples)
     slow_writes new tuples lsn shown ids keeps next clock = by_row made.row refl
       where
@@ -145,12 +119,12 @@ module _ (slow : Slow) (ledger : Ledger) (name : TxnName) (is : IsSlow slow ledg
             ∙ ap (λ first. commit_of writable_node first false (Some row)) number) in
             let last : lsn ≡ (lsn + 1) - 1 = omega arith in
             let journal = ap (λ more. ledger.journal ++ more) commits in
+            let came_to = sym (state_after-append ledger.base.state ledger.journal (transaction ∷ [])) ∙ ap (state_after ledger.base.state) journal in
             record {
               told = ap (λ t. Tuples t) shown ∙ sym (ap (λ a. a.reply) gives);
               after = record {
-                keeps = subst (λ (s : State). KeepsBy (schema_of s) (λ q. get_by (nat_cmp q) new.spaces) s)
-                    (sym (state_after-append ledger.base.state ledger.journal (transaction ∷ [])) ∙ ap (state_after ledger.base.state) journal)
-                    (keeps_after row leaves (λ q. get_by (nat_cmp q) new.spaces) keeps);
+                keeps = subst (KeepsTuples new) came_to (after_row row leaves (KeepsTuples new) keeps);
+                sound = subst IsSound came_to (after_row row leaves IsSound stays_sound);
                 clock = clock ∙ ap (slice_set slow.clock writable_node) last ∙ ap (λ c. clock_after_one c transaction) is.clock
                     ∙ sym (clock_after-append ledger.base.clock ledger.journal (transaction ∷ []))
                     ∙ ap (clock_after ledger.base.clock) journal;

@@ -7,6 +7,7 @@ use Rattle.mx_request.specs.declared.request.Ask.TheVariants as ask
 use Rattle.mx_request.specs.declared.request.Request.{Request}
 use Rattle.mx_schema.specs.declared.schema.Schema.{Schema}
 use Rattle.mx_schema.specs.Catalogues.{schema_of}
+use Rattle.mx_schema.specs.Sound.{IsSound}
 use Rattle.mx_schema.specs.State.{State, Tuples, tuples_in}
 use Rattle.mx_schema.specs.Stored.{StoresNone, StoresSpace, stored_list}
 use Rattle.mx_model.specs.declared.reply.Reply.{Reply}
@@ -23,9 +24,10 @@ KeepsSpace schema (Some space) tuples = StoresSpace schema space.schema (stored_
 abbrev pub KeepsTuples : Slow → State → Type 0
 KeepsTuples slow state = (space : ℕ) → KeepsSpace (schema_of state space) (get_by (nat_cmp space) slow.spaces) (tuples_in state space)
 
--- the program keeps what the ledger has: the tuples, the vclock and the node's identifiers
+-- the program keeps what the ledger has: the tuples of a sound state, the vclock and the node's identifiers
 pub record IsSlow (slow : Slow) (ledger : Ledger) : Type 0 where
   pub keeps : KeepsTuples slow (ledger_state ledger)
+  pub sound : IsSound (ledger_state ledger)
   pub clock : slow.clock ≡ ledger_clock ledger
   pub ids : slow.ids ≡ ledger.base.ids
 

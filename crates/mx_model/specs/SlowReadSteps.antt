@@ -4,9 +4,9 @@ use Rattle.mx_base.specs.declared.refusal.Refusal.{Refusal}
 use Rattle.mx_base.specs.declared.refusal.Refusal.TheVariants.{OutOfMemory}
 use Rattle.mx_key.specs.Keys.{Key}
 use Rattle.mx_key.specs.Ranges.{Range, range_of}
-use Rattle.mx_schema.specs.declared.pick.Pick.{Pick}
+use Rattle.mx_space.specs.declared.pick.Pick.{Pick}
 use Rattle.mx_schema.specs.Picks.{Indexed, total_bytes, max_result_size}
-use Rattle.mx_schema.specs.Scans.{picked_of}
+use Rattle.mx_space.specs.Scans.{picked_of}
 use Rattle.mx_write.specs.Reads.{Read}
 use Rattle.mx_model.specs.declared.slow.read_ranges.ReadRange.{ReadRange}
 use Rattle.mx_model.specs.SlowReads.{reads_view}

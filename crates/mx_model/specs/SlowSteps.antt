@@ -1,16 +1,17 @@
--- Only private functions and proofs need these: what the plain slow program makes of a state's tables, and what it gathers.
+-- Only private functions and proofs need these: what the plain slow program makes of a state's spaces, and what it gathers.
 use Rattle.std.specs.Prelude.{◌≡◌, ◌⊎◌, ◌<◌, ◌≤◌, ⊤, ℕ, List, map, Option, Some, None, Result, MatchResult}
 use Rattle.mx_key.specs.Keys.{Key}
-use Rattle.mx_schema.specs.declared.pick.Pick.{Pick}
-use Rattle.mx_schema.specs.declared.pick.SelectStop.{SelectStop}
-use Rattle.mx_schema.specs.declared.pick.SelectStop.TheVariants.{TooLong, NoMemory}
+use Rattle.mx_space.specs.declared.pick.Pick.{Pick}
+use Rattle.mx_space.specs.declared.pick.SelectStop.{SelectStop}
+use Rattle.mx_space.specs.declared.pick.SelectStop.TheVariants.{TooLong, NoMemory}
 use Rattle.mx_schema.specs.declared.schema.Schema.{Schema}
-use Rattle.mx_schema.specs.declared.table.Table.{Table}
+use Rattle.mx_schema.specs.Catalogues.{schema_of}
 use Rattle.mx_schema.specs.Picks.{Indexed, total_bytes, max_result_size}
-use Rattle.mx_schema.specs.Scans.{picked_of}
-use Rattle.mx_schema.specs.Selecting.{IsStopped}
+use Rattle.mx_space.specs.Scans.{picked_of}
+use Rattle.mx_space.specs.Selecting.{IsStopped}
 use Rattle.mx_schema.specs.State.{State, tuples_in}
 use Rattle.mx_schema.specs.Stored.{StoredTuple, stored_list}
+use Rattle.mx_space.specs.declared.space.Space.{Space}
 use Rattle.mx_model.specs.declared.slow.SlowSpace.{SlowSpace}
 use Rattle.mx_model.specs.Slow.{KeepsSpace}
 
@@ -18,15 +19,19 @@ use Rattle.mx_model.specs.Slow.{KeepsSpace}
 abbrev pub KeepsBy : (schemas : ℕ → Option Schema) → (spaces : ℕ → Option SlowSpace) → State → Type 0
 KeepsBy schemas spaces state = (space : ℕ) → KeepsSpace (schemas space) (spaces space) (tuples_in state space)
 
--- a space has what a table has
-abbrev pub MovesTable : Table → SlowSpace → Type 0
-MovesTable table space = (space.schema ≡ table.schema) × (stored_list space.tuples.items ≡ table.tuples.entries)
+-- where the state itself describes them
+abbrev pub KeepsState : (spaces : ℕ → Option SlowSpace) → State → Type 0
+KeepsState spaces state = KeepsBy (schema_of state) spaces state
 
-abbrev pub IsMoved : Option Table → Option SlowSpace → Type 0
+-- a space has what another one had
+abbrev pub MovesSpace : Space → SlowSpace → Type 0
+MovesSpace space moved = (moved.schema ≡ space.schema) × (stored_list moved.tuples.items ≡ space.tuples.entries)
+
+abbrev pub IsMoved : Option Space → Option SlowSpace → Type 0
 IsMoved None None = ⊤
-IsMoved None (Some space) = ⊥
-IsMoved (Some table) None = ⊥
-IsMoved (Some table) (Some space) = MovesTable table space
+IsMoved None (Some moved) = ⊥
+IsMoved (Some space) None = ⊥
+IsMoved (Some space) (Some moved) = MovesSpace space moved
 
 -- these are the tuples of these entries, or why they weren't gathered
 abbrev pub Gathers : List StoredTuple → Result (List (List ℕ)) SelectStop → Type 0

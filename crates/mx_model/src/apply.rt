@@ -5,13 +5,13 @@ ghost use Rattle.mx_base.specs.declared.refusal.Refusal.TheVariants.{OutOfMemory
 ghost use Rattle.mx_row.specs.Rows.{IsRow};
 ghost use Rattle.mx_row.specs.Views.{row_value};
 ghost use Rattle.mx_schema.specs.State as plain;
-ghost use Rattle.mx_schema.specs.Stored.{Holds};
+ghost use Rattle.mx_space.specs.Stored.{Holds};
 ghost use Rattle.mx_model.specs.Answers.{state_after_row};
 ghost use Rattle.mx_write.specs.Judge.{row_refusal};
 
 use mx_base::Refusal;
 use mx_row::RowRef;
-use mx_schema::State;
+use mx_space::State;
 use mx_write::{Scope, Writer, write_of};
 use std::alloc::Global;
 
@@ -33,7 +33,7 @@ pub fn apply_row(state: &mut State, alloc: Global, row: &RowRef<'_>) -> Result<(
         space: row.space,
     };
     match scope.judge(&write)? {
-        Some(made) => Ok(made.install(state, row.space)?),
+        Some(made) => Ok(made.install(alloc, state, row.space)?),
         None => Ok(()),
     }
 }

@@ -1,20 +1,22 @@
 //! A new database.
 
-ghost use Rattle.std.specs.Prelude.{◌≡◌, ℕ, List, [], ◌∷◌, map, Option, IfOk, OnOk};
+ghost use Rattle.std.specs.Prelude.{◌≡◌, ℕ, List, [], ◌∷◌, map, Option, Some, IfOk, OnOk};
 ghost use Rattle.mx_key.specs.declared.part.Part.{Part};
 ghost use Rattle.mx_key.specs.declared.part.PartKind.TheVariants as kind;
 ghost use Rattle.mx_schema.specs.declared.schema.Schema.{Schema};
 ghost use Rattle.mx_schema.specs.Bootstrap.{first_state, part_of_numbers, part_of_texts, with_rows};
-ghost use Rattle.mx_schema.specs.Catalogues.{IsCatalogueOf};
+ghost use Rattle.mx_schema.specs.declared.index_def.IndexDef.{IndexDef};
+ghost use Rattle.mx_schema.specs.Catalogues.{IsCatalogueOf, index_with};
 ghost use Rattle.mx_schema.specs.State as plain;
-ghost use Rattle.mx_schema.specs.Stored.{Holds, HoldsBy, IsKeyedBy};
+ghost use Rattle.mx_space.specs.Stored.{Holds, HoldsBy};
 
 use mx_base::SpaceId;
 use mx_key::{KeyDef, Part, PartKind};
 use mx_schema::{
-    Catalogue, INDEX_ROWS, SETTINGS, SPACE_ROWS, State, a_new_database_has_its_catalogue,
+    Catalogue, INDEX_ROWS, SETTINGS, SPACE_ROWS, a_new_database_has_its_catalogue,
     first_index_rows, first_setting_rows, first_space_rows, from_row_slices, key_tuple,
 };
+use mx_space::State;
 use std::alloc::{AllocError, Global};
 
 /// What a new database holds: the rows that describe its spaces and indexes, and its settings.
@@ -83,12 +85,13 @@ fn put_rows(
     parts: &KeyDef,
     rows: &[&[u8]],
 ) -> Result<(), AllocError>
-    ensures { (schemas : ℕ → Option Schema) (before : plain.State) → HoldsBy schemas state.old before → IsKeyedBy parts.now (schemas space.0)
+    ensures { (schemas : ℕ → Option Schema) (before : plain.State) (schema : Schema) (primary : IndexDef) → HoldsBy schemas state.old before → schemas space.0 ≡ Some schema
+        → index_with 0 schema.indexes ≡ Some primary → primary.key ≡ parts.now
         → OnOk result (HoldsBy schemas state.new (with_rows space.0 parts.now before (map (λ row. row.now) rows.now))) }
 {
     for row in rows {
         match key_tuple(alloc, parts, row) {
-            Ok(keyed) => state.put(space, keyed)?,
+            Ok(keyed) => state.put(alloc, space, keyed)?,
             Err(_) => return Err(AllocError),
         }
     }

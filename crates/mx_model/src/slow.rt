@@ -13,22 +13,25 @@ ghost use Rattle.mx_key.specs.Ranges.{range_of};
 ghost use Rattle.mx_schema.specs.declared.schema.Schema.{Schema};
 ghost use Rattle.mx_schema.specs.Catalogues.{index_with};
 ghost use Rattle.mx_schema.specs.Picks.{directed, indexed_with, tuples_by_index};
-ghost use Rattle.mx_schema.specs.Selecting.{found_in};
 ghost use Rattle.mx_schema.specs.State as plain;
 ghost use Rattle.mx_schema.specs.State.{key_in, source_of, tuples_in, with_tuple};
-ghost use Rattle.mx_schema.specs.Stored.{Holds, StoresTuples, stored_list};
-ghost use Rattle.mx_schema.specs.Tables.{table_of};
+ghost use Rattle.mx_schema.specs.Stored.{StoresTuples, stored_list};
+ghost use Rattle.mx_space.specs.Selecting.{found_in};
+ghost use Rattle.mx_space.specs.Spaces.{space_under};
+ghost use Rattle.mx_space.specs.Stored.{Holds};
 ghost use Rattle.mx_model.specs.statements.Select.{select_answer_in};
 ghost use Rattle.mx_model.specs.Histories.{Base, Ledger, is_write, ledger_of, writable_node};
 ghost use Rattle.mx_model.specs.Slow.{Answers, IsSlow, KeepsTuples, Takes};
-ghost use Rattle.mx_model.specs.SlowSteps.{Finds, Gathers, IsMoved, KeepsBy, MovesTable};
+ghost use Rattle.mx_model.specs.SlowSteps.{Finds, Gathers, IsMoved, KeepsBy, MovesSpace};
 
 mod asked_key;
 mod changes;
+mod descriptions;
 mod duplicates;
 mod list;
 mod read_ranges;
 mod reads;
+mod schemas;
 mod site;
 mod updates;
 mod write_reads;
@@ -43,10 +46,8 @@ use mx_base::{IndexId, Refusal, ReplicaId, SpaceId, TxnName};
 use mx_key::{KeyRange, range};
 use mx_msgpack::{Bytes, Tuples};
 use mx_request::Request;
-use mx_schema::{
-    IndexDef, Keyed, MAX_RESULT_SIZE, Pick, Schema, SelectStop, State, Table, TableEntry,
-    index_tuple, source_of,
-};
+use mx_schema::{IndexDef, Keyed, Schema, index_tuple, source_of};
+use mx_space::{MAX_RESULT_SIZE, Pick, SelectStop, Space, SpaceEntry, State};
 use mx_vclock::Vclock;
 use mx_write::{Write, index_missing, not_built};
 pub use read_ranges::{ReadRange, ReadRanges};
@@ -74,7 +75,7 @@ impl Slow {
     pub fn new(alloc: Global, state: State, clock: Vclock, ids: Ids) -> Result<Slow, AllocError>
         ensures { (base : Base) → Holds state base.state → clock ≡ base.clock → ids ≡ base.ids → IfOk result (λ slow. IsSlow slow (ledger_of base [])) }
     {
-        let spaces = move_tables(alloc, state.into_tables())?;
+        let spaces = move_spaces(alloc, state.into_spaces())?;
         Ok(Slow {
             alloc,
             spaces,
@@ -206,23 +207,23 @@ impl Slow {
     }
 }
 
-fn move_tables(
+fn move_spaces(
     alloc: Global,
-    mut left: Vec<TableEntry>,
+    mut left: Vec<SpaceEntry>,
 ) -> Result<BTreeMap<u32, SlowSpace>, AllocError>
-    ensures { IfOk result (λ spaces. (space : ℕ) → IsMoved (table_of space left.items) (get_by (nat_cmp space) spaces)) }
+    ensures { IfOk result (λ spaces. (space : ℕ) → IsMoved (space_under space left.items) (get_by (nat_cmp space) spaces)) }
 {
     let mut spaces = BTreeMap::new(alloc);
-    while let Some(TableEntry { space, table }) = left.pop() {
-        spaces.insert(space.0, move_table(alloc, table)?)?;
+    while let Some(SpaceEntry { id, space }) = left.pop() {
+        spaces.insert(id.0, move_space(alloc, space)?)?;
     }
     Ok(spaces)
 }
 
-fn move_table(alloc: Global, table: Table) -> Result<SlowSpace, AllocError>
-    ensures { IfOk result (λ space. MovesTable table space) }
+fn move_space(alloc: Global, space: Space) -> Result<SlowSpace, AllocError>
+    ensures { IfOk result (λ moved. MovesSpace space moved) }
 {
-    let (schema, mut left) = table.into_parts();
+    let (schema, mut left) = space.into_parts();
     let mut tuples = Vec::new(alloc);
     while let Some((key, tuple)) = left.pop_first() {
         tuples.push(Keyed { key, tuple })?;

@@ -10,7 +10,8 @@ use crate::statements::select::{misfit_refusal, part_count_refusal, takes_iterat
 use mx_base::{Refusal, Unsupported};
 use mx_key::{IterKind, misfit};
 use mx_msgpack::array_of;
-use mx_schema::{IndexDef, IndexKind, Pick};
+use mx_schema::{IndexDef, IndexKind};
+use mx_space::Pick;
 use std::alloc::AllocError;
 
 /// Why an index doesn't take an iterator with a key; `None` where it takes it.

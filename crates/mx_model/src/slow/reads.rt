@@ -8,7 +8,7 @@ ghost use Rattle.mx_key.specs.Comparable.{edges_of};
 ghost use Rattle.mx_key.specs.Keys.{Key, AreFit};
 ghost use Rattle.mx_key.specs.Ranges.{range_of};
 ghost use Rattle.mx_schema.specs.Picks.{tuples_by_index};
-ghost use Rattle.mx_schema.specs.Selecting.{found_in, last_key_of};
+ghost use Rattle.mx_space.specs.Selecting.{found_in, last_key_of};
 ghost use Rattle.mx_schema.specs.State as plain;
 ghost use Rattle.mx_schema.specs.Stored.{StoresTuples, stored_list};
 ghost use Rattle.mx_model.specs.statements.Select.{select_answer_in};
@@ -24,7 +24,8 @@ use crate::statements::select::iterator_of;
 use mx_base::{IndexId, SpaceId};
 use mx_key::{KeyRange, range};
 use mx_request::Request;
-use mx_schema::{INDEX_ROWS, IndexDef, Keyed, Pick, SPACE_ROWS, SelectStop, source_of};
+use mx_schema::{INDEX_ROWS, IndexDef, Keyed, SPACE_ROWS, source_of};
+use mx_space::{Pick, SelectStop};
 use mx_write::Write;
 use std::alloc::{AllocError, Global};
 

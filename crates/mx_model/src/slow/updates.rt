@@ -28,8 +28,8 @@ use mx_base::{IndexId, Name, Refusal, SpaceId};
 use mx_msgpack::Bytes;
 use mx_schema::{Keyed, array_or_empty};
 use mx_write::{
-    Effect, Made, UPDATE, UPSERT, Write, Writer, check_bytes, found_name, make, update_tuple,
-    upsert_tuple, write_refusal,
+    Effect, Made, UPDATE, UPSERT, Write, Writer, check_bytes, make, update_tuple, upsert_tuple,
+    write_refusal,
 };
 
 impl Slow {
@@ -84,12 +84,7 @@ fn update_found(
         (spec.update_found Client before site.now.space.0 index.0 base key.now operations.now site.now.schema.now site.now.primary.now (Some (own, one.now.tuple))) }
 {
     let old = one.tuple.as_slice();
-    if let Some(refusal) = write_refusal(
-        Writer::Client,
-        site.space,
-        UPDATE,
-        found_name(index, old),
-    ) {
+    if let Some(refusal) = write_refusal(Writer::Client, site.space, UPDATE, Some(old)) {
         return Err(refusal);
     }
     let new = update_tuple(site.alloc, base, array_or_empty(old), operations)?;

@@ -46,7 +46,7 @@ use mx_msgpack::Bytes;
 use mx_schema::{INDEX_ROWS, IndexDef, Keyed, SPACE_ROWS, array_or_empty, parts_or_none};
 use mx_write::{
     DELETE, INSERT, REPLACE, UPDATE, UPSERT, Write, Writer, check_bytes, find_index, find_key,
-    find_unique_index, found_name, primary_name, update_tuple, upsert_tuple, write_refusal,
+    find_unique_index, primary_name, update_tuple, upsert_tuple, write_refusal,
 };
 use std::alloc::AllocError;
 
@@ -120,6 +120,7 @@ impl Slow {
             (λ why. StopsAfter why reads.old reads.new (inserts Client before space.0 tuple.now).reads) }
     {
         let (site, key) = self.read_site_of_tuple(INSERT, space, tuple, reads)?;
+        self.check_description(site.space, tuple)?;
         read_duplicates(&site, key, tuple, reads)?;
         Ok(())
     }
@@ -162,7 +163,7 @@ impl Slow {
     {
         let (site, found) = self.read_site_of_key(UPDATE, space, index, key, reads)?;
         match found {
-            Some(one) => read_update(&site, index, base, operations, one, reads),
+            Some(one) => read_update(&site, base, operations, one, reads),
             None => Ok(()),
         }
     }
@@ -296,23 +297,17 @@ impl Slow {
 /// Why it stops there.
 fn read_update(
     site: &Site<'_>,
-    index: IndexId,
     base: u32,
     operations: &[u8],
     one: &Keyed,
     reads: &mut ReadRanges,
 ) -> Result<(), Refusal>
-    ensures { (before : plain.State) (own : Key) (key : List ℕ) → IsSite before site.now → AreFit own → one.now.key ≡ comparable_of own → MatchResult result
-        (λ _. HasAdded reads.old reads.new (update_found Client before site.now.space.0 index.0 base key operations.now site.now.schema.now site.now.primary.now (Some (own, one.now.tuple))).reads)
-        (λ why. StopsAfter why reads.old reads.new (update_found Client before site.now.space.0 index.0 base key operations.now site.now.schema.now site.now.primary.now (Some (own, one.now.tuple))).reads) }
+    ensures { (before : plain.State) (own : Key) (index : ℕ) (key : List ℕ) → IsSite before site.now → AreFit own → one.now.key ≡ comparable_of own → MatchResult result
+        (λ _. HasAdded reads.old reads.new (update_found Client before site.now.space.0 index base key operations.now site.now.schema.now site.now.primary.now (Some (own, one.now.tuple))).reads)
+        (λ why. StopsAfter why reads.old reads.new (update_found Client before site.now.space.0 index base key operations.now site.now.schema.now site.now.primary.now (Some (own, one.now.tuple))).reads) }
 {
     let old = one.tuple.as_slice();
-    if let Some(refusal) = write_refusal(
-        Writer::Client,
-        site.space,
-        UPDATE,
-        found_name(index, old),
-    ) {
+    if let Some(refusal) = write_refusal(Writer::Client, site.space, UPDATE, Some(old)) {
         return Err(refusal);
     }
     let new = update_tuple(site.alloc, base, array_or_empty(old), operations)?;
@@ -421,5 +416,8 @@ fn read_holder(
     let key = parts_or_none(site.alloc, &def.key, tuple)?;
     let holder = holder(site, def, &key)?;
     reads.push_key(site.alloc, site.space, def.id, key)?;
-    is_another(site, replaced, &holder)
+    match holder {
+        Some(holder) => is_another(site, replaced, holder.as_slice()),
+        None => Ok(false),
+    }
 }

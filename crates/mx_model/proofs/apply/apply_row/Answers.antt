@@ -1,7 +1,7 @@
 use Rattle.std.proofs.Common.{inr, refl, subst}
 use Rattle.std.proofs.lemmas.Result.{err_from_is_err_and}
 use Rattle.mx_row.specs.Views.{row_value}
-use Rattle.mx_schema.specs.Stored.{Holds}
+use Rattle.mx_space.specs.Stored.{Holds}
 use Rattle.mx_write.specs.declared.writable.Writer.TheVariants.{Journal}
 use Rattle.mx_write.specs.Made.{nothing}
 use Rattle.mx_write.specs.Views.{write_view}

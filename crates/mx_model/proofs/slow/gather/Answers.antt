@@ -2,7 +2,7 @@ use Rattle.std.proofs.Common.{rules, ◌≡◌, ◌++◌, ◌∷◌, [], ◌<◌
 use Rattle.mx_key.specs.Comparable.{holds}
 use Rattle.mx_schema.specs.Picks.{directed}
 use Rattle.mx_schema.specs.Stored.{stored_list, stored_view}
-use Rattle.mx_schema.proofs.WindowLaws.{next_seen, went_outside, went_past, went_on, went_too_far, took_bytes}
+use Rattle.mx_space.proofs.WindowLaws.{next_seen, went_outside, went_past, went_on, went_too_far, took_bytes}
 use Rattle.mx_model.proofs.slow.gather.Goals as goal
 
 pub loop-left-preserved-then-not-holds : goal.loop-left-preserved-then-not-holds

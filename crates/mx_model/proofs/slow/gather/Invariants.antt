@@ -3,7 +3,7 @@ use Rattle.mx_key.specs.Comparable.{holds}
 use Rattle.mx_key.specs.Ranges.{descends}
 use Rattle.mx_schema.specs.Picks.{directed, window, total_bytes, max_result_size}
 use Rattle.mx_schema.specs.Stored.{stored_list}
-use Rattle.mx_schema.proofs.WindowLaws.{tuples_of}
+use Rattle.mx_space.proofs.WindowLaws.{tuples_of}
 use Rattle.mx_model.proofs.slow.gather.Given as goal
 
 -- what was taken and what remains are the whole together

@@ -1,7 +1,7 @@
 use Rattle.std.proofs.Common.{rules, ◌≡◌, ◌<◌, ◌≤◌, true, false, length, slice_index_or}
 use Rattle.std.specs.Ordering.{nat_cmp, is_lt}
 use Rattle.std.specs.Cmp.Lexicographic.{slice_cmp}
-use Rattle.mx_schema.proofs.WindowLaws.{taken_more, none_past}
+use Rattle.mx_space.proofs.WindowLaws.{taken_more, none_past}
 use Rattle.mx_model.proofs.slow.place_of.Goals as goal
 
 pub loop-one-preserved : goal.loop-one-preserved

@@ -3,7 +3,7 @@ use Rattle.std.specs.Ordering.{nat_cmp, is_eq}
 use Rattle.std.specs.Cmp.Lexicographic.{slice_cmp}
 use Rattle.std.proofs.lemmas.Map.Text.{is_eq-slice_cmp}
 use Rattle.mx_schema.specs.Stored.{stored_list}
-use Rattle.mx_schema.proofs.WindowLaws.{IsBelow, IsNotBelow, IsOther, put_replaces, put_adds, there, none_past, set_same}
+use Rattle.mx_space.proofs.WindowLaws.{IsBelow, IsNotBelow, IsOther, put_replaces, put_adds, there, none_past, set_same}
 use Rattle.mx_model.proofs.slow.put.Goals as goal
 use Rattle.mx_model.proofs.slow.put.Goals.{in_default-via-in-Some+else-eq, in_default-via-in-None-1}
 

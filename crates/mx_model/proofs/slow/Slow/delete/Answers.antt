@@ -24,7 +24,7 @@ returns-in_err-remove-in-Some c = λ before keeps.
     let (same, is, entry, stands, reaches) = c.in_ok-site.ensures before (λ schema primary. delete_found Client before space.0 index key) keeps in
     let (own, there, fit, bytes, has) = entry_there site.primary.now (option_copied c.in_ok-site.found) c.in-Some.one.now entry (ap option_copied c.in-Some.is) stands in
     rw (p.1, p.2) (judged_at before site.space space same (Delete index key) (deletes Client before space.0 index key) (λ s. delete_found Client before s index key (Some (own, c.in-Some.one.now.tuple)))
-    (Err c.in_err-remove-in-Some.field-0.0) (reaches ∙ ap (λ e. (delete_found Client before space.0 index key e).outcome) there) (c.in_err-remove-in-Some.ensures before own is fit bytes has))
+    (Err c.in_err-remove-in-Some.field-0.0) (reaches ∙ ap (λ e. (delete_found Client before space.0 index key e).outcome) there) (c.in_err-remove-in-Some.ensures before own keeps is fit bytes has))
 
 pub returns-in_ok-remove-in-Some : goal.returns-in_ok-remove-in-Some
 unfolding deletes
@@ -36,7 +36,7 @@ returns-in_ok-remove-in-Some c = λ before keeps.
     let (same, is, entry, stands, reaches) = c.in_ok-site.ensures before (λ schema primary. delete_found Client before space.0 index key) keeps in
     let (own, there, fit, bytes, has) = entry_there site.primary.now (option_copied c.in_ok-site.found) c.in-Some.one.now entry (ap option_copied c.in-Some.is) stands in
     judged_at before site.space space same (Delete index key) (deletes Client before space.0 index key) (λ s. delete_found Client before s index key (Some (own, c.in-Some.one.now.tuple)))
-    (Ok c.in_ok-remove-in-Some.field-0) (reaches ∙ ap (λ e. (delete_found Client before space.0 index key e).outcome) there) (c.in_ok-remove-in-Some.ensures before own is fit bytes has)
+    (Ok c.in_ok-remove-in-Some.field-0) (reaches ∙ ap (λ e. (delete_found Client before space.0 index key e).outcome) there) (c.in_ok-remove-in-Some.ensures before own keeps is fit bytes has)
 
 pub returns-in-None : goal.returns-in-None
 unfolding deletes

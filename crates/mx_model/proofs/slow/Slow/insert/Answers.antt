@@ -1,49 +1,22 @@
-use Rattle.std.proofs.Common.{[], ◌∷◌, ℕ, List, Some, None, refl, sym, ◌∙◌}
 use Rattle.std.proofs.lemmas.Result.{err_from_is_err_and}
-use Rattle.mx_schema.specs.declared.index_def.IndexDef.{IndexDef}
-use Rattle.mx_schema.specs.declared.schema.Schema.{Schema}
-use Rattle.mx_schema.specs.State.{State}
 use Rattle.mx_write.specs.declared.writable.Writer.TheVariants.{Client}
-use Rattle.mx_write.specs.Insert.{inserts}
-use Rattle.mx_write.specs.Judged.{Judged, ◌>>=◌}
-use Rattle.mx_write.specs.Lookup.{all_indexes, own_key}
-use Rattle.mx_write.specs.Made.{Made, made}
-use Rattle.mx_write.specs.Unique.{are_free}
+use Rattle.mx_write.specs.Insert.{inserts, inserts_taken}
 use Rattle.mx_write.specs.Writes.{Insert}
-use Rattle.mx_model.proofs.SlowMakeLaws.{judged_free, refused_duplicate}
+use Rattle.mx_model.proofs.SlowMakeLaws.{judged_at}
 use Rattle.mx_model.proofs.slow.Slow.insert.Goals as goal
-
-abbrev free : State → Schema → IndexDef → (tuple : List ℕ) → (space : ℕ) → Judged (Unit {0})
-free before schema primary tuple space = are_free before space schema primary None tuple (all_indexes primary schema)
-
-abbrev last : IndexDef → (tuple : List ℕ) → (space : ℕ) → Judged Made
-last primary tuple space = made space (Insert tuple) (own_key primary tuple) (Some tuple) (tuple ∷ [])
 
 pub returns-in_err-site : goal.returns-in_err-site
 unfolding inserts
-returns-in_err-site c = λ before keeps.
+returns-in_err-site c = λ before keeps sound.
     let p = err_from_is_err_and c.from_residual.result c.from_residual.ensures.1 in
-    let tuple = c.args.tuple.now in
-    let space = c.args.space.0 in
-    rw (p.1, p.2) (c.in_err-site.ensures before (λ schema primary. free before schema primary tuple space >>= λ _. last primary tuple space) keeps)
-
-pub returns-in-Some : goal.returns-in-Some
-unfolding inserts
-returns-in-Some c = λ before keeps.
-    let tuple = c.args.tuple.now in
-    let space = c.args.space in
-    let site = c.in_ok-site.site in
-    let (same, is, has, reaches) = c.in_ok-site.ensures before (λ schema primary. free before schema primary tuple space.0 >>= λ _. last primary tuple space.0) keeps in
-    refused_duplicate before site.space space same (Insert tuple) (inserts Client before space.0 tuple) (free before site.schema.now site.primary.now tuple)
-    (last site.primary.now tuple) reaches c.in-Some.refusal (sym c.in-Some.is ∙ c.in_ok-refusal.ensures before is has)
+    rw (p.1, p.2) (c.in_err-site.ensures before (λ schema primary. inserts_taken before c.args.space.0 schema primary c.args.tuple.now) keeps)
 
 pub returns : goal.returns
 unfolding inserts
-returns c = λ before keeps.
+returns c = λ before keeps sound.
     let tuple = c.args.tuple.now in
     let space = c.args.space in
     let site = c.in_ok-site.site in
-    let (same, is, has, reaches) = c.in_ok-site.ensures before (λ schema primary. free before schema primary tuple space.0 >>= λ _. last primary tuple space.0) keeps in
-    judged_free before site.space space same (Insert tuple) (inserts Client before space.0 tuple) (free before site.schema.now site.primary.now tuple)
-    (last site.primary.now tuple) reaches c.put_copy.result (sym c.in_default.is ∙ c.in_ok-refusal.ensures before is has)
-    (c.put_copy.ensures before is has refl)
+    let (same, is, has, reaches) = c.in_ok-site.ensures before (λ schema primary. inserts_taken before space.0 schema primary tuple) keeps in
+    judged_at before site.space space same (Insert tuple) (inserts Client before space.0 tuple) (λ s. inserts_taken before s site.schema.now site.primary.now tuple) c.add.result reaches
+    (c.add.ensures before keeps sound is has)

@@ -34,7 +34,7 @@ returns c = λ before rest keeps.
       c.in_ok-entry.ensures before asked (is_site before _ kept c.in_ok-primary.ensures) fit bytes,
       ap (λ named. (in_writable before space c.args.kind named later).outcome) (sym c.primary_name.ensures)
           ∙ reaches
-          ∙ goes_on (the_unique_index space schema index) _ def (c.in_ok-def.ensures space)
+          ∙ goes_on (the_unique_index space schema index) _ def (c.in_ok-def.ensures.outcome space)
           ∙ goes_on (the_primary schema) _ primary (is_found (IndexMissing (record { 0 = 0 }) schema.def.name) (index_with 0 schema.indexes) primary c.in_ok-primary.ensures)
           ∙ goes_on (the_key def key) _ asked (ap (key_or_refusal (length def.key)) (ap (whole_key_of_items def.key) (sym c.array_or_empty.ensures.items) ∙ fits)),
     )

@@ -31,7 +31,7 @@ returns-in-Some c = λ before keeps.
     (subst (Told c.read_update.result mid c.read_update.new.reads)
     (ap (λ (s : SpaceId). (update_found Client before s.0 index base key operations site.schema.now site.primary.now (Some (own, c.in-Some.one.now.tuple))).reads) same
     ∙ ap (λ e. (update_found Client before space.0 index base key operations site.schema.now site.primary.now e).reads) (sym there))
-    (c.read_update.ensures before own key is fit bytes))
+    (c.read_update.ensures before own index key is fit bytes))
 
 pub returns-in-None : goal.returns-in-None
 unfolding updates

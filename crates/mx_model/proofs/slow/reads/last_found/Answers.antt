@@ -4,7 +4,7 @@ use Rattle.mx_key.specs.Comparable.{holds}
 use Rattle.mx_schema.specs.declared.keyed.Keyed.{Keyed}
 use Rattle.mx_schema.specs.Picks.{directed}
 use Rattle.mx_schema.specs.Stored.{stored_list, stored_view}
-use Rattle.mx_schema.proofs.WindowLaws.{next_seen}
+use Rattle.mx_space.proofs.WindowLaws.{next_seen}
 use Rattle.mx_model.proofs.SlowReadLaws.{last_on, last_outside, last_past}
 use Rattle.mx_model.proofs.slow.reads.last_found.Goals as goal
 

@@ -4,9 +4,9 @@ use Rattle.mx_key.specs.Comparable.{holds}
 use Rattle.mx_key.specs.Ranges.{descends}
 use Rattle.mx_schema.specs.declared.keyed.Keyed.{Keyed}
 use Rattle.mx_schema.specs.Picks.{directed, window}
-use Rattle.mx_schema.specs.Selecting.{last_key_of}
+use Rattle.mx_space.specs.Selecting.{last_key_of}
 use Rattle.mx_schema.specs.Stored.{stored_list}
-use Rattle.mx_schema.proofs.WindowLaws.{last_after}
+use Rattle.mx_space.proofs.WindowLaws.{last_after}
 use Rattle.mx_model.proofs.slow.reads.last_found.Given as goal
 
 -- the last so far, or one of those to come

@@ -1,7 +1,7 @@
 use Rattle.std.proofs.Common.{rules, ◌≡◌, ◌≢◌, ◌<◌, length, ap, ◌∙◌}
 use Rattle.mx_key.specs.Comparable.{edges_of}
 use Rattle.mx_key.specs.Ranges.{range_of, range_until}
-use Rattle.mx_schema.specs.Selecting.{found_in}
+use Rattle.mx_space.specs.Selecting.{found_in}
 use Rattle.mx_schema.specs.Stored.{stored_list}
 use Rattle.mx_model.proofs.SlowReadLaws.{is_too_long, reads_all, reads_to_its_end, reads_up_to_last}
 use Rattle.mx_model.proofs.slow.reads.scan.Goals as goal

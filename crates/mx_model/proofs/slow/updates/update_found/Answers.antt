@@ -1,4 +1,4 @@
-use Rattle.std.proofs.Common.{◌≡◌, ◌⊎◌, ℕ, List, [], ◌∷◌, Result, Err, sym, ap, ◌∙◌, subst}
+use Rattle.std.proofs.Common.{◌≡◌, ◌⊎◌, ℕ, List, [], ◌∷◌, Result, Err, Some, sym, ap, ◌∙◌, subst}
 use Rattle.std.proofs.lemmas.Result.{err_from_is_err_and}
 use Rattle.mx_base.specs.declared.refusal.Refusal.{Refusal}
 use Rattle.mx_base.specs.declared.refusal.Refusal.TheVariants.{OutOfMemory}
@@ -10,7 +10,7 @@ use Rattle.mx_write.specs.declared.writable.Writer.TheVariants.{Client}
 use Rattle.mx_write.specs.Judged.{judged_as, unless, ◌>>=◌}
 use Rattle.mx_write.specs.Made.{row_with}
 use Rattle.mx_write.specs.Update.{put_in_place, the_operations, tuple_or_refusal}
-use Rattle.mx_write.specs.Writable.{found_name, write_refusal}
+use Rattle.mx_write.specs.Writable.{write_refusal}
 use Rattle.mx_write.specs.Writes.{Update}
 use Rattle.mx_write.proofs.FieldLaws.{same_update}
 use Rattle.mx_write.proofs.StageLaws.{goes_on, goes_on_after, judged_by, none_refuses, refused_before, refused_later}
@@ -25,8 +25,8 @@ returns-in_err-new c = λ before own is fit bytes has.
     let base = c.args.base in
     let operations = c.args.operations.now in
     let write = Update c.args.index.0 base c.args.key.now operations in
-    let stage = unless (write_refusal Client space update_type (found_name c.args.index.0 old)) in
-    let writable = ap (write_refusal Client space update_type) (ap (found_name c.args.index.0) (sym c.as_slice-old.ensures) ∙ sym c.found_name.ensures) ∙ sym c.write_refusal.ensures ∙ c.in_default.is in
+    let stage = unless (write_refusal Client space update_type (Some old)) in
+    let writable = ap (λ t. write_refusal Client space update_type (Some t)) (sym c.as_slice-old.ensures) ∙ sym c.write_refusal.ensures ∙ c.in_default.is in
     let apply = λ (applied : List Operation). judged_as (tuple_or_refusal (updated base old applied)) in
     let put = λ (new : List ℕ). put_in_place before space t.schema.now t.primary.now write own new (new ∷ []) in
     let why = c.in_err-new.field-0.0 in
@@ -42,8 +42,8 @@ returns c = λ before own is fit bytes has.
     let base = c.args.base in
     let operations = c.args.operations.now in
     let write = Update c.args.index.0 base c.args.key.now operations in
-    let stage = unless (write_refusal Client space update_type (found_name c.args.index.0 old)) in
-    let writable = ap (write_refusal Client space update_type) (ap (found_name c.args.index.0) (sym c.as_slice-old.ensures) ∙ sym c.found_name.ensures) ∙ sym c.write_refusal.ensures ∙ c.in_default.is in
+    let stage = unless (write_refusal Client space update_type (Some old)) in
+    let writable = ap (λ t. write_refusal Client space update_type (Some t)) (sym c.as_slice-old.ensures) ∙ sym c.write_refusal.ensures ∙ c.in_default.is in
     let apply = λ (applied : List Operation). judged_as (tuple_or_refusal (updated base old applied)) in
     let put = λ (new : List ℕ). put_in_place before space t.schema.now t.primary.now write own new (new ∷ []) in
     let new = c.in_ok-new.new in

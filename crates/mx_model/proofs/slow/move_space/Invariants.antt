@@ -1,6 +1,6 @@
 use Rattle.std.proofs.Common.{◌≡◌, ◌++◌, length}
 use Rattle.mx_schema.specs.Stored.{stored_list}
-use Rattle.mx_model.proofs.slow.move_table.Given as goal
+use Rattle.mx_model.proofs.slow.move_space.Given as goal
 
 -- the tuples that were moved, and those to come
 abbrev pub invariant-loop-key : goal.invariant-loop-key
