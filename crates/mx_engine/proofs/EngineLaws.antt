@@ -1,5 +1,5 @@
 -- What a step makes of an engine, and of its history.
-use Rattle.std.proofs.Common.{◌≡◌, inl, inr, ℕ, suc, ◌+◌, ◌-◌, ◌%◌, ◌^◌, ◌<◌, Bool, true, false, not, List, [], ◌∷◌, ◌++◌, length, refl, true≢false, sym, ap, ◌∙◌, subst, append-nil, arith}
+use Rattle.std.proofs.Common.{◌≡◌, inl, inr, ℕ, suc, ◌+◌, ◌-◌, ◌%◌, ◌^◌, ◌<◌, Bool, true, false, not, List, [], ◌∷◌, ◌++◌, length, refl, true≢false, sym, ap, ◌∙◌, subst, append-nil, append_assoc, length-append, arith}
 use Rattle.std.specs.List.{filter}
 use Rattle.std.proofs.lemmas.List.Elements.{filter-append}
 use Rattle.std.specs.Prelude.{Ok, ◌==◌, ◌&&◌, ◌||◌, Some, None, nat_lt, slice_index, slice_set, if◌then◌else◌}
@@ -22,18 +22,16 @@ use Rattle.mx_write.specs.declared.writable.Writer.TheVariants.{Client}
 use Rattle.mx_write.specs.Judge.{judged_write}
 use Rattle.mx_write.specs.Judged.{Judged}
 use Rattle.mx_write.specs.Change.{state_after_changed}
-use Rattle.mx_schema.specs.declared.state.State as stored
-use Rattle.mx_schema.proofs.SoundLaws.{sound_held}
+use Rattle.mx_space.specs.declared.state.State as stored
 use Rattle.mx_model.proofs.WriteLaws.{changes_again}
 use Rattle.mx_write.specs.Made.{Made, nothing, row_with}
 use Rattle.mx_write.specs.Makes.{IsRefusedBy, tuples_shown}
 use Rattle.mx_write.specs.Views.{write_view}
 use Rattle.mx_write.specs.Writable.{describes_schema}
 use Rattle.mx_write.specs.Writes.{Write, Insert, Replace, Update, Delete, Upsert, TupleIsBytes, write_in}
-use Rattle.mx_write.proofs.RowLaws.{writes_elsewhere}
 use Rattle.mx_model.specs.statements.Write.{answer_of, answer_of_outcome}
 use Rattle.mx_schema.specs.State.{State}
-use Rattle.mx_schema.specs.Stored.{Holds}
+use Rattle.mx_space.specs.Stored.{Holds}
 use Rattle.mx_model.specs.Answers.{answer_to, state_after_row}
 use Rattle.mx_write.specs.Reads.{Read}
 use Rattle.mx_model.specs.statements.Answer.{Answer, refusal_alone, refusal_after}
@@ -44,7 +42,7 @@ use Rattle.mx_model.proofs.AnswerLaws.{no_write_no_row, write_answered, write_wr
 use Rattle.mx_model.proofs.HistoryLaws.{base_of_ledger, steps_of_ledger, committed-no_row, state_of-asked, clock_of-asked, untaken-asked, untaken}
 use Rattle.mx_engine.specs.declared.engine.Engine.{Engine}
 use Rattle.mx_engine.specs.Standing.{EngineStandsFor}
-use Rattle.mx_engine.specs.Steps.{IsWriteOf, IsReplyOf, SameNode, Stores, AnswersRequest, transaction_of, lsn_after, answer_by, commits_by, accepts}
+use Rattle.mx_engine.specs.Steps.{IsWriteOf, IsReplyOf, SameNode, Stores, AnswersRequest, transaction_of, lsn_after, answer_by, commits_by, accepts, version_after}
 
 both_tests : (mine writes : Bool) → (mine || not writes) ≡ true → (writes && not mine) ≡ false
 both_tests true true taken = refl
@@ -131,24 +129,24 @@ answers_no_row old new before request reply told none stores clock =
       told = told;
       stores = subst (Stores old new before) nothing stores;
       clock = clock ∙ ap (clock_after old.clock) nothing;
-      schema = ap (filter is_schema_commit) (sym nothing);
     }
 
 -- as it is
 pub stores_nothing : (engine : Engine) (before : State) → Holds engine.state before → Stores engine engine before []
-stores_nothing engine before holds = record { holds = holds; pending = sym (append-nil engine.pending) }
+stores_nothing engine before holds = record { holds = holds; pending = sym (append-nil engine.pending); schema = refl }
 
 -- the state holds the same, and the same transactions wait
-pub stores_same : (old new : Engine) (before : State) → Holds new.state before → new.pending ≡ old.pending → Stores old new before []
-stores_same old new before holds pending = record { holds = holds; pending = pending ∙ sym (append-nil old.pending) }
+pub stores_same : (old new : Engine) (before : State) → Holds new.state before → new.pending ≡ old.pending → new.schema ≡ old.schema → Stores old new before []
+stores_same old new before holds pending schema = record { holds = holds; pending = pending ∙ sym (append-nil old.pending); schema = schema }
 
 -- the state holds what the row makes of it, and its transaction waits
 pub stores_one : (old new : Engine) (before : State) (lsn : ℕ) (row : Row) (transaction : Tx) → transaction ≡ transaction_of lsn row
     → Holds new.state (state_after_row before row) → new.pending ≡ old.pending ++ transaction ∷ []
-    → Stores old new before (transaction_of lsn row ∷ [])
-stores_one old new before lsn row transaction is holds pending = record {
+    → new.schema ≡ version_after old.schema (transaction_of lsn row ∷ []) → Stores old new before (transaction_of lsn row ∷ [])
+stores_one old new before lsn row transaction is holds pending schema = record {
   holds = holds;
   pending = pending ∙ ap (λ t. old.pending ++ t ∷ []) is;
+  schema = schema;
 }
 
 pub answers_refused : (engine : Engine) (before : State) (request : Request) (reads : List Read) (refusal : Refusal)
@@ -185,7 +183,7 @@ module _ (engine : Engine) (before : State) (space : SpaceId) (write : Write) (a
       (answer_without_row engine before asked (refusal_after judged.reads refusal) taken (answered ∙ ap (answer_of_outcome judged.reads) refused) refl) holds
   answers_unmade refusal (inr none) =
       subst (λ r. AnswersRequest engine engine before asked (Refused r)) (sym none)
-      record { told = inr refl; stores = stores_nothing engine before holds; clock = refl; schema = refl }
+      record { told = inr refl; stores = stores_nothing engine before holds; clock = refl }
 
   -- it finds no tuple
   pub answers_nothing : judged.outcome ≡ Ok nothing → (tuples : List (List ℕ)) → tuples ≡ [] → AnswersRequest engine engine before asked (Tuples tuples)
@@ -214,7 +212,7 @@ module _ (engine : Engine) (before : State) (space : SpaceId) (write : Write) (a
 -- out of memory
 pub answers_no_memory : (old new : Engine) (before : State) (request : Request) → Stores old new before [] → new.clock ≡ old.clock
     → AnswersRequest old new before request (Refused OutOfMemory)
-answers_no_memory old new before request stores clock = record { told = inr refl; stores = stores; clock = clock; schema = refl }
+answers_no_memory old new before request stores clock = record { told = inr refl; stores = stores; clock = clock }
 
 -- what was installed is what the row makes of the state
 pub row_is_installed : (engine : Engine) (before : State) (space : SpaceId) (write : in_place.Write) (one : code.Made) (asked : Request)
@@ -223,7 +221,7 @@ pub row_is_installed : (engine : Engine) (before : State) (space : SpaceId) (wri
 unfolding state_after_row
 row_is_installed engine before space write one asked is_made memory holds =
     let (made, outcome, makes) = is_made.makes in
-    let sound = sound_held engine.state before is_made.holds in
+    let sound = is_made.holds.sound in
     let again = changes_again before space.0 (write_view write) made (row_with space.0 (write_view write) one.row_key) sound outcome makes.row in
     subst (λ change. Holds memory (state_after_changed before change)) (sym again) holds
 
@@ -249,33 +247,57 @@ answers_made old put before clock lsn space write one asked tuples is_made next 
     let last : lsn ≡ (lsn + 1) - 1 = omega arith in
     record {
       told = inl (ap (λ t. Tuples t) (shown ∙ sym makes.shown) ∙ sym (ap (λ (a : Answer). a.reply) is));
-      stores = subst (Stores old (record put { clock = clock }) before) commits record { holds = stores.holds; pending = stores.pending };
+      stores = subst (Stores old (record put { clock = clock }) before) commits record { holds = stores.holds; pending = stores.pending; schema = stores.schema };
       clock = reached ∙ ap (slice_set old.clock writable_node) last ∙ ap (clock_after old.clock) commits;
-      schema = ap (filter is_schema_commit) (sym commits)
-          ∙ ap (λ b. if b || false then transaction_of lsn row ∷ [] else []) (elsewhere space.0 what one.row_key
-          (writes_elsewhere before space.0 what made row outcome makes.row).0);
     }
-  where
-    -- the row of a write in another space describes no space and no index
-    elsewhere : (space : ℕ) (what : Write) (key : List ℕ) → describes_schema space ≡ false → is_schema_row (row_with space what key) ≡ false
-    elsewhere space (Insert tuple) key none = none
-    elsewhere space (Replace tuple) key none = none
-    elsewhere space (Update index base asked operations) key none = none
-    elsewhere space (Delete index asked) key none = none
-    elsewhere space (Upsert base tuple operations) key none = none
 
--- commits that change no schema leave its version as it is
-schema_stays : (journal more : List Tx) → filter is_schema_commit more ≡ [] → schema_version (journal ++ more) ≡ schema_version journal
-schema_stays journal more none =
-    ap (λ (l : List Tx). length l % 2 ^ 32)
-    (filter-append is_schema_commit journal more ∙ ap (λ l. filter is_schema_commit journal ++ l) none ∙ append-nil (filter is_schema_commit journal))
+-- a row describes a space or an index where its space's rows do
+schema_row : (space : ℕ) (what : Write) (key : List ℕ) → is_schema_row (row_with space what key) ≡ describes_schema space
+schema_row space (Insert tuple) key = refl
+schema_row space (Replace tuple) key = refl
+schema_row space (Update index base asked operations) key = refl
+schema_row space (Delete index asked) key = refl
+schema_row space (Upsert base tuple operations) key = refl
+
+or_nothing : (b : Bool) → (b || false) ≡ b
+or_nothing true = refl
+or_nothing false = refl
+
+-- the schema's version after the commit of a write's row
+pub version_of_row : (version lsn space : ℕ) (what : Write) (key : List ℕ)
+    → (if describes_schema space then (version + 1) % 2 ^ 32 else version) ≡ version_after version (transaction_of lsn (row_with space what key) ∷ [])
+version_of_row version lsn space what key =
+    ap (λ b. if b then (version + 1) % 2 ^ 32 else version)
+    (sym (or_nothing (is_schema_row (row_with space what key)) ∙ schema_row space what key))
+
+-- the schema's version counts the commits that come after others
+versions : (journal more : List Tx) → schema_version (journal ++ more) ≡ version_after (schema_version journal) more
+versions journal [] = ap schema_version (append-nil journal)
+versions journal (transaction ∷ others) =
+    sym (ap schema_version (append_assoc journal (transaction ∷ []) others))
+    ∙ versions (journal ++ transaction ∷ []) others
+    ∙ ap (λ version. version_after version others) (one (is_schema_commit transaction) refl)
+  where
+    kept : filter is_schema_commit (journal ++ transaction ∷ []) ≡ filter is_schema_commit journal ++ filter is_schema_commit (transaction ∷ [])
+    kept = filter-append is_schema_commit journal (transaction ∷ [])
+
+    one : (changes : Bool) → is_schema_commit transaction ≡ changes
+        → schema_version (journal ++ transaction ∷ []) ≡ (if changes then (schema_version journal + 1) % 2 ^ 32 else schema_version journal)
+    one true is =
+        let count : length (filter is_schema_commit (journal ++ transaction ∷ [])) ≡ length (filter is_schema_commit journal) + 1 =
+        ap (λ (l : List Tx). length l) (kept ∙ ap (λ b. filter is_schema_commit journal ++ (if b then transaction ∷ [] else [])) is)
+        ∙ length-append (filter is_schema_commit journal) (transaction ∷ []) in
+        ap (λ n. n % 2 ^ 32) count ∙ omega arith
+    one false is =
+        ap (λ (l : List Tx). length l % 2 ^ 32)
+        (kept ∙ ap (λ b. filter is_schema_commit journal ++ (if b then transaction ∷ [] else [])) is ∙ append-nil (filter is_schema_commit journal))
 
 -- an engine that answered a request has one step more
 pub stands_answered : (old new : Engine) (base : Base) (history : History) (name : TxnName) (request : Request) (reply : Reply)
     → EngineStandsFor old base history → CanBeAsked request → AnswersRequest old new (state_of base history) request reply
-    → new.ids ≡ old.ids → new.count ≡ old.count + 1 → new.durable ≡ old.durable → new.schema ≡ old.schema
+    → new.ids ≡ old.ids → new.count ≡ old.count + 1 → new.durable ≡ old.durable
     → EngineStandsFor new base (Asked name (ask.Request request) reply ∷ history)
-stands_answered old new base history name request reply stands can answers ids count durable schema =
+stands_answered old new base history name request reply stands can answers ids count durable =
     let before = state_of base history in
     let memory = is_out_of_memory reply in
     let ledger = ledger_of base history in
@@ -299,9 +321,8 @@ stands_answered old new base history name request reply stands can answers ids c
         durable = durable ∙ was.durable;
         pending = answers.stores.pending ∙ ap (λ front. front ++ commits_by old before request reply) was.pending
             ∙ ap (λ more. untaken ledger ++ more) commits ∙ sym (untaken-asked base name (ask.Request request) reply history);
-        schema = schema ∙ was.schema
-            ∙ sym (schema_stays ledger.journal (commits_of ledger name (ask.Request request) reply)
-            (ap (filter is_schema_commit) (sym commits) ∙ answers.schema));
+        schema = answers.stores.schema ∙ ap (λ version. version_after version (commits_by old before request reply)) was.schema
+            ∙ ap (version_after (schema_version ledger.journal)) commits ∙ sym (versions ledger.journal (commits_of ledger name (ask.Request request) reply));
       };
     }
 
@@ -319,7 +340,7 @@ stands_refused engine base history name refusal stands =
         count = omega (arith, was.count);
         durable = was.durable;
         pending = was.pending ∙ sym (append-nil _) ∙ sym (untaken-asked base name (ask.Refused refusal) (Refused refusal) history);
-        schema = was.schema ∙ sym (schema_stays (ledger_of base history).journal [] refl);
+        schema = was.schema ∙ sym (versions (ledger_of base history).journal []);
       };
     }
 
@@ -351,8 +372,8 @@ pub stands_counted : (engine new : Engine) (base : Base) (history : History) (na
     → SameNode (counted engine) new → EngineStandsFor new base (Asked name (ask.Request asked) reply ∷ history)
 stands_counted engine new base history name asked reply stands can answers keeps =
     stands_answered engine new base history name asked reply stands can
-    record { told = answers.told; stores = record { holds = answers.stores.holds; pending = answers.stores.pending }; clock = answers.clock; schema = answers.schema }
-    keeps.ids keeps.count keeps.durable keeps.schema
+    record { told = answers.told; stores = record { holds = answers.stores.holds; pending = answers.stores.pending; schema = answers.stores.schema }; clock = answers.clock }
+    keeps.ids keeps.count keeps.durable
 
 -- an engine that counted a request that it doesn't take has one step more
 pub stands_read_only : (engine : Engine) (base : Base) (history : History) (name : TxnName) (asked : Request)
@@ -363,7 +384,7 @@ stands_read_only engine base history name asked stands can other =
     stands_counted engine (counted engine) base history name asked (Refused (ReadOnly (record { 0 = writable_node }))) stands can
     (answers_refused (counted engine) before asked [] (ReadOnly (record { 0 = writable_node })) (answer_read_only (counted engine) before asked other)
     stands.matches.holds)
-    record { schema = refl; ids = refl; count = refl; durable = refl }
+    record { ids = refl; count = refl; durable = refl }
 
 -- what an engine counts is how many steps its history has
 pub count_is_length : (engine : Engine) (base : Base) (history : History) → EngineStandsFor engine base history → engine.count ≡ length history

@@ -26,10 +26,10 @@ use Rattle.mx_key.specs.declared.edge.KeyRange.{KeyRange}
 use Rattle.mx_key.specs.declared.part.Part.{Part}
 use Rattle.mx_schema.specs.Picks.{entries_of, total_bytes, max_result_size}
 use Rattle.mx_schema.specs.State.{State}
-use Rattle.mx_schema.specs.Scans.{SelectsByKey}
-use Rattle.mx_schema.specs.declared.pick.Pick.{Pick}
-use Rattle.mx_schema.specs.declared.pick.SelectFault.{SelectFault}
-use Rattle.mx_schema.specs.declared.pick.SelectFault.TheVariants as faults
+use Rattle.mx_space.specs.Scans.{SelectsByKey}
+use Rattle.mx_space.specs.declared.pick.Pick.{Pick}
+use Rattle.mx_space.specs.declared.pick.SelectFault.{SelectFault}
+use Rattle.mx_space.specs.declared.pick.SelectFault.TheVariants as faults
 use Rattle.mx_model.specs.Answers.{answer_to}
 use Rattle.mx_write.specs.Lookup.{misfit_refusal}
 use Rattle.mx_model.specs.SelectSteps.{RefusesKey, TakesKey}

@@ -1,6 +1,6 @@
 -- Which histories an engine is the state of.
 use Rattle.std.specs.Prelude.{◌≡◌, drop}
-use Rattle.mx_schema.specs.Stored.{Holds}
+use Rattle.mx_space.specs.Stored.{Holds}
 use Rattle.mx_model.specs.Histories.{Base, History, Ledger, IsLegal, ledger_of, ledger_state, ledger_clock}
 use Rattle.mx_model.specs.Transactions.{schema_version}
 use Rattle.mx_engine.specs.declared.engine.Engine.{Engine}

@@ -3,7 +3,7 @@
 ghost use Rattle.std.specs.Prelude.{◌≡◌, ◌==◌, None, ◌<◌, ◌-◌, ◌^◌, ◌∷◌, [], length, IfOk};
 ghost use Rattle.std.specs.List.{Contains};
 ghost use Rattle.mx_schema.specs.State as plain;
-ghost use Rattle.mx_schema.specs.Stored.{Holds};
+ghost use Rattle.mx_space.specs.Stored.{Holds};
 ghost use Rattle.mx_base.specs.declared.refusal.Refusal.{Refusal};
 ghost use Rattle.mx_request.specs.declared.request.Ask.TheVariants as ask;
 ghost use Rattle.mx_request.specs.declared.request.Request.{Request};
@@ -24,7 +24,8 @@ use mx_base::{ConnId, Refusal, ReplicaId, TxnName};
 use mx_model::{Ids, Txs, WRITABLE_NODE, is_write, iterator_of};
 use mx_msgpack::Tuples;
 use mx_request::{Request, RequestRef};
-use mx_schema::{Pick, State, array_or_empty};
+use mx_schema::array_or_empty;
+use mx_space::{Pick, State};
 use mx_vclock::Vclock;
 use mx_write::{not_built, write_in, write_of_request};
 use std::alloc::{AllocError, Global};
@@ -42,8 +43,8 @@ pub struct Engine {
     pub(crate) pending: Txs,
     count: u64,
     durable: u64,
-    /// The schema's version: no request changes the schema yet.
-    schema: u32,
+    /// The schema's version.
+    pub(crate) schema: u32,
 }
 
 impl Engine {
@@ -201,7 +202,7 @@ impl Engine {
         self.count
     }
 
-    /// The schema's version: how many of these commits changed a space or an index.
+    /// The schema's version: how many commits since the start changed a space or an index, in 32 bits.
     pub fn schema(&self) -> u32
         ensures { (base : Base) (history : History) → EngineStandsFor self.now base history → result ≡ schema_version (journal_of base history) }
     {

@@ -25,7 +25,7 @@ use Rattle.mx_base.specs.declared.ids.Lsn.{Lsn}
 use Rattle.mx_base.specs.declared.ids.ReplicaId.{ReplicaId}
 use Rattle.mx_base.specs.declared.refusal.Refusal.{Refusal}
 use Rattle.mx_base.specs.declared.refusal.Refusal.TheVariants.{OutOfMemory}
-use Rattle.mx_schema.specs.Stored.{Holds}
+use Rattle.mx_space.specs.Stored.{Holds}
 use Rattle.mx_model.specs.Answers.{state_after_row, state_after_rows}
 use Rattle.mx_write.specs.Judge.{row_refusal}
 use Rattle.mx_row.specs.Clocks.{clock_after_one, follows}

@@ -2,7 +2,7 @@
 use Rattle.std.specs.Prelude.{◌≡◌, ⊤, ◌<◌, Option, Some, None, slice_index}
 use Rattle.mx_vclock.specs.Vclocks.{IsVclock}
 use Rattle.mx_model.specs.declared.ids.Ids.{Ids}
-use Rattle.mx_schema.specs.Stored.{Holds}
+use Rattle.mx_space.specs.Stored.{Holds}
 use Rattle.mx_model.specs.Directories as files
 use Rattle.mx_recover.specs.declared.replay.Recovered.{Recovered}
 

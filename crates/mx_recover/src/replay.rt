@@ -20,7 +20,7 @@ use mx_files::journal_name;
 use mx_model::{Damage, DamageKind, Ids, apply_row, bootstrap};
 use mx_msgpack::Bytes;
 use mx_row::{TxRef, read_tx_in_place};
-use mx_schema::State;
+use mx_space::State;
 use mx_vclock::Vclock;
 use mx_xlog::{Block, Head, read_block, read_header};
 use std::alloc::{AllocError, Global};

@@ -5,7 +5,7 @@ ghost use Rattle.mx_base.specs.declared.refusal.Refusal.TheVariants.{OutOfMemory
 ghost use Rattle.mx_msgpack.specs.Items.{IsArray};
 ghost use Rattle.mx_schema.specs.declared.index_def.IndexKind.TheVariants.{Hash};
 ghost use Rattle.mx_schema.specs.State as plain;
-ghost use Rattle.mx_schema.specs.Stored.{Holds};
+ghost use Rattle.mx_space.specs.Stored.{Holds};
 ghost use Rattle.mx_model.specs.SelectSteps.{RefusesKey, TakesKey};
 ghost use Rattle.mx_model.specs.statements.Select.{part_count, select_answer_in};
 ghost use Rattle.mx_engine.specs.Steps.{IsReplyOf};
@@ -17,7 +17,8 @@ use mx_base::{IndexId, Refusal, SpaceId, Unsupported};
 use mx_key::IterKind;
 use mx_model::{misfit_refusal, part_count_refusal, takes_iterator};
 use mx_msgpack::{Tuples, known_array};
-use mx_schema::{IndexDef, IndexKind, Pick, SelectFault};
+use mx_schema::{IndexDef, IndexKind};
+use mx_space::{Pick, SelectFault};
 use mx_write::{find_index, find_space};
 
 impl Engine {
@@ -33,12 +34,12 @@ impl Engine {
         ensures { (state : plain.State) → Holds self.now.state state → IsReplyOf (reply_of result found.new)
             (select_answer_in state space.0 index.0 pick.now.limit pick.now.offset pick.now.iterator pick.now.key.now) }
     {
-        let table = find_space(&self.state, space)?;
-        let def = find_index(self.alloc, table.schema(), index)?;
+        let stored = find_space(&self.state, space)?;
+        let def = find_index(self.alloc, stored.schema(), index)?;
         check_key(def, pick.iterator, pick.key)?;
         match self
             .state
-            .select(self.alloc, space, table, def, pick, found)
+            .select(self.alloc, space, stored, def, pick, found)
         {
             Ok(_read) => Ok(Answered::Tuples),
             Err(SelectFault::Misfit(misfit)) => Err(misfit_refusal(def, misfit)),

@@ -1,14 +1,15 @@
 //! The writes: INSERT, REPLACE, UPDATE, DELETE and UPSERT.
 
-ghost use Rattle.std.specs.Prelude.{◌≡◌, Some, true, ◌∷◌, [], IfOk, OnOk, MatchResult};
+ghost use Rattle.std.specs.Prelude.{◌≡◌, ◌+◌, ◌%◌, ◌^◌, Some, true, ◌∷◌, [], IfOk, OnOk, MatchResult, if◌then◌else◌};
 ghost use Rattle.mx_request.specs.Spelling.{IsAskable};
 ghost use Rattle.mx_request.specs.declared.request.Request.{Request};
 ghost use Rattle.mx_row.specs.Views.{row_value};
 ghost use Rattle.mx_schema.specs.State as plain;
-ghost use Rattle.mx_schema.specs.Stored.{Holds};
+ghost use Rattle.mx_space.specs.Stored.{Holds};
 ghost use Rattle.mx_write.specs.Makes.{tuples_shown};
 ghost use Rattle.mx_write.specs.Made.{row_with};
 ghost use Rattle.mx_write.specs.Views.{AreArrays, write_view};
+ghost use Rattle.mx_write.specs.Writable.{describes_schema};
 ghost use Rattle.mx_write.specs.Writes.{write_in};
 ghost use Rattle.mx_engine.specs.Steps as steps;
 ghost use Rattle.mx_engine.specs.Steps.{AnswersRequest, IsWriteOf, SameNode, Stores};
@@ -20,6 +21,7 @@ use mx_base::{Lsn, Refusal, ReplicaId, SpaceId};
 use mx_model::{WRITABLE_NODE, next_lsn};
 use mx_msgpack::Tuples;
 use mx_row::{RowRef, Tx, TxRef, to_owned};
+use mx_schema::{INDEX_ROWS, SPACE_ROWS};
 use mx_write::{Effect, Made, Scope, Write, Writer, row_of};
 use std::alloc::{AllocError, Global};
 
@@ -98,11 +100,23 @@ impl Engine {
         )?;
         show(&made.effect, shown)?;
         self.pending.push(transaction)?;
-        if let Err(fault) = made.install(&mut self.state, space) {
+        if let Err(fault) = made.install(self.alloc, &mut self.state, space) {
             self.pending.pop();
             return Err(fault);
         }
+        self.schema = version_after(self.schema, space);
         Ok(())
+    }
+}
+
+/// The schema's version after a commit into a space.
+fn version_after(version: u32, space: SpaceId) -> u32
+    ensures { result ≡ (if describes_schema space.0 then (version + 1) % 2 ^ 32 else version) }
+{
+    if space.0 == SPACE_ROWS || space.0 == INDEX_ROWS {
+        version.wrapping_add(1)
+    } else {
+        version
     }
 }
 

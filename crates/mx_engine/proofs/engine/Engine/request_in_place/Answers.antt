@@ -19,7 +19,7 @@ returns-then-not-is_write c = λ base history stands.
     (c.requires.askable, no_tuple asked none)
     (answers_read (counted c.args.self.now) now asked _ (accepts_read c.args.self.now asked reads) stands.matches.holds none
     (c.read_in_place.ensures now stands.matches.holds none))
-    record { schema = refl; ids = refl; count = refl; durable = refl }
+    record { ids = refl; count = refl; durable = refl }
 
 pub returns-then-not-is_writable : goal.returns-then-not-is_writable
 returns-then-not-is_writable c = λ base history stands.
@@ -48,7 +48,7 @@ returns-in-None c = λ base history stands.
     let now = state_of base history in
     stands_counted c.args.self.now (counted c.args.self.now) base history c.args._name asked (reply_of c.read_in_place-in-None.result c.read_in_place-in-None.new.found) stands (can, sent.bytes)
     (answers_read (counted c.args.self.now) now asked _ accepted stands.matches.holds none (c.read_in_place-in-None.ensures now stands.matches.holds none))
-    record { schema = refl; ids = refl; count = refl; durable = refl }
+    record { ids = refl; count = refl; durable = refl }
 
 pub write-requires : goal.write-requires
 write-requires c =
