@@ -191,9 +191,9 @@ def request(name, sync=None, **fields):
     return packet(header, {keys[field]: value for field, value in fields.items()} or None)
 
 
-def reply(sync, body, kind=0):
-    """The packet of a reply of this type."""
-    return packet({TYPE: Wide(kind, 4), SYNC: Wide(sync, 8), SCHEMA: Wide(0, 4)}, body)
+def reply(sync, body, kind=0, schema=0):
+    """The packet of a reply of this type, with the version of the schema."""
+    return packet({TYPE: Wide(kind, 4), SYNC: Wide(sync, 8), SCHEMA: Wide(schema, 4)}, body)
 
 
 def ok_reply(sync=0):
@@ -201,9 +201,10 @@ def ok_reply(sync=0):
     return reply(sync, {})
 
 
-def tuples_reply(sync, *tuples):
+def tuples_reply(sync, *tuples, schema=0):
     """The reply of these tuples."""
-    return reply(sync, {DATA: Spelled(b"\xdd" + len(tuples).to_bytes(4, "big") + b"".join(map(pack, tuples)))})
+    counted = Spelled(b"\xdd" + len(tuples).to_bytes(4, "big") + b"".join(map(pack, tuples)))
+    return reply(sync, {DATA: counted}, schema=schema)
 
 
 def id_reply(sync):
@@ -211,9 +212,9 @@ def id_reply(sync):
     return reply(sync, {KEYS["version"]: 1, KEYS["features"]: [0, 1]})
 
 
-def error_reply(sync, number, text):
+def error_reply(sync, number, text, schema=0):
     """The reply of a refusal."""
-    return reply(sync, {ERROR: text}, ERRORS + number)
+    return reply(sync, {ERROR: text}, ERRORS + number, schema)
 
 
 def greeting(seed):

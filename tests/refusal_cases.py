@@ -35,7 +35,6 @@ from steps import (
     key_type,
     missing,
     no_index,
-    not_built,
     overflow,
     replace,
     select,
@@ -170,12 +169,13 @@ DELETE_BY_NAME = (
     ({"key": [TEST, 5]}, key_type(1, "string")),
     ({"key": [TEST, "other"]}, []),
     ({"key": [SPACES, "name"]}, SYSTEM_WRITE),
-    ({"key": [TEST, "primary"]}, not_built(5)),
-    ({"space": SPACES, "key": ["test"]}, not_built(5)),
-    ({"key": ["_space"]}, SYSTEM_WRITE),
+    ({"space": SPACES, "key": ["_space"]}, SYSTEM_WRITE),
+    ({"key": ["test"]}, (11, 'Space "test" still has indexes')),
     ({"key": ["other"]}, []),
     ({"key": [5]}, key_type(0, "string")),
     ({"key": ["test", 5]}, key_count(2, 1)),
+    ({"space": INDEXES, "key": [TEST, "primary"]}, index_rows(TEST)),
+    ({"space": SPACES, "key": ["test"]}, [SPACE_ROWS[-1]]),
 )
 
 SCHEMA_WRITES = [
@@ -190,9 +190,6 @@ SCHEMA_WRITES = [
         # Those of the database's own spaces stay, whatever stands behind their number.
         *(insert(tuple_, SYSTEM_WRITE, space) for tuple_ in ([0], [511, "a"], [Wide(511, 8)], [300, LONGEST])),
         *(delete(key, SYSTEM_WRITE, space) for key in ([0], [SPACES, 0], [511, "a", 1], [Wide(1, 2, signed=True)])),
-        # Others can't be added and dropped yet.
-        *(insert(tuple_, not_built(2), space) for tuple_ in ([], [512], [-1], ["a"], [MOST], [512, LONGEST + b"a"])),
-        *(delete(key, not_built(5), space) for key in ([], [512], [512, 0], [-1], ["a"])),
         select([], *rows, space=space),
     )
 ]

@@ -62,8 +62,13 @@ OTHER_INDEXES = {
 }
 
 
+def space_row(space, name):
+    """The row of 280 of a space."""
+    return [space, 1, name, "memtx", 0, {}, []]
+
+
 def index_row(space, index, name, parts):
-    """The row of 288 of an index."""
+    """The row of 288 of a unique tree index."""
     return [space, index, name, "tree", {"unique": True}, parts]
 
 
@@ -73,7 +78,7 @@ def index_rows(space):
     return [primary, *([index_row(space, *OTHER_INDEXES[space])] if space in OTHER_INDEXES else [])]
 
 
-SPACE_ROWS = [[space, 1, name, "memtx", 0, {}, []] for space, name in SPACE_NAMES.items()]
+SPACE_ROWS = [space_row(space, name) for space, name in SPACE_NAMES.items()]
 INDEX_ROWS = [row for space in SPACE_NAMES for row in index_rows(space)]
 
 UNKNOWN_OPERATOR = (28, "Unknown update operator")
@@ -120,10 +125,6 @@ def too_long(tuple_):
     return 203, f"Tuple of {len(pack(tuple_))} bytes, {MAX_TUPLE} allowed"
 
 
-def not_built(number):
-    return 48, f"Unknown request type {number}"
-
-
 def insert(tuple_, reply=None, space=TEST):
     """An INSERT, whose reply is the tuple where no other is expected."""
     return "INSERT", {"space": space, "tuple": tuple_}, [tuple_] if reply is None else reply
@@ -147,9 +148,10 @@ def upsert(tuple_, operations, refusal=None, space=TEST, **fields):
     return "UPSERT", {"space": space, "tuple": tuple_, "operations": operations, **fields}, refusal or []
 
 
-def select(key, *tuples, space=TEST):
-    """A SELECT of the tuples whose keys this key begins."""
-    return "SELECT", {"space": space, "key": key}, list(tuples)
+def select(key, *tuples, space=TEST, **fields):
+    """A SELECT that finds these tuples, by the iterator EQ where no other is named, or its refusal alone."""
+    reply = tuples[0] if tuples and is_refusal(tuples[0]) else list(tuples)
+    return "SELECT", {"space": space, "key": key, **fields}, reply
 
 
 def has_tuples(*tuples):
@@ -160,6 +162,12 @@ def has_tuples(*tuples):
 def is_refusal(reply):
     """Whether this is a number and a text, and no list."""
     return isinstance(reply, tuple)
+
+
+def changes_schema(step):
+    """Whether a step commits a row of a space or an index."""
+    name, fields, reply = step
+    return fields["space"] in (SPACES, INDEXES) and name in ("INSERT", "DELETE") and not is_refusal(reply) and reply != []
 
 
 def shown(data):
@@ -182,8 +190,12 @@ def converse(steps, folder):
     expect("status", 0, ended.returncode)
     expect("greeting", GREETING[:64], output[:64])
     replies = list(packets_in(output[GREETING_BYTES:]))
-    for sync, (packet, (name, _, reply), seen) in enumerate(zip(asked, steps, replies), 1):
-        due = error_reply(sync, *reply) if is_refusal(reply) else tuples_reply(sync, *reply)
+    schema = 0
+    for sync, (packet, step, seen) in enumerate(zip(asked, steps, replies), 1):
+        name, _, reply = step
+        # The commits of a step count in its own reply.
+        schema += changes_schema(step)
+        due = error_reply(sync, *reply, schema) if is_refusal(reply) else tuples_reply(sync, *reply, schema=schema)
         assert seen == due, f"reply {sync}, to {name} {shown(packet)}: expected {shown(due)}, saw {shown(seen)}"
     expect("number of replies", len(steps), len(replies))
 

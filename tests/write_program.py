@@ -8,6 +8,7 @@ import sys
 import tempfile
 from pathlib import Path
 
+import schema_cases
 from iproto import Spelled, Wide, pack
 from operation_cases import SHAPES, UPDATES, UPDATES_FROM_ONE, UPSERTS
 from program import all_pass, expect, is_built
@@ -461,6 +462,12 @@ def rows_are_found_again():
         expect(f"{name} after the last run", (due + END).hex(), (folder / "DIR" / name).read_bytes().hex())
 
 
+def spaces_are_found_again():
+    folder = new_folder()
+    converse(schema_cases.KEPT, folder)
+    converse(schema_cases.FOUND_AGAIN, folder)
+
+
 def other_nodes_take_no_writes():
     folder = new_folder()
     (folder / "DIR").mkdir()
@@ -487,16 +494,23 @@ def other_nodes_take_no_writes():
 
 CHECKS = (
     *((f"conversation of {name}", answers, steps) for name, steps in CONVERSATIONS.items()),
+    *((f"conversation of {name}", answers, steps) for name, steps in schema_cases.CONVERSATIONS.items()),
+    ("rows of spaces and indexes", answers, schema_cases.ROWS),
     *((f"operations by {name}", operations_are_applied, 0, rows) for name, rows in UPDATES.items()),
     *((f"operations by {name} from 1 on", operations_are_applied, 1, rows) for name, rows in UPDATES_FROM_ONE.items()),
     ("upserts skip what fails", upserts_skip_what_fails),
     ("shapes are refused", shapes_are_refused),
     ("a row's body may have its length", row_body_may_have_its_length),
     *((f"order of the refusals of {name}", climb, name, ladder) for name, ladder in LADDERS.items()),
+    *(
+        (f"order of the refusals of {name}", climb, name.split()[0], ladder)
+        for name, ladder in schema_cases.LADDERS.items()
+    ),
     ("order of the refusals of SELECT by a name", climb, "SELECT", SELECT_BY_NAME),
     ("order of the refusals of DELETE by a name", climb, "DELETE", DELETE_BY_NAME),
     ("refused writes change nothing", refused_writes_change_nothing),
     ("rows are found again", rows_are_found_again),
+    ("spaces are found again", spaces_are_found_again),
     ("other nodes take no writes", other_nodes_take_no_writes),
 )
 

@@ -5,7 +5,8 @@ ghost use Rattle.mx_msgpack.specs.Items.{IsArray};
 use mx_base::{IndexId, SpaceId};
 use mx_key::IterKind;
 use mx_msgpack::{Tuples, array_of, parted, unsigned_in};
-use mx_schema::{Pick, State, array_or_empty, from_rows, key_tuple};
+use mx_schema::{array_or_empty, from_rows, key_tuple};
+use mx_space::{Pick, State};
 use std::alloc::Global;
 
 /// How many tuples the SELECT finds when it is asked so many times. The input has a space's number, the
@@ -53,9 +54,9 @@ fn rows(alloc: Global, array: &[u8]) -> Option<Tuples> {
 }
 
 fn put(alloc: Global, state: &mut State, space: SpaceId, tuple: &[u8]) -> Option<()> {
-    let def = state.table(space)?.schema().index(IndexId(0))?;
+    let def = state.space(space)?.schema().index(IndexId(0))?;
     let keyed = key_tuple(alloc, &def.key, tuple).ok()?;
-    state.put(space, keyed).ok()
+    state.put(alloc, space, keyed).ok()
 }
 
 /// As the engine does for each request: it looks up the space, its index, and the tuples.
@@ -68,8 +69,8 @@ fn select(
 ) -> Option<()>
     requires { IsArray pick.now.key.now }
 {
-    let table = state.table(space)?;
-    let def = table.schema().index(IndexId(0))?;
-    let _read = state.select(alloc, space, table, def, pick, found).ok()?;
+    let indexed = state.space(space)?;
+    let def = indexed.schema().index(IndexId(0))?;
+    let _read = state.select(alloc, space, indexed, def, pick, found).ok()?;
     Some(())
 }

@@ -5,7 +5,8 @@ use crate::database::{
 };
 use mx_engine::Engine;
 use mx_model::Slow;
-use mx_schema::{State, from_row_slices};
+use mx_schema::from_row_slices;
+use mx_space::State;
 use mx_vclock::Vclock;
 use std::alloc::{AllocError, Global};
 use std::process::Abort;

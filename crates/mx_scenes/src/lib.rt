@@ -37,4 +37,6 @@ mod spaces;
 #[cfg(test)]
 mod statuses;
 #[cfg(test)]
+mod user_spaces;
+#[cfg(test)]
 mod writes;

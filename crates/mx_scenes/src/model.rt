@@ -4,8 +4,7 @@ use mx_model::{
     a_directory_stands_once, commits_are_sound, replies_are_determined, rows_make_their_changes,
 };
 use mx_schema::{
-    a_catalogue_is_that_of_its_state, a_held_state_is_sound, a_new_database_has_its_catalogue,
-    rows_make_one_catalogue,
+    a_catalogue_is_that_of_its_state, a_new_database_has_its_catalogue, rows_make_one_catalogue,
 };
 use mx_write::{a_row_makes_its_write_again, a_write_keeps_a_state_sound, a_write_leaves_a_row};
 
@@ -18,7 +17,6 @@ fn laws_hold(_rt: HostRuntime) {
     a_new_database_has_its_catalogue();
     rows_make_one_catalogue();
     a_catalogue_is_that_of_its_state();
-    a_held_state_is_sound();
     a_row_makes_its_write_again();
     a_write_leaves_a_row();
     a_write_keeps_a_state_sound();

@@ -131,8 +131,17 @@ const WRITES: &[Case] = &[
     (Asked::Delete(512, 0, b"\x91\xa1x"), &[SPACE, INDEXES]),
     // A row that may not be deleted is known before its index is looked up.
     (
-        Asked::Delete(280, 0, b"\x91\xcd\x02\0"),
+        Asked::Delete(280, 0, b"\x91\xcd\x01\x18"),
         &[(280, 0, 280, 280)],
+    ),
+    // Another one is found, and what it describes is read no further: this space has an index.
+    (
+        Asked::Delete(280, 0, b"\x91\xcd\x02\0"),
+        &[(280, 0, 280, 280), (288, 0, 280, 280), (280, 0, 512, 512)],
+    ),
+    (
+        Asked::Insert(280, b"\x91\xcd\x02\0"),
+        &[(280, 0, 280, 280), (288, 0, 280, 280)],
     ),
     (
         Asked::Upsert(512, b"\x91\x02", NO_OPERATIONS),

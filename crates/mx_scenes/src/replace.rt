@@ -10,7 +10,8 @@ use crate::harness::{
 use mx_base::SpaceId;
 use mx_model::bootstrap;
 use mx_msgpack::Bytes;
-use mx_schema::{State, array_or_empty};
+use mx_schema::array_or_empty;
+use mx_space::State;
 use mx_tuple::MAX_TUPLE_SIZE;
 use mx_write::{Scope, Writer};
 use std::alloc::{AllocError, Global};
@@ -26,7 +27,7 @@ pub(crate) fn put(
 ) -> Result<(), AllocError> {
     let made = replace_in(state, alloc).replace(array_or_empty(tuple));
     let made = made.expect(rt, "no key");
-    made.install(state, SpaceId(512))
+    made.install(alloc, state, SpaceId(512))
 }
 
 /// A REPLACE by a client in the space 512 of a state.

@@ -9,7 +9,8 @@ use mx_base::{IndexId, SpaceId};
 use mx_key::{IterKind, KeyRange, comparable, misfit};
 use mx_model::{Reply, bootstrap, iterator_of, misfit_refusal};
 use mx_msgpack::{Bytes, Tuples, Value, Values};
-use mx_schema::{IndexDef, Pick, SelectFault, State, Table, array_or_empty};
+use mx_schema::{IndexDef, array_or_empty};
+use mx_space::{Pick, SelectFault, Space, State};
 use std::alloc::{AllocError, Global};
 use std::process::Abort;
 use std::test::Fail;
@@ -244,11 +245,11 @@ fn check_pick(
         offset,
         limit,
     };
-    let (table, def) = test_index(rt, state);
+    let (space, def) = test_index(rt, state);
     assert!(rt; misfit(&def.key, key).is_none(), "at {pick:?}");
     let mut tuples = Tuples::new(alloc);
     let keys = state
-        .select(alloc, SpaceId(512), table, def, &pick, &mut tuples)
+        .select(alloc, SpaceId(512), space, def, &pick, &mut tuples)
         .expect(rt, "no tuples");
     check_tuples(rt, alloc, &pick, &tuples, names)?;
     check_read(rt, alloc, &pick, &keys, read)
@@ -498,10 +499,10 @@ fn read_only_nodes_refuse_the_same(rt: HostRuntime) -> Result<(), Fail> {
 }
 
 /// The space `test` of a state, and its index.
-fn test_index<'a>(rt: &impl Abort, state: &'a State) -> (&'a Table, &'a IndexDef) {
-    let table = state.table(SpaceId(512)).expect(rt, "no space");
-    let def = table.schema().index(IndexId(0)).expect(rt, "no index");
-    (table, def)
+fn test_index<'a>(rt: &impl Abort, state: &'a State) -> (&'a Space, &'a IndexDef) {
+    let space = state.space(SpaceId(512)).expect(rt, "no space");
+    let def = space.schema().index(IndexId(0)).expect(rt, "no index");
+    (space, def)
 }
 
 /// Compares why a key doesn't fit with what a SELECT of it is told.
@@ -608,9 +609,9 @@ fn count_picked(
         offset,
         limit,
     };
-    let (table, def) = test_index(rt, state);
+    let (space, def) = test_index(rt, state);
     let mut tuples = Tuples::new(alloc);
-    match state.select(alloc, SpaceId(512), table, def, &pick, &mut tuples) {
+    match state.select(alloc, SpaceId(512), space, def, &pick, &mut tuples) {
         Ok(_) => Ok(Some(tuples.len())),
         Err(SelectFault::TooLong) => Ok(None),
         Err(SelectFault::Misfit(_)) | Err(SelectFault::NoMemory) => Err(AllocError),

@@ -104,15 +104,25 @@ fn makes_an_index(alloc: Global) -> Result<bool, AllocError> {
     let mut space = Space::new(alloc, schema_of(alloc, false)?)?;
     put(alloc, &mut space, &FIRST)?;
     put(alloc, &mut space, &SECOND)?;
-    let made = space
-        .add_index(alloc, schema_of(alloc, true)?, IndexId(1))
-        .is_ok();
+    let made = space.add_index(alloc, index_of(alloc, 1, 1)?).is_ok();
     let found = holder_of(alloc, &space, &SECOND)? == Some(&SECOND[..]);
-    space.drop_index(schema_of(alloc, false)?, IndexId(1));
+    space.drop_index(IndexId(1));
     let dropped = holder_of(alloc, &space, &SECOND)?.is_none();
     put(alloc, &mut space, &REPEATED)?;
-    let again = space.add_index(alloc, schema_of(alloc, true)?, IndexId(1));
+    let again = space.add_index(alloc, index_of(alloc, 1, 1)?);
     Ok(made && found && dropped && again == Err(BuildFault::Duplicate))
+}
+
+/// Without the primary index no tuple is there, and a new one begins with none.
+fn drops_the_primary_index(alloc: Global) -> Result<bool, AllocError> {
+    let mut space = Space::new(alloc, schema_of(alloc, true)?)?;
+    put(alloc, &mut space, &FIRST)?;
+    space.drop_index(IndexId(0));
+    let emptied = holder_of(alloc, &space, &FIRST)?.is_none();
+    let made = space.add_index(alloc, index_of(alloc, 0, 0)?).is_ok();
+    put(alloc, &mut space, &REPEATED)?;
+    let found = holder_of(alloc, &space, &FIRST)? == Some(&REPEATED[..]);
+    Ok(emptied && made && found)
 }
 
 #[test]
@@ -124,5 +134,11 @@ fn a_tuple_is_found_until_it_is_replaced_or_removed(rt: HostRuntime) -> Result<(
 #[test]
 fn an_index_is_made_of_the_tuples_that_are_there(rt: HostRuntime) -> Result<(), Fail> {
     assert!(rt; makes_an_index(rt.alloc())?);
+    Ok(())
+}
+
+#[test]
+fn tuples_go_with_the_primary_index(rt: HostRuntime) -> Result<(), Fail> {
+    assert!(rt; drops_the_primary_index(rt.alloc())?);
     Ok(())
 }

@@ -3,7 +3,8 @@
 use crate::database::{Asked, NO_KEY, Step, Told, play_at, play_both};
 use crate::replace::state_of;
 use mx_base::{Refusal, SpaceId, code_of};
-use mx_schema::{State, array_or_empty};
+use mx_schema::array_or_empty;
+use mx_space::State;
 use mx_write::{Effect, Made, Scope, Writer};
 use std::alloc::{AllocError, Global};
 use std::process::Abort;
@@ -31,9 +32,9 @@ const CASES: &[Case] = &[
     (320, b"\x92\x02\xa1x", 5, 5),
     // [511], [512], [-1] and ["x"], as rows of a space.
     (280, b"\x91\xcd\x01\xff", 5, 5),
-    (280, b"\x91\xcd\x02\0", 48, 5),
-    (280, b"\x91\xff", 48, 5),
-    (288, b"\x91\xa1x", 48, 5),
+    (280, b"\x91\xcd\x02\0", 39, 5),
+    (280, b"\x91\xff", 23, 5),
+    (288, b"\x91\xa1x", 23, 5),
     // The setting of the leader, and another one.
     (272, b"\x92\xa6leader\x02", 5, 5),
     (272, b"\x92\xa1x\x02", 0, 0),
