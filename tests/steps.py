@@ -167,7 +167,8 @@ def is_refusal(reply):
 def changes_schema(step):
     """Whether a step commits a row of a space or an index."""
     name, fields, reply = step
-    return fields["space"] in (SPACES, INDEXES) and name in ("INSERT", "DELETE") and not is_refusal(reply) and reply != []
+    is_taken = name in ("INSERT", "DELETE") and not is_refusal(reply) and reply != []
+    return is_taken and fields["space"] in (SPACES, INDEXES)
 
 
 def shown(data):
