@@ -1,5 +1,5 @@
 -- Each tuple of a space has a key in each index, and in a unique one it has it alone: where that stays so.
-use Rattle.std.proofs.Common.{◌≡◌, ℕ, Bool, true, false, cond, List, Option, Some, None, Result, Ok, Err, refl, sym, ap, ◌∙◌, [], ◌∷◌}
+use Rattle.std.proofs.Common.{◌≡◌, ℕ, Bool, true, false, cond, List, Some, None, Result, Ok, refl, sym, ap, ◌∙◌, [], ◌∷◌}
 use Rattle.std.specs.FinMap.{get, get-insert, get-remove, insert, remove}
 use Rattle.std.specs.List.{AllByRecursion}
 use Rattle.std.specs.Ordering.{eq_by_cmp, is_eq}

@@ -1,5 +1,5 @@
 -- What the rows of a sound state say of its spaces, and under which keys they stand.
-use Rattle.std.proofs.Common.{◌≡◌, ℕ, ◌<◌, List, [], ◌∷◌, Option, Some, None, Ok, refl, sym, ap, ◌∙◌, subst, arith}
+use Rattle.std.proofs.Common.{◌≡◌, ℕ, List, [], ◌∷◌, Option, Some, None, refl, sym, ap, ◌∙◌, subst, arith}
 use Rattle.std.specs.Prelude.{IfSome}
 use Rattle.std.specs.FinMap.{empty, get}
 use Rattle.std.specs.Option.{unwrap_or}
@@ -22,7 +22,7 @@ use Rattle.mx_schema.specs.State.{State, index_rows, space_rows, tuples_in}
 use Rattle.mx_schema.specs.Stored.{IsKeyedBy}
 use Rattle.mx_schema.proofs.FirstStateLaws.{index_rows_keyed, space_rows_keyed}
 use Rattle.mx_schema.proofs.KeptLaws.{index_numbers_first, index_space_first, space_number_first}
-use Rattle.mx_schema.proofs.KeyedLaws.{one_key, two_key}
+use Rattle.mx_schema.proofs.KeyedLaws.{one_key}
 use Rattle.mx_schema.proofs.TakenLaws.{each_found}
 
 -- ---- what stands first in a row

@@ -2,13 +2,12 @@
 use Rattle.std.proofs.Common.{◌≡◌, ℕ, Bool, true, false, cond, not, ◌&&◌, List, [], ◌∷◌, Option, Some, None, Result, Ok, Err, refl, sym, ap, ◌∙◌, subst, eqb-true, eq-eqb, true≢false}
 use Rattle.std.specs.Prelude.{is_some, ◌==◌, if◌then◌else◌}
 use Rattle.std.specs.FinMap as finite
-use Rattle.std.specs.FinMap.{empty, find, get, get-entries, nat_cmp-IsAntisymmetric}
+use Rattle.std.specs.FinMap.{empty, find, get-entries, nat_cmp-IsAntisymmetric}
 use Rattle.std.specs.Cmp.{tied_itself}
 use Rattle.std.specs.List.{AllByRecursion}
 use Rattle.std.specs.Ordering.{eq_by_cmp, is_eq, nat_cmp}
 use Rattle.mx_key.specs.declared.fault.NoKey.{NoKey}
-use Rattle.mx_key.specs.declared.part.Part.{Part}
-use Rattle.mx_key.specs.Keys.{Key, Integer, key_cmp}
+use Rattle.mx_key.specs.Keys.{Key, key_cmp}
 use Rattle.mx_key.specs.Parts.{part_in}
 use Rattle.mx_msgpack.specs.Items.{array_of}
 use Rattle.mx_msgpack.specs.Reading.{after_first, head_at, measured, reading_of}
@@ -21,7 +20,7 @@ use Rattle.mx_schema.specs.Bootstrap.{first_indexes, first_settings, first_space
 use Rattle.mx_schema.specs.Catalogues.{index_with, schema_of}
 use Rattle.mx_schema.specs.IndexRows.{index_in}
 use Rattle.mx_schema.specs.Picks.{Indexed}
-use Rattle.mx_schema.specs.Sound.{AreIndexed, AreUnique, HaveKeys, IsDescribed, SpaceRowStands}
+use Rattle.mx_schema.specs.Sound.{AreIndexed, HaveKeys, IsDescribed, SpaceRowStands}
 use Rattle.mx_schema.specs.SpaceRows.{space_in}
 use Rattle.mx_schema.specs.State.{Tuples, index_rows, key_in, space_rows, tuples_in}
 use Rattle.mx_schema.proofs.AloneLaws.{Alone, tied_is}

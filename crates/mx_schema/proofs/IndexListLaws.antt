@@ -1,16 +1,14 @@
 -- The indexes of a space by their numbers, where one more comes or one goes.
 use Rattle.std.proofs.lemmas.Bool.Decides.{nat_tests}
-use Rattle.std.proofs.Common.{arith, ◌≡◌, ℕ, Bool, true, false, cond, not, ◌&&◌, List, [], ◌∷◌, Option, Some, None, refl, sym, ap, ◌∙◌, subst, eqb-true, true≢false}
+use Rattle.std.proofs.Common.{arith, ◌≡◌, ℕ, Bool, true, false, cond, not, ◌&&◌, List, [], ◌∷◌, Option, Some, None, refl, sym, ap, ◌∙◌, eqb-true, true≢false}
 use Rattle.std.specs.Prelude.{nat_lt, ◌==◌, if◌then◌else◌}
 use Rattle.std.specs.FinMap.{entries, get, get-entries}
 use Rattle.std.specs.FinMap.Entries.{find}
 use Rattle.std.specs.List.{AllByRecursion, filter}
-use Rattle.std.specs.Ordering.{eq_by_cmp, is_eq}
-use Rattle.mx_key.specs.Keys.{Key, key_cmp}
+use Rattle.std.specs.Ordering.{eq_by_cmp}
+use Rattle.mx_key.specs.Keys.{key_cmp}
 use Rattle.mx_schema.specs.declared.index_def.IndexDef.{IndexDef}
-use Rattle.mx_schema.specs.declared.index_def.IndexRow.{IndexRow}
 use Rattle.mx_schema.specs.Catalogues.{index_defs, index_with, indexes_of, with_index}
-use Rattle.mx_schema.specs.IndexRows.{index_in}
 use Rattle.mx_schema.specs.SchemaChanges.{IndexRowStands, RowsStand, indexes_without}
 use Rattle.mx_schema.specs.SchemaChecks.{indexes_with}
 use Rattle.mx_schema.specs.State.{State, index_rows, tuples_in}

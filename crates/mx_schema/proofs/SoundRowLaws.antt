@@ -1,29 +1,28 @@
 -- A state stays sound where a space or an index comes or goes with its row.
 use Rattle.std.proofs.lemmas.Bool.Decides.{nat_tests}
-use Rattle.std.proofs.Common.{arith, ◌≡◌, ℕ, ◌<◌, ◌≤◌, Bool, true, false, cond, List, [], ◌∷◌, Option, Some, None, Ok, refl, sym, ap, ◌∙◌, subst, eqb-true, true≢false}
-use Rattle.std.specs.Prelude.{◌≢◌, IfSome, ◌==◌, if◌then◌else◌}
+use Rattle.std.proofs.Common.{arith, ◌≡◌, ℕ, ◌<◌, ◌≤◌, Bool, true, false, List, [], ◌∷◌, Option, Some, None, refl, sym, ap, ◌∙◌, subst, eqb-true}
+use Rattle.std.specs.Prelude.{IfSome, ◌==◌, if◌then◌else◌}
 use Rattle.std.specs.FinMap.{empty, entries, get, get-empty, insert, remove}
 use Rattle.std.specs.List.{AllByRecursion}
 use Rattle.std.specs.Option.{option_map}
-use Rattle.mx_msgpack.specs.Readers.{◌>>=◌}
 use Rattle.mx_key.specs.Keys.{Key, AreFit, key_cmp}
 use Rattle.mx_schema.specs.declared.index_def.IndexDef.{IndexDef}
 use Rattle.mx_schema.specs.declared.index_def.IndexRow.{IndexRow}
 use Rattle.mx_schema.specs.declared.schema.Schema.{Schema}
 use Rattle.mx_schema.specs.declared.space_def.SpaceDef.{SpaceDef}
-use Rattle.mx_schema.specs.Catalogues.{StandByKey, index_with, indexes_of, schema_by, schema_of}
+use Rattle.mx_schema.specs.Catalogues.{StandByKey, index_with, indexes_of, schema_of}
 use Rattle.mx_schema.specs.IndexRows.{index_in}
 use Rattle.mx_schema.specs.Picks.{Indexed}
-use Rattle.mx_schema.specs.SchemaChanges.{IndexesHaveSpaces, RowsStand, indexes_without, schema_with_index, schema_without_index, with_schema, without_index}
+use Rattle.mx_schema.specs.SchemaChanges.{IndexesHaveSpaces, RowsStand, indexes_without, schema_with_index, schema_without_index, with_schema}
 use Rattle.mx_schema.specs.SchemaChecks.{first_user_space, indexes_with}
-use Rattle.mx_schema.specs.Sound.{AreIndexed, AreKeyed, AreUnique, HaveKeys, IsSound, SpaceRowStands}
+use Rattle.mx_schema.specs.Sound.{AreIndexed, AreKeyed, HaveKeys, IsSound, SpaceRowStands}
 use Rattle.mx_schema.specs.SpaceRows.{space_in}
 use Rattle.mx_schema.specs.State.{State, Tuples, index_rows, space_rows, tuples_in, with_tuple, without_tuple}
 use Rattle.mx_schema.specs.Stored.{StandByPrimary}
 use Rattle.mx_schema.proofs.AloneLaws.{Alone}
 use Rattle.mx_schema.proofs.IndexListLaws.{apart_less, apart_more, each_less, each_more, found_less, found_more}
 use Rattle.mx_schema.proofs.KeyedLaws.{one_key, two_key}
-use Rattle.mx_schema.proofs.SchemaChangeLaws.{have_elsewhere, have_index_put, have_index_removed, have_space_put, have_space_removed, index_row_put, index_row_removed, new_space_put, rows_stand_elsewhere, rows_stand_put, rows_stand_removed, space_row_removed}
+use Rattle.mx_schema.proofs.SchemaChangeLaws.{have_index_put, have_index_removed, have_space_put, have_space_removed, index_row_put, index_row_removed, new_space_put, rows_stand_elsewhere, rows_stand_put, rows_stand_removed, space_row_removed}
 use Rattle.mx_schema.proofs.SoundLaws.{sound_set}
 use Rattle.mx_schema.proofs.StateLaws.{none_stand, schema_set, tuples_set}
 use Rattle.mx_schema.proofs.StoredLaws.{each_none, each_put}

@@ -2,6 +2,7 @@ pub mod Bootstrap
 pub mod Catalogues
 pub mod IndexRows
 pub mod Lookups
+pub mod Members
 pub mod Picks
 pub mod RowParts
 pub mod RowSteps

@@ -11,6 +11,7 @@ mod index_def;
 mod index_row;
 mod keyed;
 mod laws;
+mod members;
 mod names;
 mod part_row;
 mod schema;
@@ -33,6 +34,7 @@ pub use laws::{
     index_rows_stand_under_their_numbers, indexes_have_spaces, rows_change_the_schema,
     rows_make_one_catalogue,
 };
+pub use members::is_member;
 pub use schema::Schema;
 pub use settings::is_leader;
 pub use space_def::SpaceDef;

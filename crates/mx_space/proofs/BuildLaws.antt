@@ -7,7 +7,7 @@ use Rattle.std.specs.Cmp.Lexicographic.{slice_cmp}
 use Rattle.std.specs.FinMap.{empty, entries, entries_sorted, get, get-empty, get-entries, get-insert, insert, same_map}
 use Rattle.std.specs.FinMap.Entries.{below_all, find, is_sorted}
 use Rattle.std.specs.List.{AllByRecursion}
-use Rattle.std.specs.Option.{option_or}
+use Rattle.std.specs.Option.{option_map, option_or}
 use Rattle.std.specs.Ordering.{eq_by_cmp, is_eq, is_lt, nat_cmp, ordering_reverse}
 use Rattle.mx_msgpack.proofs.Options.{same_some}
 use Rattle.mx_key.specs.declared.fault.NoKey.{NoKey}
@@ -27,11 +27,11 @@ use Rattle.mx_space.specs.declared.build.BuildFault.{BuildFault}
 use Rattle.mx_space.specs.declared.build.BuildFault.TheVariants as fault
 use Rattle.mx_space.specs.Builds.{build_fault, build_fault_from, build_fault_of, row_fault}
 use Rattle.mx_space.specs.Built.{AreLong, IsBuilt}
-use Rattle.mx_space.specs.Entries.{IndexEntry}
+use Rattle.mx_space.specs.Entries.{IndexEntry, with_entry}
 use Rattle.mx_space.specs.Kept.{StoresEntries, kept_entries}
 use Rattle.mx_space.specs.KeptKeys.{kept_key}
-use Rattle.mx_space.proofs.BytesLaws.{stores_more, stores_none}
-use Rattle.mx_space.proofs.EntriesLaws.{entries_with, none_tied, tied_is, without_entry}
+use Rattle.mx_space.proofs.BytesLaws.{stored_entry, stores_more, stores_none}
+use Rattle.mx_space.proofs.EntriesLaws.{entries_with, entry_is_new, none_tied, tied_is, without_entry}
 use Rattle.mx_space.proofs.HolderLaws.{entry_key_is, unique_apart}
 use Rattle.mx_space.proofs.IndexedLaws.{held_is, not_none}
 use Rattle.mx_space.proofs.SpaceLaws.{no_kept}
@@ -80,13 +80,21 @@ module _ (def : IndexDef) (long : ℕ) (before : Tuples) (kept : List IndexEntry
   index_is = ap (λ b. if b then before else indexed_with def empty (entries before)) other
 
   module _ (own : Key) (absent : get before own ≡ None) (is_long : length own ≡ long) (tuple : List ℕ) (key : Key) (is : key_in def.key tuple ≡ Ok key) where
+    -- the tuple's entry isn't there yet
+    entry_added : AreFit (kept_key def own tuple) → with_entry (comparable_of (kept_key def own tuple)) (comparable_of own) kept
+        ≡ insert_entry (slice_cmp nat_cmp) kept (comparable_of (kept_key def own tuple)) (comparable_of own)
+    entry_added fit =
+        ap (λ o. if is_some o then kept else insert_entry (slice_cmp nat_cmp) kept (comparable_of (kept_key def own tuple)) (comparable_of own))
+        (stored_entry (kept_key def own tuple) fit kept (kept_entries def before) built.keeps
+        ∙ ap (option_map comparable_of) (entry_is_new def long before built.whole own is_long tuple None absent (λ replaced e. absurd cc)))
+
     pub one_built : (def.unique ≡ true → false ≡ is_some (get (tuples_by_index def before) key)) → AreFit (kept_key def own tuple)
-        → (after : List IndexEntry) → after ≡ insert_entry (slice_cmp nat_cmp) kept (comparable_of (kept_key def own tuple)) (comparable_of own)
+        → (after : List IndexEntry) → after ≡ with_entry (comparable_of (kept_key def own tuple)) (comparable_of own) kept
         → IsBuilt def long (insert before own tuple) after
     one_built new fit after put_in = record {
       keeps = subst (StoresEntries after)
           (sym (entries_with def long before built.whole own is_long tuple ∙ ap (λ o. insert (without_entry def own o (kept_entries def before)) (kept_key def own tuple) own) absent))
-          (subst (λ l. StoresEntries l (insert (kept_entries def before) (kept_key def own tuple) own)) (sym put_in)
+          (subst (λ l. StoresEntries l (insert (kept_entries def before) (kept_key def own tuple) own)) (sym (put_in ∙ entry_added fit))
           (stores_more (kept_key def own tuple) own fit kept (kept_entries def before) built.keeps));
       whole = each_put (λ entry. length entry.0 ≡ long) before own tuple is_long built.whole;
       have = each_put (λ entry. (key : Key) × (key_in def.key entry.1 ≡ Ok key)) before own tuple (key, is) built.have;

@@ -1,5 +1,6 @@
 -- An index's entries as bytes: one more, one less, and the one under a key.
-use Rattle.std.proofs.Common.{◌≡◌, ℕ, Bool, true, false, cond, not, T, List, [], ◌∷◌, map, Option, Some, None, refl, sym, ap, ◌∙◌, subst, true≢false}
+use Rattle.std.proofs.Common.{◌≡◌, ℕ, Bool, true, false, cond, not, T, List, [], ◌∷◌, map, Option, Some, None, Result, Ok, Err, refl, sym, ap, ◌∙◌, subst, true≢false}
+use Rattle.std.specs.Prelude.{IfOk, OnOk, is_some, if◌then◌else◌}
 use Rattle.std.specs.declared.cmp.Ordering.{Ordering}
 use Rattle.std.specs.declared.cmp.Ordering.TheVariants.{Less, Equal, Greater}
 use Rattle.std.specs.BTreeMap.{insert_entry, is_at}
@@ -18,7 +19,8 @@ use Rattle.mx_key.specs.Comparable.{comparable_of}
 use Rattle.mx_key.proofs.EncodingLaws.{bytes_order}
 use Rattle.mx_key.proofs.KeyLaws.{key_cmp-IsAntisymmetric, key_cmp_total}
 use Rattle.mx_schema.proofs.OrderLaws.{both, lt_is}
-use Rattle.mx_space.specs.Entries.{IndexEntry}
+use Rattle.mx_space.specs.Changes.{without_key}
+use Rattle.mx_space.specs.Entries.{IndexEntry, has_entry, with_entry}
 use Rattle.mx_space.specs.Kept.{StoresEntries, entry_bytes}
 use Rattle.mx_space.proofs.EntriesLaws.{tied_is}
 
@@ -182,7 +184,7 @@ module _ (key : Key) (fit : AreFit key) where
 
 -- ---- an entry that was added is taken back
 
-pub taken_back : (kept : List IndexEntry) (key primary : List ℕ) → lookup (is_at (slice_cmp nat_cmp key)) kept ≡ None
+taken_back : (kept : List IndexEntry) (key primary : List ℕ) → lookup (is_at (slice_cmp nat_cmp key)) kept ≡ None
     → remove_entry (is_at (slice_cmp nat_cmp key)) (insert_entry (slice_cmp nat_cmp) kept key primary) ≡ kept
 taken_back [] key primary none = ap (λ o. cond (is_eq o) [] ((key, primary) ∷ [])) (tied_itself nat_list_cmp_total key)
 taken_back (entry ∷ kept) key primary none = by_order_of (slice_cmp nat_cmp key entry.0) refl none (taken_back kept key primary)
@@ -200,6 +202,26 @@ taken_back (entry ∷ kept) key primary none = by_order_of (slice_cmp nat_cmp ke
     by_order_of Greater is none later =
         ap (λ o. cond (is_eq o) (insert_entry (slice_cmp nat_cmp) kept key primary) (entry ∷ remove_entry (is_at (slice_cmp nat_cmp key)) (insert_entry (slice_cmp nat_cmp) kept key primary))) is
         ∙ ap (λ l. entry ∷ l) (later none)
+
+-- so it is where the entry was new, and nothing was added where it wasn't
+pub undone : (kept : List IndexEntry) (key primary : List ℕ) (is_new : Bool) → is_new ≡ not (has_entry key kept)
+    → (if is_new then without_key (Some key) (with_entry key primary kept) else with_entry key primary kept) ≡ kept
+undone kept key primary is_new is = by_entry (lookup (is_at (slice_cmp nat_cmp key)) kept) refl is_new is
+  where
+    by_entry : (o : Option (List ℕ)) → lookup (is_at (slice_cmp nat_cmp key)) kept ≡ o → (is_new : Bool) → is_new ≡ not (has_entry key kept)
+        → (if is_new then without_key (Some key) (with_entry key primary kept) else with_entry key primary kept) ≡ kept
+    by_entry None there true is =
+        ap (λ o. without_key (Some key) (if is_some o then kept else insert_entry (slice_cmp nat_cmp) kept key primary)) there ∙ taken_back kept key primary there
+    by_entry None there false is = absurd (true≢false (sym (is ∙ ap (λ (o : Option (List ℕ)). not (is_some o)) there)))
+    by_entry (Some one) there true is = absurd (true≢false (is ∙ ap (λ (o : Option (List ℕ)). not (is_some o)) there))
+    by_entry (Some one) there false is = ap (λ o. if is_some o then kept else insert_entry (slice_cmp nat_cmp) kept key primary) there
+
+pub undone_so : {E : Type 0} (kept : List IndexEntry) (key copy primary : List ℕ) (added : Option (List ℕ)) (now : List IndexEntry) (result : Result Bool E) → added ≡ Some key → copy ≡ key
+    → IfOk result (λ is_new. is_new ≡ not (has_entry copy kept)) → OnOk result (now ≡ with_entry copy primary kept)
+    → IfOk result (λ is_new. (if is_new then without_key added now else now) ≡ kept)
+undone_so kept key copy primary added now (Ok is_new) is same new put =
+    (λ i. if is_new then without_key ((is ∙ ap (λ k. Some k) (sym same)) i) (put i) else put i) ∙ undone kept copy primary is_new new
+undone_so kept key copy primary added now (Err why) is same new put = tt
 
 -- two keys are one where their bytes are
 pub one_by_bytes : (one other : Key) → AreFit one → AreFit other → comparable_of one ≡ comparable_of other → one ≡ other

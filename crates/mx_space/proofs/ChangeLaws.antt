@@ -1,11 +1,10 @@
 -- What a write makes of the entries that are kept of each index.
 use Rattle.std.proofs.Common.{◌≡◌, ◌≢◌, ℕ, Bool, true, false, List, [], ◌∷◌, length, Option, Some, None, inl, inr, refl, sym, ap, ◌∙◌, subst}
-use Rattle.std.specs.Prelude.{◌==◌}
-use Rattle.std.specs.BTreeMap.{is_at}
+use Rattle.std.specs.Prelude.{◌==◌, is_some, if◌then◌else◌}
+use Rattle.std.specs.BTreeMap.{insert_entry}
 use Rattle.std.specs.Cmp.Lexicographic.{slice_cmp}
 use Rattle.std.specs.FinMap.{get, insert, remove}
 use Rattle.std.specs.List.{AllZip}
-use Rattle.std.specs.Map.{lookup}
 use Rattle.std.specs.Option.{option_map}
 use Rattle.std.specs.Ordering.{eq_by_cmp, nat_cmp}
 use Rattle.mx_key.specs.Keys.{Key, key_cmp}
@@ -14,19 +13,18 @@ use Rattle.mx_msgpack.proofs.Options.{same_some}
 use Rattle.mx_schema.specs.declared.index_def.IndexDef.{IndexDef}
 use Rattle.mx_schema.specs.State.{Tuples}
 use Rattle.mx_space.specs.declared.change.Change.{Change}
-use Rattle.mx_space.specs.Changes.{AddsEntry, CanUndo, IsNoChange, Puts, PutsByNumber, RemovesByNumber, Removes, all_changed, all_without, changed, with_added, without_key}
-use Rattle.mx_space.specs.Entries.{IndexEntry}
+use Rattle.mx_space.specs.Changes.{AddsEntry, IsNoChange, Puts, PutsByNumber, RemovesByNumber, Removes, all_changed, all_without, changed, with_added, without_key}
+use Rattle.mx_space.specs.Entries.{IndexEntry, has_entry}
 use Rattle.mx_space.specs.Built.{AreLong}
 use Rattle.mx_space.specs.Kept.{StoresByNumber, StoresEntries, StoresIndex, kept_entries}
 use Rattle.mx_space.specs.KeptKeys.{kept_key}
-use Rattle.mx_space.proofs.BytesLaws.{stored_entry, stores_less, stores_more, taken_back, one_by_bytes, removed_behind}
+use Rattle.mx_space.proofs.BytesLaws.{stored_entry, stores_less, stores_more, one_by_bytes, removed_behind}
 use Rattle.mx_space.proofs.EntriesLaws.{entries_with, entries_without, entry_is_new, tied_is, same_entry, without_entry}
 
 -- nothing changes
-unchanged : (change : Change) (kept : List IndexEntry) → IsNoChange change → (changed change kept ≡ kept) × CanUndo change kept
-unchanged change kept none =
-    let added : with_added change.added kept ≡ kept = ap (λ a. with_added a kept) none.added in
-    (ap (λ r. without_key r (with_added change.added kept)) none.removed ∙ added, ap (λ u. without_key u (with_added change.added kept)) none.undo ∙ added)
+unchanged : (bytes : List ℕ) (change : Change) (kept : List IndexEntry) → IsNoChange change → changed bytes change kept ≡ kept
+unchanged bytes change kept none =
+    ap (λ r. without_key r (with_added change.added bytes kept)) none.removed ∙ ap (λ a. with_added a bytes kept) none.added
 
 not_tied : (one other : Key) → comparable_of other ≢ comparable_of one → eq_by_cmp key_cmp one other ≡ false
 not_tied one other apart = by_test (eq_by_cmp key_cmp one other) refl
@@ -36,56 +34,51 @@ not_tied one other apart = by_test (eq_by_cmp key_cmp one other) refl
     by_test false tied = refl
 
 module _ (tuples : Tuples) (long : ℕ) (whole : AreLong long tuples) (primary : Key) (is : length primary ≡ long) where
+  abbrev bytes : List ℕ
+  bytes = comparable_of primary
+
   module _ (def : IndexDef) where
     module _ (tuple : List ℕ) where
       -- the entries with that of the tuple
       added_to : (change : Change) (kept : List IndexEntry) → AddsEntry def primary tuple change → StoresEntries kept (kept_entries def tuples)
-          → StoresEntries (with_added change.added kept) (insert (kept_entries def tuples) (kept_key def primary tuple) primary)
-      added_to change kept adds keeps =
-          subst (λ a. StoresEntries (with_added a kept) (insert (kept_entries def tuples) (kept_key def primary tuple) primary)) (sym adds.added)
-          (stores_more (kept_key def primary tuple) primary adds.fit kept (kept_entries def tuples) keeps)
-
-      can_undo : (change : Change) (kept : List IndexEntry) → AddsEntry def primary tuple change → StoresEntries kept (kept_entries def tuples)
-          → get (kept_entries def tuples) (kept_key def primary tuple) ≡ None → CanUndo change kept
-      can_undo change kept adds keeps new =
-          let bytes = comparable_of (kept_key def primary tuple) in
-          let none : lookup (is_at (slice_cmp nat_cmp bytes)) kept ≡ None =
-          stored_entry (kept_key def primary tuple) adds.fit kept (kept_entries def tuples) keeps ∙ ap (option_map comparable_of) new in
-          (λ i. without_key (adds.undo i) (with_added (adds.added i) kept)) ∙ taken_back kept bytes (comparable_of primary) none
+          → get (kept_entries def tuples) (kept_key def primary tuple) ≡ None
+          → StoresEntries (with_added change.added bytes kept) (insert (kept_entries def tuples) (kept_key def primary tuple) primary)
+      added_to change kept adds keeps new =
+          let key = comparable_of (kept_key def primary tuple) in
+          let fresh : has_entry key kept ≡ false =
+          ap is_some (stored_entry (kept_key def primary tuple) adds.fit kept (kept_entries def tuples) keeps ∙ ap (option_map comparable_of) new) in
+          subst (λ a. StoresEntries (with_added a bytes kept) (insert (kept_entries def tuples) (kept_key def primary tuple) primary)) (sym adds.added)
+          (subst (λ b. StoresEntries (if b then kept else insert_entry (slice_cmp nat_cmp) kept key bytes) (insert (kept_entries def tuples) (kept_key def primary tuple) primary)) (sym fresh)
+          (stores_more (kept_key def primary tuple) primary adds.fit kept (kept_entries def tuples) keeps))
 
       put_one : (kept : List IndexEntry) (change : Change) (old : Option (List ℕ)) → get tuples primary ≡ old → PutsByNumber false def primary tuple old change
-          → StoresEntries kept (kept_entries def tuples) → StoresEntries (changed change kept) (kept_entries def (insert tuples primary tuple)) × CanUndo change kept
+          → StoresEntries kept (kept_entries def tuples) → StoresEntries (changed bytes change kept) (kept_entries def (insert tuples primary tuple))
       put_one kept change None there (adds, no_other) keeps =
           let new : kept_entries def (insert tuples primary tuple) ≡ insert (kept_entries def tuples) (kept_key def primary tuple) primary =
-          entries_with def long tuples whole primary is tuple ∙ ap (λ o. insert (without_entry def primary o (kept_entries def tuples)) (kept_key def primary tuple) primary) there in (
-            subst (λ r. StoresEntries (without_key r (with_added change.added kept)) (kept_entries def (insert tuples primary tuple))) (sym no_other)
-                (subst (StoresEntries (with_added change.added kept)) (sym new) (added_to change kept adds keeps)),
-            can_undo change kept adds keeps (entry_is_new def long tuples whole primary is tuple None there (λ replaced e. absurd cc)),
-          )
+          entries_with def long tuples whole primary is tuple ∙ ap (λ o. insert (without_entry def primary o (kept_entries def tuples)) (kept_key def primary tuple) primary) there in
+          subst (λ r. StoresEntries (without_key r (with_added change.added bytes kept)) (kept_entries def (insert tuples primary tuple))) (sym no_other)
+          (subst (StoresEntries (with_added change.added bytes kept)) (sym new)
+          (added_to change kept adds keeps (entry_is_new def long tuples whole primary is tuple None there (λ replaced e. absurd cc))))
       put_one kept change (Some old) there (inl (none, one)) keeps =
           let same : kept_key def primary tuple ≡ kept_key def primary old = one_by_bytes (kept_key def primary tuple) (kept_key def primary old) one.fit one.fits one.same in
-          let stays = unchanged change kept none in (
-            subst (λ k. StoresEntries k (kept_entries def (insert tuples primary tuple))) (sym stays.0)
-                (subst (StoresEntries kept) (sym (same_entry def long tuples whole primary is tuple old there same)) keeps),
-            stays.1,
-          )
+          subst (λ k. StoresEntries k (kept_entries def (insert tuples primary tuple))) (sym (unchanged bytes change kept none))
+          (subst (StoresEntries kept) (sym (same_entry def long tuples whole primary is tuple old there same)) keeps)
       put_one kept change (Some old) there (inr (adds, removes, apart)) keeps =
           let new_key = kept_key def primary tuple in
           let old_key = kept_key def primary old in
           let other : eq_by_cmp key_cmp new_key old_key ≡ false = not_tied new_key old_key apart in
           let new : kept_entries def (insert tuples primary tuple) ≡ remove (insert (kept_entries def tuples) new_key primary) old_key =
           entries_with def long tuples whole primary is tuple ∙ ap (λ o. insert (without_entry def primary o (kept_entries def tuples)) new_key primary) there
-          ∙ sym (removed_behind (kept_entries def tuples) new_key old_key primary other) in (
-            subst (λ r. StoresEntries (without_key r (with_added change.added kept)) (kept_entries def (insert tuples primary tuple))) (sym removes.key_is)
-                (subst (StoresEntries (without_key (Some (comparable_of old_key)) (with_added change.added kept))) (sym new)
-                (stores_less old_key removes.fit (with_added change.added kept) (insert (kept_entries def tuples) new_key primary) (added_to change kept adds keeps))),
-            can_undo change kept adds keeps (entry_is_new def long tuples whole primary is tuple (Some old) there
-                (λ replaced e. subst (λ o. eq_by_cmp key_cmp new_key (kept_key def primary o) ≡ false) (same_some old replaced e) other)),
-          )
+          ∙ sym (removed_behind (kept_entries def tuples) new_key old_key primary other) in
+          let fresh = entry_is_new def long tuples whole primary is tuple (Some old) there
+          (λ replaced e. subst (λ o. eq_by_cmp key_cmp new_key (kept_key def primary o) ≡ false) (same_some old replaced e) other) in
+          subst (λ r. StoresEntries (without_key r (with_added change.added bytes kept)) (kept_entries def (insert tuples primary tuple))) (sym removes.key_is)
+          (subst (StoresEntries (without_key (Some (comparable_of old_key)) (with_added change.added bytes kept))) (sym new)
+          (stores_less old_key removes.fit (with_added change.added bytes kept) (insert (kept_entries def tuples) new_key primary) (added_to change kept adds keeps fresh)))
 
       put_by_number : (first : Bool) (kept : List IndexEntry) (change : Change) → PutsByNumber first def primary tuple (get tuples primary) change
-          → StoresByNumber first def tuples kept → StoresByNumber first def (insert tuples primary tuple) (changed change kept) × CanUndo change kept
-      put_by_number true kept change none no_entries = let stays = unchanged change kept none in (stays.0 ∙ no_entries, stays.1)
+          → StoresByNumber first def tuples kept → StoresByNumber first def (insert tuples primary tuple) (changed bytes change kept)
+      put_by_number true kept change none no_entries = unchanged bytes change kept none ∙ no_entries
       put_by_number false kept change puts keeps = put_one kept change (get tuples primary) refl puts keeps
 
     remove_by_number : (first : Bool) (kept : List IndexEntry) (key : Option (List ℕ)) (old : List ℕ) → get tuples primary ≡ Some old → RemovesByNumber first def primary old key
@@ -101,16 +94,14 @@ module _ (tuples : Tuples) (long : ℕ) (whole : AreLong long tuples) (primary :
   -- all indexes with a tuple more
   pub put_in_all : (tuple : List ℕ) (defs : List IndexDef) (kept : List (List IndexEntry)) (changes : List Change) → AllZip (StoresIndex tuples) defs kept
       → AllZip (Puts primary tuple (get tuples primary)) defs changes
-      → AllZip (StoresIndex (insert tuples primary tuple)) defs (all_changed changes kept) × AllZip CanUndo changes kept
-  put_in_all tuple [] [] [] keep put = (tt, tt)
+      → AllZip (StoresIndex (insert tuples primary tuple)) defs (all_changed (comparable_of primary) changes kept)
+  put_in_all tuple [] [] [] keep put = tt
   put_in_all tuple [] [] (change ∷ changes) keep put = absurd put
   put_in_all tuple [] (one ∷ kept) changes keep put = absurd keep
   put_in_all tuple (def ∷ defs) [] changes keep put = absurd keep
   put_in_all tuple (def ∷ defs) (one ∷ kept) [] keep put = absurd put
   put_in_all tuple (def ∷ defs) (one ∷ kept) (change ∷ changes) keep put =
-      let first = put_by_number def tuple (def.id.0 == 0) one change put.0 keep.0 in
-      let others = put_in_all tuple defs kept changes keep.1 put.1 in
-      ((first.0, others.0), (first.1, others.1))
+      (put_by_number def tuple (def.id.0 == 0) one change put.0 keep.0, put_in_all tuple defs kept changes keep.1 put.1)
 
   -- all indexes with a tuple less
   pub removed_from_all : (old : List ℕ) → get tuples primary ≡ Some old → (defs : List IndexDef) (kept : List (List IndexEntry)) (keys : List (Option (List ℕ)))

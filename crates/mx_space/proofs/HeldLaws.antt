@@ -86,6 +86,10 @@ module _ (id : ℕ) (spaces : List SpaceEntry) (schemas : ℕ → Option Schema)
   pub space_there : (space : Space) → space_under id spaces ≡ Some space → StoresIndexed (schemas id) space (tuples_in before id)
   space_there space there = subst (λ o. HoldsSpace (schemas id) o (tuples_in before id)) there (holds id)
 
+  -- what is there is described
+  pub is_described : (space : Space) → space_under id spaces ≡ Some space → schemas id ≡ None → ⊥
+  is_described space there none = let is : ◌≡◌ {A = Option Schema} None (Some space.schema) = sym none ∙ (space_there space there).holds.is in absurd cc
+
   -- what is described is there
   pub none_there : (schema : Schema) → schemas id ≡ Some schema → space_under id spaces ≡ None → ⊥
   none_there schema is none =
@@ -110,6 +114,14 @@ described_so schema described space all stores is = same_some described space.sc
 pub holds_described : (one other : ℕ → Option Schema) (memory : coded.State) (before : State) → ((id : ℕ) → one id ≡ other id) → HoldsBy one memory before → HoldsBy other memory before
 holds_described one other memory before same holds id =
     subst (λ s. HoldsSpace s (space_under id memory.spaces.entries.items) (tuples_in before id)) (same id) (holds id)
+
+-- what isn't described needn't be taken away
+pub still_none : (schemas : ℕ → Option Schema) (id : ℕ) → schemas id ≡ None → (q : ℕ) → with_schema schemas id None q ≡ schemas q
+still_none schemas id none q = by_test (q == id) refl
+  where
+    by_test : (b : Bool) → (q == id) ≡ b → (if b then None else schemas q) ≡ schemas q
+    by_test true e = sym (ap schemas (eqb-true q id e) ∙ none)
+    by_test false e = refl
 
 -- ---- the spaces of a catalogue
 

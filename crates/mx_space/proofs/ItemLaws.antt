@@ -7,10 +7,10 @@ use Rattle.mx_space.specs.declared.change.Change.{Change}
 use Rattle.mx_space.specs.Changes.{all_changed, all_without}
 use Rattle.mx_space.specs.Entries.{IndexEntry}
 
-changed_long : (changes : List Change) (kept : List (List IndexEntry)) → length (all_changed changes kept) ≡ length kept
-changed_long [] kept = refl
-changed_long (change ∷ changes) [] = refl
-changed_long (change ∷ changes) (one ∷ others) = ap (λ n. suc n) (changed_long changes others)
+changed_long : (primary : List ℕ) (changes : List Change) (kept : List (List IndexEntry)) → length (all_changed primary changes kept) ≡ length kept
+changed_long primary [] kept = refl
+changed_long primary (change ∷ changes) [] = refl
+changed_long primary (change ∷ changes) (one ∷ others) = ap (λ n. suc n) (changed_long primary changes others)
 
 without_long : (keys : List (Option (List ℕ))) (kept : List (List IndexEntry)) → length (all_without keys kept) ≡ length kept
 without_long [] kept = refl
@@ -26,8 +26,9 @@ module _ {Z : Type 0} (v : Vec (List IndexEntry) Z) where
   pub items_kept : (now : List (List IndexEntry)) → now ≡ v.items → (with_items v now).items ≡ v.items
   items_kept now is = items_now v now v.items is refl
 
-  pub items_changed : (now : List (List IndexEntry)) (changes : List Change) → now ≡ all_changed changes v.items → (with_items v now).items ≡ all_changed changes v.items
-  items_changed now changes is = items_now v now (all_changed changes v.items) is (changed_long changes v.items)
+  pub items_changed : (now : List (List IndexEntry)) (primary : List ℕ) (changes : List Change) → now ≡ all_changed primary changes v.items
+      → (with_items v now).items ≡ all_changed primary changes v.items
+  items_changed now primary changes is = items_now v now (all_changed primary changes v.items) is (changed_long primary changes v.items)
 
   pub items_without : (now : List (List IndexEntry)) (keys : List (Option (List ℕ))) → now ≡ all_without keys v.items → (with_items v now).items ≡ all_without keys v.items
   items_without now keys is = items_now v now (all_without keys v.items) is (without_long keys v.items)

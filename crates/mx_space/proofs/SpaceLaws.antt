@@ -1,6 +1,7 @@
 -- A space with a tuple more, with one less, and as it was.
-use Rattle.std.proofs.Common.{◌≡◌, ◌≢◌, ℕ, Bool, true, false, cond, List, [], ◌∷◌, map, length, Option, Some, None, Ok, refl, sym, ap, ◌∙◌, subst}
-use Rattle.std.specs.Prelude.{IfSome, ◌==◌, if◌then◌else◌}
+use Rattle.std.proofs.Common.{◌≡◌, ◌≢◌, ◌<◌, ℕ, Bool, true, false, cond, List, [], ◌∷◌, map, length, Option, Some, None, Result, Ok, Err, refl, sym, ap, ◌∙◌, subst, arith}
+use Rattle.std.specs.Prelude.{IfSome, OnOk, ◌==◌, if◌then◌else◌}
+use Rattle.std.specs.Vec.{with_items}
 use Rattle.std.specs.BTreeMap.{insert_entry, is_at}
 use Rattle.std.specs.Cmp.Lexicographic.{slice_cmp}
 use Rattle.std.specs.FinMap.{empty, entries, from_entries, get, get-remove, insert, remove, same_map}
@@ -24,13 +25,14 @@ use Rattle.mx_schema.proofs.TakenLaws.{each_found, each_left, stores_left}
 use Rattle.mx_schema.proofs.PartLaws.{key_length, stand_whole}
 use Rattle.mx_space.specs.declared.change.Change.{Change}
 use Rattle.mx_space.specs.declared.space.Space.{Space}
-use Rattle.mx_space.specs.Changes.{CanUndo, Puts, Removes, all_changed, all_without, index_kept}
+use Rattle.mx_space.specs.Changes.{Puts, Removes, all_changed, all_without, index_kept}
 use Rattle.mx_space.specs.Entries.{IndexEntry}
 use Rattle.mx_space.specs.Built.{AreLong}
 use Rattle.mx_space.specs.Kept.{StoresByNumber, StoresEntries, StoresIndex, StoresIndexed, kept_entries, kept_entry}
 use Rattle.mx_space.proofs.BytesLaws.{stores_none}
 use Rattle.mx_space.proofs.ChangeLaws.{put_in_all, removed_from_all}
 use Rattle.mx_space.proofs.EntriesLaws.{tied_is}
+use Rattle.mx_space.proofs.ItemLaws.{items_changed}
 
 -- ---- no tuples
 
@@ -56,6 +58,20 @@ new_space space schema same none each = record {
   };
   indexes = subst (λ (s : Schema). AllZip (StoresIndex empty) s.indexes space.indexes.items) (sym same) each;
 }
+
+-- the primary index has no entries, whatever the tuples are
+kept_alone : (all other : Tuples) (defs : List IndexDef) (kept : List (List IndexEntry)) (primary : IndexDef) → length kept < 2 → AllZip (StoresIndex all) defs kept
+    → index_with 0 defs ≡ Some primary → AllZip (StoresIndex other) defs kept
+kept_alone all other [] kept primary one each there = absurd cc
+kept_alone all other (def ∷ defs) [] primary one each there = absurd each
+kept_alone all other (def ∷ []) (first ∷ []) primary one each there = (by_number (def.id.0 == 0) there each.0, tt)
+  where
+    by_number : (own : Bool) → (if own then Some def else None) ≡ Some primary → StoresByNumber own def all first → StoresByNumber own def other first
+    by_number true there none = none
+    by_number false there none = absurd cc
+kept_alone all other (def ∷ []) (first ∷ next ∷ kept) primary one each there = absurd each.1
+kept_alone all other (def ∷ second ∷ defs) (first ∷ []) primary one each there = absurd each.1
+kept_alone all other (def ∷ second ∷ defs) (first ∷ next ∷ kept) primary one each there = absurd (omega (arith, one))
 
 -- ---- a write
 
@@ -86,20 +102,12 @@ module _ (schema : Option Schema) (before after : Space) (all : Tuples) (stores 
     long : AreLong (length primary.key) all
     long = space_long schema before all primary stores there
 
-    module _ (key : Key) (tuple : List ℕ) (keyed : key_in primary.key tuple ≡ Ok key) (changes : List Change) (puts : AllZip (Puts key tuple (get all key)) before.schema.indexes changes) where
-      put_all_in : AllZip (StoresIndex (insert all key tuple)) before.schema.indexes (all_changed changes before.indexes.items) × AllZip CanUndo changes before.indexes.items
-      put_all_in =
-          put_in_all all (length primary.key) long key (key_length primary.key (tuple_of tuple).fields key keyed) tuple before.schema.indexes before.indexes.items changes stores.indexes puts
-
-      -- what is added can be taken back
-      pub all_undone : AllZip CanUndo changes before.indexes.items
-      all_undone = put_all_in.1
-
-      -- a space with a tuple more
-      pub space_with : AreFit key → (bytes : List ℕ) → bytes ≡ comparable_of key
-          → after.tuples.entries ≡ insert_entry (slice_cmp nat_cmp) before.tuples.entries bytes tuple
-          → after.indexes.items ≡ all_changed changes before.indexes.items → StoresIndexed schema after (insert all key tuple)
-      space_with fit bytes is tuples indexes = record {
+    -- a space with a tuple more
+    module _ (key : Key) (tuple bytes : List ℕ) (keyed : key_in primary.key tuple ≡ Ok key) (fit : AreFit key) (is : bytes ≡ comparable_of key)
+        (tuples : after.tuples.entries ≡ insert_entry (slice_cmp nat_cmp) before.tuples.entries bytes tuple) where
+      with_indexes : (indexes : List (List IndexEntry)) → after.indexes.items ≡ indexes → AllZip (StoresIndex (insert all key tuple)) before.schema.indexes indexes
+          → StoresIndexed schema after (insert all key tuple)
+      with_indexes indexes are each = record {
         holds = record {
           is = stores.holds.is ∙ ap (λ s. Some s) (sym same);
           keeps = stores_put before.tuples.entries after.tuples.entries all key bytes tuple stores.holds.keeps fit is tuples;
@@ -107,29 +115,63 @@ module _ (schema : Option Schema) (before after : Space) (all : Tuples) (stores 
               (stands_after before.schema all key tuple (subst (λ (o : Option IndexDef). IfSome o (λ def. key_in def.key tuple ≡ Ok key)) (sym there) keyed) stores.holds.stands);
         };
         indexes = subst (λ (s : Schema). AllZip (StoresIndex (insert all key tuple)) s.indexes after.indexes.items) (sym same)
-            (subst (AllZip (StoresIndex (insert all key tuple)) before.schema.indexes) (sym indexes) put_all_in.0);
+            (subst (AllZip (StoresIndex (insert all key tuple)) before.schema.indexes) (sym are) each);
       }
 
+      pub space_with : (changes : List Change) → AllZip (Puts key tuple (get all key)) before.schema.indexes changes
+          → after.indexes.items ≡ all_changed bytes changes before.indexes.items → StoresIndexed schema after (insert all key tuple)
+      space_with changes puts indexes =
+          with_indexes (all_changed (comparable_of key) changes before.indexes.items) (indexes ∙ ap (λ b. all_changed b changes before.indexes.items) is)
+          (put_in_all all (length primary.key) long key (key_length primary.key (tuple_of tuple).fields key keyed) tuple before.schema.indexes before.indexes.items changes stores.indexes puts)
+
+      -- the primary index is the only one
+      pub space_with_alone : length before.indexes.items < 2 → after.indexes.items ≡ before.indexes.items → StoresIndexed schema after (insert all key tuple)
+      space_with_alone one indexes =
+          with_indexes before.indexes.items indexes (kept_alone all (insert all key tuple) before.schema.indexes before.indexes.items primary one stores.indexes there)
+
     -- a space with a tuple less
-    pub space_without : (key : Key) → AreFit key → (bytes : List ℕ) → bytes ≡ comparable_of key → (old : List ℕ) → get all key ≡ Some old
-        → (keys : List (Option (List ℕ))) → AllZip (Removes key old) before.schema.indexes keys
-        → after.tuples.entries ≡ remove_entry (is_at (slice_cmp nat_cmp bytes)) before.tuples.entries
-        → after.indexes.items ≡ all_without keys before.indexes.items → StoresIndexed schema after (remove all key)
-    space_without key fit bytes is old found keys removes tuples indexes =
-        let key_long : length key ≡ length primary.key = each_found key (λ entry. length entry.0 ≡ length primary.key) all old found long in
-        record {
-          holds = record {
-            is = stores.holds.is ∙ ap (λ s. Some s) (sym same);
-            keeps = stores_left key before.tuples.entries after.tuples.entries all bytes fit is tuples stores.holds.keeps;
-            stands = subst (λ (s : Schema). StandByPrimary s (remove all key)) (sym same)
-                (subst (λ (o : Option IndexDef). IfSome o (λ def. StandByKey def.key (remove all key))) (sym there)
-                (each_left key (λ entry. key_in primary.key entry.1 ≡ Ok entry.0) all
-                (subst (λ (o : Option IndexDef). IfSome o (λ def. StandByKey def.key all)) there stores.holds.stands)));
-          };
-          indexes = subst (λ (s : Schema). AllZip (StoresIndex (remove all key)) s.indexes after.indexes.items) (sym same)
-              (subst (AllZip (StoresIndex (remove all key)) before.schema.indexes) (sym indexes)
-              (removed_from_all all (length primary.key) long key key_long old found before.schema.indexes before.indexes.items keys stores.indexes removes));
-        }
+    module _ (key : Key) (fit : AreFit key) (bytes : List ℕ) (is : bytes ≡ comparable_of key)
+        (tuples : after.tuples.entries ≡ remove_entry (is_at (slice_cmp nat_cmp bytes)) before.tuples.entries) where
+      left_indexes : (indexes : List (List IndexEntry)) → after.indexes.items ≡ indexes → AllZip (StoresIndex (remove all key)) before.schema.indexes indexes
+          → StoresIndexed schema after (remove all key)
+      left_indexes indexes are each = record {
+        holds = record {
+          is = stores.holds.is ∙ ap (λ s. Some s) (sym same);
+          keeps = stores_left key before.tuples.entries after.tuples.entries all bytes fit is tuples stores.holds.keeps;
+          stands = subst (λ (s : Schema). StandByPrimary s (remove all key)) (sym same)
+              (subst (λ (o : Option IndexDef). IfSome o (λ def. StandByKey def.key (remove all key))) (sym there)
+              (each_left key (λ entry. key_in primary.key entry.1 ≡ Ok entry.0) all
+              (subst (λ (o : Option IndexDef). IfSome o (λ def. StandByKey def.key all)) there stores.holds.stands)));
+        };
+        indexes = subst (λ (s : Schema). AllZip (StoresIndex (remove all key)) s.indexes after.indexes.items) (sym same)
+            (subst (AllZip (StoresIndex (remove all key)) before.schema.indexes) (sym are) each);
+      }
+
+      pub space_without : (old : List ℕ) → get all key ≡ Some old → (keys : List (Option (List ℕ))) → AllZip (Removes key old) before.schema.indexes keys
+          → after.indexes.items ≡ all_without keys before.indexes.items → StoresIndexed schema after (remove all key)
+      space_without old found keys removes indexes =
+          let key_long : length key ≡ length primary.key = each_found key (λ entry. length entry.0 ≡ length primary.key) all old found long in
+          left_indexes (all_without keys before.indexes.items) indexes
+          (removed_from_all all (length primary.key) long key key_long old found before.schema.indexes before.indexes.items keys stores.indexes removes)
+
+      -- the primary index is the only one
+      pub space_without_alone : length before.indexes.items < 2 → after.indexes.items ≡ before.indexes.items → StoresIndexed schema after (remove all key)
+      space_without_alone one indexes =
+          left_indexes before.indexes.items indexes (kept_alone all (remove all key) before.schema.indexes before.indexes.items primary one stores.indexes there)
+
+-- so it is where a tuple was put with its changes
+module _ (schema : Option Schema) (before : Space) (all : Tuples) (stores : StoresIndexed schema before all) (primary : IndexDef) (there : index_with 0 before.schema.indexes ≡ Some primary)
+    (key : Key) (tuple bytes : List ℕ) (keyed : key_in primary.key tuple ≡ Ok key) (fit : AreFit key) (is : bytes ≡ comparable_of key)
+    (changes : List Change) (puts : AllZip (Puts key tuple (get all key)) before.schema.indexes changes) where
+  pub put_to_all : {E : Type 0} (result : Result (Unit {0}) E) (after : Space) (indexes were : List (List IndexEntry)) (made : List Change) → after.schema ≡ before.schema
+      → after.indexes ≡ with_items before.indexes indexes → were ≡ before.indexes.items → made ≡ changes
+      → OnOk result (after.tuples.entries ≡ insert_entry (slice_cmp nat_cmp) before.tuples.entries bytes tuple)
+      → OnOk result (indexes ≡ all_changed bytes made were)
+      → OnOk result (StoresIndexed schema after (insert all key tuple))
+  put_to_all (Ok u) after indexes were made same has as_before as_made put changed =
+      space_with schema before after all stores same primary there key tuple bytes keyed fit is put changes puts
+      (ap (λ v. v.items) has ∙ items_changed before.indexes indexes bytes changes (changed ∙ (λ i. all_changed bytes (as_made i) (as_before i))))
+  put_to_all (Err why) after indexes were made same has as_before as_made put changed = tt
 
 -- nothing is removed where there is no such tuple
 pub none_removed : (all : Tuples) (key : Key) → get all key ≡ None → remove all key ≡ all

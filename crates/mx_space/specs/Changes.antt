@@ -1,34 +1,34 @@
 -- Only private functions and proofs need these: what a write changes in the entries of each index.
 use Rattle.std.specs.Prelude.{◌≡◌, ◌≢◌, ◌⊎◌, ℕ, Bool, true, false, List, [], ◌∷◌, Option, Some, None, ◌==◌, if◌then◌else◌}
-use Rattle.std.specs.BTreeMap.{insert_entry, is_at}
+use Rattle.std.specs.BTreeMap.{is_at}
 use Rattle.std.specs.Cmp.Lexicographic.{slice_cmp}
 use Rattle.std.specs.Map.{remove_entry}
 use Rattle.std.specs.Ordering.{nat_cmp}
-use Rattle.mx_space.specs.declared.change.Added.{Added}
 use Rattle.mx_space.specs.declared.change.Change.{Change}
 use Rattle.mx_key.specs.Comparable.{comparable_of}
 use Rattle.mx_key.specs.Keys.{Key, AreFit}
 use Rattle.mx_schema.specs.declared.index_def.IndexDef.{IndexDef}
-use Rattle.mx_space.specs.Entries.{IndexEntry}
+use Rattle.mx_space.specs.Entries.{IndexEntry, with_entry}
 use Rattle.mx_space.specs.KeptKeys.{kept_key}
 
-abbrev pub with_added : Option Added → List IndexEntry → List IndexEntry
-with_added None kept = kept
-with_added (Some one) kept = insert_entry (slice_cmp nat_cmp) kept one.key one.primary
+-- the entries with one under this key, where there is a key, which leads to a primary key
+abbrev pub with_added : (added : Option (List ℕ)) → (primary : List ℕ) → List IndexEntry → List IndexEntry
+with_added None primary kept = kept
+with_added (Some key) primary kept = with_entry key primary kept
 
 abbrev pub without_key : Option (List ℕ) → List IndexEntry → List IndexEntry
 without_key None kept = kept
 without_key (Some key) kept = remove_entry (is_at (slice_cmp nat_cmp key)) kept
 
--- the entries after a change
-abbrev pub changed : Change → List IndexEntry → List IndexEntry
-changed change kept = without_key change.removed (with_added change.added kept)
+-- the entries after a change of the tuple with this primary key
+abbrev pub changed : (primary : List ℕ) → Change → List IndexEntry → List IndexEntry
+changed primary change kept = without_key change.removed (with_added change.added primary kept)
 
 -- those of each index
-abbrev pub all_changed : List Change → List (List IndexEntry) → List (List IndexEntry)
-all_changed [] kept = kept
-all_changed (change ∷ changes) [] = []
-all_changed (change ∷ changes) (one ∷ others) = changed change one ∷ all_changed changes others
+abbrev pub all_changed : (primary : List ℕ) → List Change → List (List IndexEntry) → List (List IndexEntry)
+all_changed primary [] kept = kept
+all_changed primary (change ∷ changes) [] = []
+all_changed primary (change ∷ changes) (one ∷ others) = changed primary change one ∷ all_changed primary changes others
 
 -- the entries of each index without these keys
 abbrev pub all_without : List (Option (List ℕ)) → List (List IndexEntry) → List (List IndexEntry)
@@ -48,22 +48,16 @@ kept_without id [] kept = kept
 kept_without id (def ∷ defs) [] = []
 kept_without id (def ∷ defs) (one ∷ others) = if def.id.0 == id then kept_without id defs others else one ∷ kept_without id defs others
 
--- what was added can be taken back
-abbrev pub CanUndo : Change → List IndexEntry → Type 0
-CanUndo change kept = without_key change.undo (with_added change.added kept) ≡ kept
-
 -- ---- the change that a write makes in an index
 
 pub record IsNoChange (change : Change) : Type 0 where
   pub added : change.added ≡ None
-  pub undo : change.undo ≡ None
   pub removed : change.removed ≡ None
 
 -- a tuple's entry is added
 pub record AddsEntry (def : IndexDef) (primary : Key) (tuple : List ℕ) (change : Change) : Type 0 where
   pub fit : AreFit (kept_key def primary tuple)
-  pub added : change.added ≡ Some (record { key = comparable_of (kept_key def primary tuple); primary = comparable_of primary })
-  pub undo : change.undo ≡ Some (comparable_of (kept_key def primary tuple))
+  pub added : change.added ≡ Some (comparable_of (kept_key def primary tuple))
 
 -- a tuple's entry is removed
 pub record RemovesEntry (def : IndexDef) (primary : Key) (tuple : List ℕ) (key : Option (List ℕ)) : Type 0 where

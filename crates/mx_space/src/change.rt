@@ -1,50 +1,41 @@
 //! What a write changes in the entries of each index.
 
-ghost use Rattle.std.specs.Prelude.{◌≡◌, OnOk, OnErr};
+ghost use Rattle.std.specs.Prelude.{◌≡◌, IfOk, OnOk, OnErr, if◌then◌else◌};
 ghost use Rattle.std.specs.BTreeMap.{insert_entry};
 ghost use Rattle.std.specs.Cmp.Lexicographic.{slice_cmp};
-ghost use Rattle.std.specs.List.{AllZip};
 ghost use Rattle.std.specs.Ordering.{nat_cmp};
-ghost use Rattle.mx_space.specs.Changes.{CanUndo, all_changed, all_without, with_added, without_key};
+ghost use Rattle.mx_space.specs.Changes.{all_changed, all_without, with_added, without_key};
 
 use crate::index::Index;
 use crate::tree_index::TreeIndex;
 use mx_msgpack::Bytes;
 use mx_schema::Keyed;
-use std::alloc::AllocError;
+use std::alloc::{AllocError, Global};
 use std::collections::BTreeMap;
 
-/// An entry that a write adds.
-#[derive(Drop)]
-pub(crate) struct Added {
-    pub(crate) key: Bytes,
-    pub(crate) primary: Bytes,
-}
-
-/// What a write changes in an index: the entry that it adds, the key that takes it back, and the key that
-/// it removes.
+/// What a write changes in an index: the key of the entry that it adds, and that of the one that it removes.
 #[derive(Drop)]
 pub(crate) struct Change {
-    pub(crate) added: Option<Added>,
-    pub(crate) undo: Option<Bytes>,
+    pub(crate) added: Option<Bytes>,
     pub(crate) removed: Option<Bytes>,
 }
 
-/// Puts a tuple, with the changes of each index; the changes are used up.
+/// Puts a tuple, with the changes of each index.
 ///
 /// # Errors
 /// Out of memory. Nothing changed then.
 pub(crate) fn put_all(
+    alloc: Global,
     tuples: &mut BTreeMap<Bytes, Bytes>,
     indexes: &mut [TreeIndex],
-    changes: &mut [Change],
+    changes: &[Change],
     keyed: Keyed,
 ) -> Result<(), AllocError>
-    ensures indexes { OnOk result (indexes.new ≡ all_changed changes.old indexes.old) }
+    ensures indexes { OnOk result (indexes.new ≡ all_changed keyed.key changes.now indexes.old) }
     ensures tuples { OnOk result (tuples.new.entries ≡ insert_entry (slice_cmp nat_cmp) tuples.old.entries keyed.key keyed.tuple) }
-    ensures err { AllZip CanUndo changes.old indexes.old → OnErr result ((indexes.new ≡ indexes.old) × (tuples.new.entries ≡ tuples.old.entries)) }
+    ensures err { OnErr result ((indexes.new ≡ indexes.old) × (tuples.new.entries ≡ tuples.old.entries)) }
 {
-    let Some((change, other_changes)) = changes.split_first_mut() else {
+    let Some((change, other_changes)) = changes.split_first() else {
         tuples.insert(keyed.key, keyed.tuple)?;
         return Ok(());
     };
@@ -52,14 +43,16 @@ pub(crate) fn put_all(
         tuples.insert(keyed.key, keyed.tuple)?;
         return Ok(());
     };
-    add(index, change.added.take())?;
-    match put_all(tuples, other_indexes, other_changes, keyed) {
+    let is_new = add(alloc, index, &change.added, keyed.key.as_slice())?;
+    match put_all(alloc, tuples, other_indexes, other_changes, keyed) {
         Ok(()) => {
             take_out(index, &change.removed);
             Ok(())
         }
         Err(AllocError) => {
-            take_out(index, &change.undo);
+            if is_new {
+                take_out(index, &change.added);
+            }
             Err(AllocError)
         }
     }
@@ -79,14 +72,26 @@ pub(crate) fn remove_all(indexes: &mut [TreeIndex], keys: &[Option<Bytes>])
     remove_all(other_indexes, other_keys);
 }
 
-fn add(index: &mut TreeIndex, added: Option<Added>) -> Result<(), AllocError>
-    ensures ok { OnOk result (index.new ≡ with_added added index.old) }
+/// Adds an entry, where there is a key, unless one stands under it. Returns whether it did.
+///
+/// # Errors
+/// Out of memory. Nothing changed then.
+fn add(
+    alloc: Global,
+    index: &mut TreeIndex,
+    added: &Option<Bytes>,
+    primary: &[u8],
+) -> Result<bool, AllocError>
+    ensures ok { OnOk result (index.new ≡ with_added added.now primary.now index.old) }
+    ensures undo { IfOk result (λ is_new. (if is_new then without_key added.now index.new else index.new) ≡ index.old) }
     ensures err { OnErr result (index.new ≡ index.old) }
 {
-    match added {
-        Some(Added { key, primary }) => index.insert(key, primary),
-        None => Ok(()),
-    }
+    let Some(key) = added else {
+        return Ok(false);
+    };
+    let key = Bytes::from_slice(alloc, key.as_slice())?;
+    let primary = Bytes::from_slice(alloc, primary)?;
+    index.insert(key, primary)
 }
 
 fn take_out(index: &mut TreeIndex, key: &Option<Bytes>)

@@ -8,7 +8,7 @@ ghost use Rattle.mx_key.specs.Keys.{Key, AreFit};
 ghost use Rattle.mx_space.specs.Changes.{IsNoChange, Puts, Removes};
 ghost use Rattle.mx_space.specs.KeptKeys.{kept_key};
 
-use crate::change::{Added, Change};
+use crate::change::Change;
 use mx_msgpack::Bytes;
 use mx_schema::{IndexDef, parts_or_none};
 use std::alloc::{AllocError, Global};
@@ -82,13 +82,13 @@ fn change_of(
     }
     let key = entry_key(alloc, def, primary, tuple)?;
     let Some(old) = old else {
-        return addition(alloc, key, primary, None);
+        return Ok(addition(key, None));
     };
     let removed = entry_key(alloc, def, primary, old)?;
     if removed == key {
         return Ok(no_change());
     }
-    addition(alloc, key, primary, Some(removed))
+    Ok(addition(key, Some(removed)))
 }
 
 fn no_change() -> Change
@@ -96,26 +96,17 @@ fn no_change() -> Change
 {
     Change {
         added: None,
-        undo: None,
         removed: None,
     }
 }
 
-fn addition(
-    alloc: Global,
-    key: Bytes,
-    primary: &[u8],
-    removed: Option<Bytes>,
-) -> Result<Change, AllocError>
-    ensures { IfOk result (λ change. (change.added ≡ Some (record { key = key; primary = primary.now })) × (change.undo ≡ Some key) × (change.removed ≡ removed)) }
+fn addition(key: Bytes, removed: Option<Bytes>) -> Change
+    ensures { (result.added ≡ Some key) × (result.removed ≡ removed) }
 {
-    let undo = Bytes::from_slice(alloc, key.as_slice())?;
-    let primary = Bytes::from_slice(alloc, primary)?;
-    Ok(Change {
-        added: Some(Added { key, primary }),
-        undo: Some(undo),
+    Change {
+        added: Some(key),
         removed,
-    })
+    }
 }
 
 /// The comparable bytes of the key of a tuple's entry, of which these are those of its primary key.

@@ -1,14 +1,14 @@
 //! The entries of an index.
 
-ghost use Rattle.std.specs.Prelude.{◌≡◌, ℕ, List, [], OnOk, OnErr};
-ghost use Rattle.std.specs.BTreeMap.{insert_entry, is_at};
+ghost use Rattle.std.specs.Prelude.{◌≡◌, ℕ, List, [], not, IfOk, OnOk, OnErr};
+ghost use Rattle.std.specs.BTreeMap.{is_at};
 ghost use Rattle.std.specs.BTreeMap.Range.{IsLeBy, IsLtBy, entries_between};
 ghost use Rattle.std.specs.Cmp.Lexicographic.{slice_cmp};
 ghost use Rattle.std.specs.Map.{remove_entry};
 ghost use Rattle.std.specs.Option.{option_map};
 ghost use Rattle.std.specs.Ordering.{nat_cmp};
 ghost use Rattle.std.specs.Range.Bound.{IsForward, bound_map};
-ghost use Rattle.mx_space.specs.Entries.{IndexEntry, first_from};
+ghost use Rattle.mx_space.specs.Entries.{IndexEntry, first_from, has_entry, with_entry};
 
 use mx_msgpack::Bytes;
 use std::alloc::AllocError;
@@ -21,12 +21,13 @@ pub trait Index {
     /// The entries in the order of their keys.
     ghost entries: { Self → List IndexEntry };
 
-    /// Puts an entry in the place of the one under its key.
+    /// Adds an entry, unless one stands under its key. Returns whether it did.
     ///
     /// # Errors
     /// Out of memory. Nothing changed then.
-    fn insert(&mut self, key: Bytes, primary: Bytes) -> Result<(), AllocError>
-        ensures ok { OnOk result (entries self.new ≡ insert_entry (slice_cmp nat_cmp) (entries self.old) key primary) }
+    fn insert(&mut self, key: Bytes, primary: Bytes) -> Result<bool, AllocError>
+        ensures is_new { IfOk result (λ is_new. is_new ≡ not (has_entry key (entries self.old))) }
+        ensures ok { OnOk result (entries self.new ≡ with_entry key primary (entries self.old)) }
         ensures err { OnErr result (entries self.new ≡ entries self.old) };
 
     /// Takes the entry under a key out, where there is one.

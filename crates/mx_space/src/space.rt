@@ -1,6 +1,6 @@
 //! A space with its indexes.
 
-ghost use Rattle.std.specs.Prelude.{◌≡◌, ◌≢◌, ◌⊎◌, ℕ, List, Option, Some, None, Ok, true, IfOk, MatchOption, MatchResult, ◌==◌, if◌then◌else◌};
+ghost use Rattle.std.specs.Prelude.{◌≡◌, ◌≢◌, ◌⊎◌, ◌↔◌, ◌<◌, ℕ, List, length, Option, Some, None, Ok, true, IsTrue, IfOk, OnOk, OnErr, MatchOption, MatchResult, ◌==◌, if◌then◌else◌};
 ghost use Rattle.std.specs.FinMap as finite;
 ghost use Rattle.std.specs.List.{AllZip};
 ghost use Rattle.std.specs.Option.{option_copied};
@@ -145,18 +145,23 @@ impl Space {
     /// Out of memory. Nothing changed then.
     pub fn put(&mut self, alloc: Global, keyed: Keyed) -> Result<(), AllocError>
         ensures schema { self.new.schema ≡ self.old.schema }
-        ensures holds { (schema : Option described.Schema) (all : plain.Tuples) (primary : indexed.IndexDef) (key : Key) → StoresIndexed schema self.old all
+        ensures ok { (schema : Option described.Schema) (all : plain.Tuples) (primary : indexed.IndexDef) (key : Key) → StoresIndexed schema self.old all
             → index_with 0 self.old.schema.indexes ≡ Some primary → key_in primary.key keyed.tuple ≡ Ok key → AreFit key → keyed.key ≡ comparable_of key
-            → MatchResult result (λ _. StoresIndexed schema self.new (finite.insert all key keyed.tuple)) (λ _. StoresIndexed schema self.new all) }
+            → OnOk result (StoresIndexed schema self.new (finite.insert all key keyed.tuple)) }
+        ensures err { (schema : Option described.Schema) (all : plain.Tuples) → StoresIndexed schema self.old all → OnErr result (StoresIndexed schema self.new all) }
     {
-        let mut changes = self.changes(alloc, &keyed)?;
+        if self.has_one_index() {
+            self.tuples.insert(keyed.key, keyed.tuple)?;
+            return Ok(());
+        }
+        let changes = self.changes(alloc, &keyed)?;
         put_all(
+            alloc,
             &mut self.tuples,
             self.indexes.as_mut_slice(),
-            changes.as_mut_slice(),
+            changes.as_slice(),
             keyed,
-        )?;
-        Ok(())
+        )
     }
 
     /// Takes the tuple whose primary key has these comparable bytes out of every index, where there is one.
@@ -165,10 +170,15 @@ impl Space {
     /// Out of memory. Nothing changed then.
     pub fn remove(&mut self, alloc: Global, key: &Bytes) -> Result<(), AllocError>
         ensures schema { self.new.schema ≡ self.old.schema }
-        ensures holds { (schema : Option described.Schema) (all : plain.Tuples) (primary : indexed.IndexDef) (wanted : Key) → StoresIndexed schema self.old all
+        ensures ok { (schema : Option described.Schema) (all : plain.Tuples) (primary : indexed.IndexDef) (wanted : Key) → StoresIndexed schema self.old all
             → index_with 0 self.old.schema.indexes ≡ Some primary → AreFit wanted → key.now ≡ comparable_of wanted
-            → MatchResult result (λ _. StoresIndexed schema self.new (finite.remove all wanted)) (λ _. StoresIndexed schema self.new all) }
+            → OnOk result (StoresIndexed schema self.new (finite.remove all wanted)) }
+        ensures err { (schema : Option described.Schema) (all : plain.Tuples) → StoresIndexed schema self.old all → OnErr result (StoresIndexed schema self.new all) }
     {
+        if self.has_one_index() {
+            self.tuples.remove(key);
+            return Ok(());
+        }
         let Some(keys) = self.removals(alloc, key)? else {
             return Ok(());
         };
@@ -184,11 +194,12 @@ impl Space {
     /// The fault of the first tuple, in the order of primary keys, that has no key in the index or, in a
     /// unique one, the key of a tuple before it; or out of memory. Nothing changed then.
     pub fn add_index(&mut self, alloc: Global, def: IndexDef) -> Result<(), BuildFault>
-        ensures { (was : Option described.Schema) (all : plain.Tuples) → StoresIndexed was self.old all
+        ensures builds { (was : Option described.Schema) (all : plain.Tuples) → StoresIndexed was self.old all
             → (def.id.0 ≡ 0 → all ≡ finite.empty) → (def.id.0 ≢ 0 → index_with 0 self.old.schema.indexes ≢ None)
             → MatchResult result
             (λ _. (build_fault def all ≡ None) × StoresIndexed (Some (schema_with_index def self.old.schema)) self.new all)
-            (λ why. ((build_fault def all ≡ Some why) ⊎ (why ≡ NoMemory)) × StoresIndexed was self.new all) }
+            (λ why. (build_fault def all ≡ Some why) ⊎ (why ≡ NoMemory)) }
+        ensures err { (was : Option described.Schema) (all : plain.Tuples) → StoresIndexed was self.old all → OnErr result (StoresIndexed was self.new all) }
     {
         let index = new_entries(alloc, &def, &self.tuples)?;
         let place = place_behind(self.schema.indexes.as_slice(), def.id);
@@ -226,6 +237,13 @@ impl Space {
             self.tuples.clear();
             clear_all(self.indexes.as_mut_slice());
         }
+    }
+
+    /// Whether there is no index beside the primary one.
+    fn has_one_index(&self) -> bool
+        ensures { IsTrue result ↔ (length self.now.indexes.items < 2) }
+    {
+        self.indexes.len() < 2
     }
 
     /// What a tuple changes in each index.

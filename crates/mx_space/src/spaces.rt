@@ -77,9 +77,11 @@ impl Spaces {
 
     /// As `State::put`.
     pub(crate) fn put(&mut self, alloc: Global, id: SpaceId, keyed: Keyed) -> Result<(), AllocError>
-        ensures { (schemas : ℕ → Option described.Schema) (state : plain.State) (schema : described.Schema) (primary : indexed.IndexDef) (key : Key) → SpacesHold schemas self.old.entries.items state
+        ensures ok { (schemas : ℕ → Option described.Schema) (state : plain.State) (schema : described.Schema) (primary : indexed.IndexDef) (key : Key) → SpacesHold schemas self.old.entries.items state
             → schemas id.0 ≡ Some schema → index_with 0 schema.indexes ≡ Some primary → key_in primary.key keyed.tuple ≡ Ok key → AreFit key → keyed.key ≡ comparable_of key
-            → MatchResult result (λ _. SpacesHold schemas self.new.entries.items (with_tuple state id.0 key keyed.tuple)) (λ _. SpacesHold schemas self.new.entries.items state) }
+            → OnOk result (SpacesHold schemas self.new.entries.items (with_tuple state id.0 key keyed.tuple)) }
+        ensures absent { (schemas : ℕ → Option described.Schema) (state : plain.State) → SpacesHold schemas self.old.entries.items state → schemas id.0 ≡ None → SpacesHold schemas self.new.entries.items state }
+        ensures err { (schemas : ℕ → Option described.Schema) (state : plain.State) → SpacesHold schemas self.old.entries.items state → OnErr result (SpacesHold schemas self.new.entries.items state) }
     {
         match place_of(self.entries.as_slice(), id) {
             Ok(place) => self.entries[place].space.put(alloc, keyed),
@@ -94,9 +96,11 @@ impl Spaces {
         id: SpaceId,
         key: &Bytes,
     ) -> Result<(), AllocError>
-        ensures { (schemas : ℕ → Option described.Schema) (state : plain.State) (schema : described.Schema) (primary : indexed.IndexDef) (wanted : Key) → SpacesHold schemas self.old.entries.items state
+        ensures ok { (schemas : ℕ → Option described.Schema) (state : plain.State) (schema : described.Schema) (primary : indexed.IndexDef) (wanted : Key) → SpacesHold schemas self.old.entries.items state
             → schemas id.0 ≡ Some schema → index_with 0 schema.indexes ≡ Some primary → AreFit wanted → key.now ≡ comparable_of wanted
-            → MatchResult result (λ _. SpacesHold schemas self.new.entries.items (without_tuple state id.0 wanted)) (λ _. SpacesHold schemas self.new.entries.items state) }
+            → OnOk result (SpacesHold schemas self.new.entries.items (without_tuple state id.0 wanted)) }
+        ensures absent { (schemas : ℕ → Option described.Schema) (state : plain.State) → SpacesHold schemas self.old.entries.items state → schemas id.0 ≡ None → SpacesHold schemas self.new.entries.items state }
+        ensures err { (schemas : ℕ → Option described.Schema) (state : plain.State) → SpacesHold schemas self.old.entries.items state → OnErr result (SpacesHold schemas self.new.entries.items state) }
     {
         match place_of(self.entries.as_slice(), id) {
             Ok(place) => self.entries[place].space.remove(alloc, key),
@@ -120,11 +124,13 @@ impl Spaces {
         id: SpaceId,
         def: IndexDef,
     ) -> Result<(), BuildFault>
-        ensures { (schemas : ℕ → Option described.Schema) (state : plain.State) (schema : described.Schema) → SpacesHold schemas self.old.entries.items state → schemas id.0 ≡ Some schema
+        ensures builds { (schemas : ℕ → Option described.Schema) (state : plain.State) (schema : described.Schema) → SpacesHold schemas self.old.entries.items state → schemas id.0 ≡ Some schema
             → (def.id.0 ≡ 0 → tuples_in state id.0 ≡ finite.empty) → (def.id.0 ≢ 0 → index_with 0 schema.indexes ≢ None)
             → MatchResult result
             (λ _. (build_fault def (tuples_in state id.0) ≡ None) × SpacesHold (with_schema schemas id.0 (Some (schema_with_index def schema))) self.new.entries.items state)
-            (λ why. ((build_fault def (tuples_in state id.0) ≡ Some why) ⊎ (why ≡ NoMemory)) × SpacesHold schemas self.new.entries.items state) }
+            (λ why. (build_fault def (tuples_in state id.0) ≡ Some why) ⊎ (why ≡ NoMemory)) }
+        ensures absent { (schemas : ℕ → Option described.Schema) (state : plain.State) → SpacesHold schemas self.old.entries.items state → schemas id.0 ≡ None → SpacesHold schemas self.new.entries.items state }
+        ensures err { (schemas : ℕ → Option described.Schema) (state : plain.State) → SpacesHold schemas self.old.entries.items state → OnErr result (SpacesHold schemas self.new.entries.items state) }
     {
         match place_of(self.entries.as_slice(), id) {
             Ok(place) => self.entries[place].space.add_index(alloc, def),
@@ -134,8 +140,9 @@ impl Spaces {
 
     /// As `State::drop_index`.
     pub(crate) fn drop_index(&mut self, id: SpaceId, index: IndexId)
-        ensures { (schemas : ℕ → Option described.Schema) (state : plain.State) (schema : described.Schema) → SpacesHold schemas self.old.entries.items state → schemas id.0 ≡ Some schema
+        ensures drops { (schemas : ℕ → Option described.Schema) (state : plain.State) (schema : described.Schema) → SpacesHold schemas self.old.entries.items state → schemas id.0 ≡ Some schema
             → SpacesHold (with_schema schemas id.0 (Some (schema_without_index index.0 schema))) self.new.entries.items (without_index state id.0 index.0) }
+        ensures absent { (schemas : ℕ → Option described.Schema) (state : plain.State) → SpacesHold schemas self.old.entries.items state → schemas id.0 ≡ None → SpacesHold schemas self.new.entries.items state }
     {
         if let Ok(place) = place_of(self.entries.as_slice(), id) {
             self.entries[place].space.drop_index(index);

@@ -71,9 +71,11 @@ impl State {
     /// # Errors
     /// Out of memory. Nothing changed then.
     pub fn put(&mut self, alloc: Global, id: SpaceId, keyed: Keyed) -> Result<(), AllocError>
-        ensures { (schemas : ℕ → Option described.Schema) (state : plain.State) (schema : described.Schema) (primary : indexed.IndexDef) (key : Key) → HoldsBy schemas self.old state
+        ensures ok { (schemas : ℕ → Option described.Schema) (state : plain.State) (schema : described.Schema) (primary : indexed.IndexDef) (key : Key) → HoldsBy schemas self.old state
             → schemas id.0 ≡ Some schema → index_with 0 schema.indexes ≡ Some primary → key_in primary.key keyed.tuple ≡ Ok key → AreFit key → keyed.key ≡ comparable_of key
-            → MatchResult result (λ _. HoldsBy schemas self.new (with_tuple state id.0 key keyed.tuple)) (λ _. HoldsBy schemas self.new state) }
+            → OnOk result (HoldsBy schemas self.new (with_tuple state id.0 key keyed.tuple)) }
+        ensures absent { (schemas : ℕ → Option described.Schema) (state : plain.State) → HoldsBy schemas self.old state → schemas id.0 ≡ None → HoldsBy schemas self.new state }
+        ensures err { (schemas : ℕ → Option described.Schema) (state : plain.State) → HoldsBy schemas self.old state → OnErr result (HoldsBy schemas self.new state) }
     {
         self.spaces.put(alloc, id, keyed)
     }
@@ -84,9 +86,11 @@ impl State {
     /// # Errors
     /// Out of memory. Nothing changed then.
     pub fn remove(&mut self, alloc: Global, id: SpaceId, key: &Bytes) -> Result<(), AllocError>
-        ensures { (schemas : ℕ → Option described.Schema) (state : plain.State) (schema : described.Schema) (primary : indexed.IndexDef) (wanted : Key) → HoldsBy schemas self.old state
+        ensures ok { (schemas : ℕ → Option described.Schema) (state : plain.State) (schema : described.Schema) (primary : indexed.IndexDef) (wanted : Key) → HoldsBy schemas self.old state
             → schemas id.0 ≡ Some schema → index_with 0 schema.indexes ≡ Some primary → AreFit wanted → key.now ≡ comparable_of wanted
-            → MatchResult result (λ _. HoldsBy schemas self.new (without_tuple state id.0 wanted)) (λ _. HoldsBy schemas self.new state) }
+            → OnOk result (HoldsBy schemas self.new (without_tuple state id.0 wanted)) }
+        ensures absent { (schemas : ℕ → Option described.Schema) (state : plain.State) → HoldsBy schemas self.old state → schemas id.0 ≡ None → HoldsBy schemas self.new state }
+        ensures err { (schemas : ℕ → Option described.Schema) (state : plain.State) → HoldsBy schemas self.old state → OnErr result (HoldsBy schemas self.new state) }
     {
         self.spaces.remove(alloc, id, key)
     }
@@ -108,8 +112,9 @@ impl State {
 
     /// Drops a space that has no tuples, with its indexes; nothing where there is no such space.
     pub fn drop_space(&mut self, id: SpaceId)
-        ensures { (schemas : ℕ → Option described.Schema) (state : plain.State) → HoldsBy schemas self.old state → tuples_in state id.0 ≡ finite.empty
+        ensures drops { (schemas : ℕ → Option described.Schema) (state : plain.State) → HoldsBy schemas self.old state → tuples_in state id.0 ≡ finite.empty
             → HoldsBy (with_schema schemas id.0 None) self.new state }
+        ensures absent { (schemas : ℕ → Option described.Schema) (state : plain.State) → HoldsBy schemas self.old state → schemas id.0 ≡ None → HoldsBy schemas self.new state }
     {
         self.spaces.drop_space(id);
     }
@@ -121,11 +126,13 @@ impl State {
     /// The fault of the first tuple, in the order of primary keys, that has no key in the index or, in a
     /// unique one, the key of a tuple before it; or out of memory. Nothing changed then.
     pub fn add_index(&mut self, alloc: Global, id: SpaceId, def: IndexDef) -> Result<(), BuildFault>
-        ensures { (schemas : ℕ → Option described.Schema) (state : plain.State) (schema : described.Schema) → HoldsBy schemas self.old state → schemas id.0 ≡ Some schema
-            → index_with def.id.0 schema.indexes ≡ None → (def.id.0 ≡ 0 → tuples_in state id.0 ≡ finite.empty) → (def.id.0 ≢ 0 → index_with 0 schema.indexes ≢ None)
+        ensures builds { (schemas : ℕ → Option described.Schema) (state : plain.State) (schema : described.Schema) → HoldsBy schemas self.old state → schemas id.0 ≡ Some schema
+            → (def.id.0 ≡ 0 → tuples_in state id.0 ≡ finite.empty) → (def.id.0 ≢ 0 → index_with 0 schema.indexes ≢ None)
             → MatchResult result
             (λ _. (build_fault def (tuples_in state id.0) ≡ None) × HoldsBy (with_schema schemas id.0 (Some (schema_with_index def schema))) self.new state)
-            (λ why. ((build_fault def (tuples_in state id.0) ≡ Some why) ⊎ (why ≡ NoMemory)) × HoldsBy schemas self.new state) }
+            (λ why. (build_fault def (tuples_in state id.0) ≡ Some why) ⊎ (why ≡ NoMemory)) }
+        ensures absent { (schemas : ℕ → Option described.Schema) (state : plain.State) → HoldsBy schemas self.old state → schemas id.0 ≡ None → HoldsBy schemas self.new state }
+        ensures err { (schemas : ℕ → Option described.Schema) (state : plain.State) → HoldsBy schemas self.old state → OnErr result (HoldsBy schemas self.new state) }
     {
         self.spaces.add_index(alloc, id, def)
     }
@@ -133,8 +140,9 @@ impl State {
     /// Drops an index of a space, and with the primary one all tuples of the space; nothing where there is
     /// no such space or index.
     pub fn drop_index(&mut self, id: SpaceId, index: IndexId)
-        ensures { (schemas : ℕ → Option described.Schema) (state : plain.State) (schema : described.Schema) → HoldsBy schemas self.old state → schemas id.0 ≡ Some schema
+        ensures drops { (schemas : ℕ → Option described.Schema) (state : plain.State) (schema : described.Schema) → HoldsBy schemas self.old state → schemas id.0 ≡ Some schema
             → HoldsBy (with_schema schemas id.0 (Some (schema_without_index index.0 schema))) self.new (without_index state id.0 index.0) }
+        ensures absent { (schemas : ℕ → Option described.Schema) (state : plain.State) → HoldsBy schemas self.old state → schemas id.0 ≡ None → HoldsBy schemas self.new state }
     {
         self.spaces.drop_index(id, index);
     }

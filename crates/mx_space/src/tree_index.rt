@@ -6,7 +6,7 @@ use crate::index::Index;
 use mx_msgpack::Bytes;
 use std::alloc::{AllocError, Global};
 use std::collections::BTreeMap;
-use std::collections::btree_map::Range;
+use std::collections::btree_map::{Entry, Range};
 use std::marker::Model;
 use std::ops::Bound;
 
@@ -39,9 +39,14 @@ impl TreeIndex {
 impl Index for TreeIndex {
     ghost entries = { λ t. t };
 
-    fn insert(&mut self, key: Bytes, primary: Bytes) -> Result<(), AllocError> {
-        self.entries.insert(key, primary)?;
-        Ok(())
+    fn insert(&mut self, key: Bytes, primary: Bytes) -> Result<bool, AllocError> {
+        match self.entries.entry(key)? {
+            Entry::Vacant(place) => {
+                place.insert(primary);
+                Ok(true)
+            }
+            Entry::Occupied(_) => Ok(false),
+        }
     }
 
     fn remove(&mut self, key: &Bytes) {

@@ -1,6 +1,6 @@
 -- What memory holds after the change that a write came to.
 use Rattle.std.proofs.Common.{◌≡◌, ◌⊎◌, inl, inr, ℕ, List, [], ◌∷◌, Option, Some, None, Result, Ok, Err, refl, sym, ap, ◌∙◌, subst}
-use Rattle.std.specs.Prelude.{MatchResult}
+use Rattle.std.specs.Prelude.{MatchResult, OnOk, OnErr}
 use Rattle.std.specs.FinMap.{get}
 use Rattle.std.specs.Option.{IfNone}
 use Rattle.mx_key.specs.Keys.{Key, AreFit}
@@ -23,6 +23,11 @@ use Rattle.mx_write.specs.Writes.{Write}
 use Rattle.mx_write.proofs.EachSpaceLaws.{OfSpace, change_of}
 use Rattle.mx_write.proofs.SoundLaws.{change_sound}
 use Rattle.mx_write.proofs.WrittenLaws.{Wrote, makes as makes_so, wrote}
+
+-- what a call tells at Ok and at Err
+pub both_ends : {X E P Q : Type 0} (result : Result X E) → OnOk result P → OnErr result Q → MatchResult result (λ _. P) (λ _. Q)
+both_ends (Ok x) ok err = ok
+both_ends (Err e) ok err = err
 
 -- what either end of a call tells
 pub at_either : {X E P Q R S : Type 0} (result : Result X E) → MatchResult result (λ _. P) (λ _. Q) → (P → R) → (Q → S) → MatchResult result (λ _. R) (λ _. S)

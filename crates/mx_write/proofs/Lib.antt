@@ -14,5 +14,6 @@ pub mod CheckedLaws
 pub mod DescriptionLaws
 pub mod SoundLaws
 mod EntryLaws
+pub mod MemberLaws
 pub mod PlaceLaws
 pub mod FieldLaws

@@ -16,7 +16,7 @@ use Rattle.mx_row.specs.Rows.{delete_row, delete_type, insert_type, max_body_siz
 use Rattle.mx_row.proofs.SizeLaws.{delete_size, update_size}
 use Rattle.mx_schema.specs.declared.index_def.IndexDef.{IndexDef}
 use Rattle.mx_schema.specs.declared.schema.Schema.{Schema}
-use Rattle.mx_schema.specs.Bootstrap.{settings}
+use Rattle.mx_schema.specs.Bootstrap.{cluster, settings}
 use Rattle.mx_schema.specs.Catalogues.{index_with, schema_of}
 use Rattle.mx_schema.specs.Picks.{Indexed}
 use Rattle.mx_schema.specs.Sound.{IsSound}
@@ -26,18 +26,20 @@ use Rattle.mx_tuple.specs.Fields.{tuple_of}
 use Rattle.mx_write.specs.declared.writable.Writer.TheVariants.{Client, Journal}
 use Rattle.mx_write.specs.Delete.{delete_found, deletes}
 use Rattle.mx_write.specs.Descriptions.{drop_fault}
+use Rattle.mx_write.specs.Checks.{tuple_fault}
 use Rattle.mx_write.specs.Insert.{inserts}
 use Rattle.mx_write.specs.Judge.{change_in, judged_row, judged_write, refusal_in, row_change, row_refusal}
 use Rattle.mx_write.specs.Judged.{found, judged_as, unless}
-use Rattle.mx_write.specs.Lookup.{entry_under, entry_with, holder_of, key_or_refusal, primary_key_of, the_index, the_key, the_primary, the_space, the_unique_index, tuple_under, unless_unique}
+use Rattle.mx_write.specs.Lookup.{entry_under, entry_with, holder_of, key_or_refusal, own_key, primary_key_of, the_index, the_key, the_primary, the_space, the_unique_index, tuple_under, unless_unique}
 use Rattle.mx_write.specs.Made.{Made, nothing, row_with}
 use Rattle.mx_write.specs.Replace.{replaces}
-use Rattle.mx_update.specs.Updates.{updated}
+use Rattle.mx_update.specs.Updates.{updated, upserted}
 use Rattle.mx_write.specs.Update.{the_operations, tuple_or_refusal, update_found, updates}
-use Rattle.mx_write.specs.Upsert.{upserts}
-use Rattle.mx_write.specs.Writable.{begins_with_system_number, describes_schema, is_read_only, leader_refusal, own_row_refusal, primary_name, schema_refusal, write_refusal}
+use Rattle.mx_write.specs.Upsert.{upsert_found, upserts}
+use Rattle.mx_write.specs.Writable.{begins_with_system_number, describes_schema, is_read_only, leader_refusal, own_row_refusal, primary_name, schema_refusal, tuple_in_space, unless_member, write_refusal}
 use Rattle.mx_write.specs.Writes.{Write, Insert, Replace, Update, Delete, Upsert}
 use Rattle.mx_write.proofs.KeyNameLaws.{key_of_users}
+use Rattle.mx_write.proofs.MemberLaws.{client_elsewhere, journal_stands}
 use Rattle.mx_write.proofs.StageLaws.{came_by, goes_on, is_found, none_refuses, passed_so}
 use Rattle.mx_write.proofs.UniqueLaws.{number_is}
 use Rattle.mx_write.proofs.WrittenLaws.{Sought, SoughtSo, entry_there, by_space, in_place_elsewhere, makes, of_users, placed, sought_by, sought_so, wrote_row}
@@ -45,32 +47,36 @@ use Rattle.mx_write.proofs.WrittenLaws.{Sought, SoughtSo, entry_there, by_space,
 -- ---- what a client may write, a journal may
 
 -- by the tests of a space
-may_by : (schema read_only setting : Bool) (one other : Option Refusal) (client : Option Refusal) (why : Refusal) → schema ≡ false
-    → (if schema then one else if read_only then Some why else if setting then client else None) ≡ None
-    → (if schema then other else if read_only then Some why else if setting then None else None) ≡ None
-may_by true read_only setting one other client why elsewhere e = absurd cc
-may_by false true setting one other client why elsewhere e = absurd cc
-may_by false false true one other client why elsewhere e = refl
-may_by false false false one other client why elsewhere e = refl
+may_by : (schema read_only nodes setting : Bool) (one other client member : Option Refusal) (why : Refusal) → schema ≡ false
+    → (if schema then one else if read_only then Some why else if nodes then Some why else if setting then client else None) ≡ None
+    → (if schema then other else if read_only then Some why else if nodes then member else if setting then None else None) ≡ None
+may_by true read_only nodes setting one other client member why elsewhere e = absurd cc
+may_by false true nodes setting one other client member why elsewhere e = absurd cc
+may_by false false true setting one other client member why elsewhere e = absurd cc
+may_by false false false true one other client member why elsewhere e = refl
+may_by false false false false one other client member why elsewhere e = refl
 
-may_here : (schema read_only setting : Bool) (one : Option Refusal) (client : Option Refusal) (why : Refusal)
-    → (if schema then one else if read_only then Some why else if setting then client else None) ≡ None
-    → (if schema then one else if read_only then Some why else if setting then None else None) ≡ None
-may_here true read_only setting one client why e = e
-may_here false true setting one client why e = absurd cc
-may_here false false true one client why e = refl
-may_here false false false one client why e = refl
+may_here : (schema read_only nodes setting : Bool) (one client member : Option Refusal) (why : Refusal)
+    → (if schema then one else if read_only then Some why else if nodes then Some why else if setting then client else None) ≡ None
+    → (if schema then one else if read_only then Some why else if nodes then member else if setting then None else None) ≡ None
+may_here true read_only nodes setting one client member why e = e
+may_here false true nodes setting one client member why e = absurd cc
+may_here false false true setting one client member why e = absurd cc
+may_here false false false true one client member why e = refl
+may_here false false false false one client member why e = refl
 
 -- where the space describes nothing, whatever the name is
 pub journal_may : (space type : ℕ) (named other : Option (List ℕ)) → describes_schema space ≡ false → write_refusal Client space type named ≡ None
     → write_refusal Journal space type other ≡ None
 journal_may space type named other =
-    may_by (describes_schema space) (is_read_only space) (space == settings) (schema_refusal type named) (schema_refusal type other) (leader_refusal Client named) (Unsupported SystemSpaceWrite)
+    may_by (describes_schema space) (is_read_only space) (space == cluster) (space == settings) (schema_refusal type named) (schema_refusal type other) (leader_refusal Client named)
+    (unless_member type other) (Unsupported SystemSpaceWrite)
 
 -- by the same name
 pub journal_may_so : (space type : ℕ) (named : Option (List ℕ)) → write_refusal Client space type named ≡ None → write_refusal Journal space type named ≡ None
 journal_may_so space type named =
-    may_here (describes_schema space) (is_read_only space) (space == settings) (schema_refusal type named) (leader_refusal Client named) (Unsupported SystemSpaceWrite)
+    may_here (describes_schema space) (is_read_only space) (space == cluster) (space == settings) (schema_refusal type named) (leader_refusal Client named) (unless_member type named)
+    (Unsupported SystemSpaceWrite)
 
 -- the row of a user's space or index may be dropped by its key
 pub journal_drops : (space : ℕ) (named : List ℕ) → describes_schema space ≡ true → begins_with_system_number (items_of named) ≡ false
@@ -79,7 +85,11 @@ journal_drops space named describes of_user =
     ap (λ b. if b then own_row_refusal (Some named) else otherwise) describes ∙ ap (λ b. if b then Some (Unsupported SystemSpaceWrite) else None) of_user
   where
     otherwise : Option Refusal
-    otherwise = if is_read_only space then Some (Unsupported SystemSpaceWrite) else if space == settings then leader_refusal Journal (Some named) else None
+    otherwise =
+        if is_read_only space then Some (Unsupported SystemSpaceWrite)
+        else if space == cluster then unless_member delete_type (Some named)
+        else if space == settings then leader_refusal Journal (Some named)
+        else None
 
 -- ---- INSERT, REPLACE and UPSERT, whose rows are as they were sent
 
@@ -109,8 +119,25 @@ module _ (before : State) (space : ℕ) (tuple : List ℕ) (is : Made) where
       let (schema, e1, r1) = came_by (the_space before space) _ is e in
       let (u2, e2, r2) = came_by (unless (write_refusal Client space upsert_type (Some tuple))) _ is r1 in
       let writable = passed_so _ u2 e2 in
+      let elsewhere = client_elsewhere space upsert_type (Some tuple) (in_place_elsewhere Client space upsert_type (Some tuple) refl writable) writable in
       let may = none_refuses _ (journal_may_so space upsert_type (Some tuple) writable) in
-      goes_on (the_space before space) _ schema e1 ∙ goes_on (unless (write_refusal Journal space upsert_type (Some tuple))) _ tt may ∙ r2
+      let (primary, e3, r3) = came_by (the_index space schema 0) _ is r2 in
+      let (u4, e4, r4) = came_by (unless (tuple_fault schema primary tuple)) _ is r3 in
+      goes_on (the_space before space) _ schema e1 ∙ goes_on (unless (write_refusal Journal space upsert_type (Some tuple))) _ tt may
+      ∙ goes_on (the_index space schema 0) _ primary e3 ∙ goes_on (unless (tuple_fault schema primary tuple)) _ tt e4
+      ∙ by_old schema primary elsewhere (tuple_under before space (own_key primary tuple)) r4
+    where
+      by_old : (schema : Schema) (primary : IndexDef) → (space == cluster) ≡ false → (old : Option (List ℕ))
+          → (upsert_found Client before space base tuple operations schema primary old).outcome ≡ Ok is
+          → (upsert_found Journal before space base tuple operations schema primary old).outcome ≡ Ok is
+      by_old schema primary elsewhere None e = e
+      by_old schema primary elsewhere (Some old) e =
+          let (applied, e1, r1) = came_by (the_operations operations) _ is e in
+          let (new, e2, r2) = came_by (judged_as (tuple_or_refusal (upserted base old applied))) _ is r1 in
+          goes_on (the_operations operations) _ applied e1
+          ∙ goes_on (judged_as (tuple_in_space Journal space (tuple_or_refusal (upserted base old applied)))) _ new
+          (journal_stands space (tuple_or_refusal (upserted base old applied)) elsewhere ∙ e2)
+          ∙ r2
 
 -- ---- UPDATE and DELETE, whose rows have the primary key
 
@@ -211,6 +238,7 @@ module _ (before : State) (space : ℕ) (is : Made) (row : Row) (sound : IsSound
           let elsewhere = in_place_elsewhere Client space update_type (Some old) refl found in
           let (applied, e2, r2) = came_by (the_operations operations) _ is r1 in
           let (new, e3, r3) = came_by (judged_as (tuple_or_refusal (updated base old applied))) _ is r2 in
+          let stays = journal_stands space (tuple_or_refusal (updated base old applied)) (client_elsewhere space update_type (Some old) elsewhere found) in
           let (keyed, at_last) = placed Client before space is so.schema so.primary (Update index base key operations) own new (new ∷ []) r3 in
           let (short, is_so) = makes space (Update index base key operations) own (Some new) (new ∷ []) is at_last in
           let stands = entry_there before space so.primary so.def so.asked own old at in
@@ -219,7 +247,9 @@ module _ (before : State) (space : ℕ) (is : Made) (row : Row) (sound : IsSound
           sought_again before space so.schema so.primary own old so.described so.there stands whole update_type
           (update_found Journal before space 0 base (key_array own) operations) (journal_may space update_type (Some old) (Some (key_array own)) elsewhere found)
           ∙ goes_on (unless (write_refusal Journal space update_type (Some old))) _ tt (none_refuses _ (journal_may_so space update_type (Some old) found))
-          ∙ r1 in
+          ∙ goes_on (the_operations operations) _ applied e2
+          ∙ goes_on (judged_as (tuple_in_space Journal space (tuple_or_refusal (updated base old applied)))) _ new (stays ∙ e3)
+          ∙ r3 in
           ap (λ r. (judged_row before r).outcome) (one_row row (update_row space base (key_array own) operations) is (ap (λ (m : Made). m.row) is_so) left) ∙ again
 
 -- ---- all writes

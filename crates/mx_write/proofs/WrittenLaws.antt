@@ -20,7 +20,7 @@ use Rattle.mx_row.specs.declared.row.Row.{Row}
 use Rattle.mx_row.specs.Rows.{delete_type, insert_type, max_body_size, replace_type, row_body_text, update_type, upsert_type}
 use Rattle.mx_schema.specs.declared.index_def.IndexDef.{IndexDef}
 use Rattle.mx_schema.specs.declared.schema.Schema.{Schema}
-use Rattle.mx_schema.specs.Bootstrap.{settings}
+use Rattle.mx_schema.specs.Bootstrap.{cluster, settings}
 use Rattle.mx_schema.specs.Catalogues.{index_with, schema_of}
 use Rattle.mx_schema.specs.Picks.{Indexed}
 use Rattle.mx_schema.specs.State.{State, key_in, key_or_none, tuples_in}
@@ -43,7 +43,7 @@ use Rattle.mx_write.specs.Replace.{replaces}
 use Rattle.mx_write.specs.Unique.{are_free, held_refusal, is_free, is_free_if_unique, is_same_key}
 use Rattle.mx_write.specs.Update.{key_change, put_in_place, the_operations, tuple_or_refusal, update_found, updates}
 use Rattle.mx_write.specs.Upsert.{upsert_found, upserts}
-use Rattle.mx_write.specs.Writable.{begins_with_system_number, describes_schema, is_read_only, leader_refusal, own_row_refusal, primary_name, schema_refusal, write_refusal}
+use Rattle.mx_write.specs.Writable.{begins_with_system_number, cluster_refusal, describes_schema, is_read_only, leader_refusal, own_row_refusal, primary_name, schema_refusal, tuple_in_space, write_refusal}
 use Rattle.mx_write.specs.Writes.{Write, Insert, Replace, Update, Delete, Upsert}
 use Rattle.mx_write.proofs.StageLaws.{came_by, goes_on, passed_so, was_found}
 use Rattle.mx_write.proofs.UniqueLaws.{holder_is, tested_first}
@@ -55,6 +55,7 @@ abbrev refusal_by : Writer → (space type : ℕ) → (named : Option (List ℕ)
 refusal_by writer space type named describes =
     if describes then schema_refusal type named
     else if is_read_only space then Some (Unsupported SystemSpaceWrite)
+    else if space == cluster then cluster_refusal writer type named
     else if space == settings then leader_refusal writer named
     else None
 
@@ -369,7 +370,7 @@ module _ (writer : Writer) (before : State) (space : ℕ) (is : Made) where
       by_entry so (Some (own, old)) at e =
           let (u1, e1, r1) = came_by (unless (write_refusal writer space update_type (Some old))) _ is e in
           let (applied, e2, r2) = came_by (the_operations operations) _ is r1 in
-          let (new, e3, r3) = came_by (judged_as (tuple_or_refusal (updated base old applied))) _ is r2 in
+          let (new, e3, r3) = came_by (judged_as (tuple_in_space writer space (tuple_or_refusal (updated base old applied)))) _ is r2 in
           let put = placed so.schema so.primary (Update index base key operations) own new (new ∷ []) r3 in
           inr (record {
             key = own;
@@ -459,7 +460,7 @@ module _ (writer : Writer) (before : State) (space : ℕ) (is : Made) where
           (tuple, record { own = own; keyed = others; free = e1 }, r1)
       by_old schema primary own others (Some old) e =
           let (applied, e1, r1) = came_by (the_operations operations) _ is e in
-          let (new, e2, r2) = came_by (judged_as (tuple_or_refusal (upserted base old applied))) _ is r1 in
+          let (new, e2, r2) = came_by (judged_as (tuple_in_space writer space (tuple_or_refusal (upserted base old applied)))) _ is r1 in
           let put = placed schema primary (Upsert base tuple operations) (own_key primary tuple) new [] r2 in
           (new, put.0, put.1)
 

@@ -22,7 +22,7 @@ use Rattle.mx_write.specs.Made.{Made, made, nothing}
 use Rattle.mx_write.specs.Writes.{Write, Update}
 use Rattle.mx_write.specs.Unique.{are_free, is_same_key}
 use Rattle.mx_write.specs.declared.writable.Writer.{Writer}
-use Rattle.mx_write.specs.Writable.{primary_name, write_refusal}
+use Rattle.mx_write.specs.Writable.{primary_name, tuple_in_space, write_refusal}
 
 -- ---- operations
 
@@ -70,7 +70,7 @@ module _ (writer : Writer) (before : State) (space index base : ℕ) (key operat
   update_found schema primary (Some (own, old)) = do
     _ ← unless (write_refusal writer space update_type (Some old))
     applied ← the_operations operations
-    new ← judged_as (tuple_or_refusal (updated base old applied))
+    new ← judged_as (tuple_in_space writer space (tuple_or_refusal (updated base old applied)))
     put_in_place before space schema primary (Update index base key operations) own new (new ∷ [])
 
   -- the tuple that has this key in a unique index is changed by the operations

@@ -14,7 +14,7 @@ use Rattle.mx_write.specs.Writes.{Upsert}
 use Rattle.mx_write.specs.Unique.{are_free}
 use Rattle.mx_write.specs.Update.{put_in_place, the_operations, tuple_or_refusal}
 use Rattle.mx_write.specs.declared.writable.Writer.{Writer}
-use Rattle.mx_write.specs.Writable.{write_refusal}
+use Rattle.mx_write.specs.Writable.{tuple_in_space, write_refusal}
 
 module _ (writer : Writer) (before : State) (space base : ℕ) (tuple operations : List ℕ) where
   -- the tuple that has the primary key, after the operations; or the tuple itself, where there is none
@@ -24,7 +24,7 @@ module _ (writer : Writer) (before : State) (space base : ℕ) (tuple operations
     made space (Upsert base tuple operations) (own_key primary tuple) (Some tuple) []
   upsert_found schema primary (Some old) = do
     applied ← the_operations operations
-    new ← judged_as (tuple_or_refusal (upserted base old applied))
+    new ← judged_as (tuple_in_space writer space (tuple_or_refusal (upserted base old applied)))
     put_in_place before space schema primary (Upsert base tuple operations) (own_key primary tuple) new []
 
   -- the tuple is inserts, or the one that has its primary key is changed by the operations that can be applied to it

@@ -1,12 +1,13 @@
 -- What can't be written so, whatever else is wrong with a tuple or a key.
-use Rattle.std.specs.Prelude.{ℕ, Bool, false, ◌||◌, List, ◌∷◌, Option, Some, None, nat_lt, ◌==◌, if◌then◌else◌}
+use Rattle.std.specs.Prelude.{ℕ, Bool, false, not, ◌&&◌, ◌||◌, List, ◌∷◌, Option, Some, None, Result, Ok, Err, nat_lt, ◌==◌, if◌then◌else◌}
 use Rattle.mx_msgpack.specs.Items.{items_of}
 use Rattle.mx_msgpack.specs.Readers.{unsigned_in}
 use Rattle.mx_base.specs.declared.kinds.Unsupported.TheVariants.{SchemaInPlace, SystemSpaceWrite}
 use Rattle.mx_base.specs.declared.refusal.Refusal.{Refusal}
 use Rattle.mx_base.specs.declared.refusal.Refusal.TheVariants.{Unsupported}
-use Rattle.mx_row.specs.Rows.{delete_type, insert_type}
+use Rattle.mx_row.specs.Rows.{delete_type, insert_type, replace_type, upsert_type}
 use Rattle.mx_schema.specs.Bootstrap.{settings, cluster}
+use Rattle.mx_schema.specs.Members.{is_member}
 use Rattle.mx_schema.specs.SchemaChecks.{first_user_space}
 use Rattle.mx_schema.specs.Settings.{is_leader}
 use Rattle.mx_schema.specs.State.{space_rows, shown_space_rows, index_rows, shown_index_rows}
@@ -19,7 +20,7 @@ describes_schema space = (space == space_rows) || (space == index_rows)
 
 -- the spaces that nobody writes
 abbrev pub is_read_only : (space : ℕ) → Bool
-is_read_only space = (space == shown_space_rows) || (space == shown_index_rows) || (space == cluster)
+is_read_only space = (space == shown_space_rows) || (space == shown_index_rows)
 
 -- the number of one of the database's own spaces stands first
 abbrev pub is_system_number : Option ℕ → Bool
@@ -50,11 +51,36 @@ abbrev pub leader_refusal : Writer → (named : Option (List ℕ)) → Option Re
 leader_refusal Client named = if names_leader named then Some (Unsupported SystemSpaceWrite) else None
 leader_refusal Journal named = None
 
+-- a write of this type names a row by its tuple, and not by its key
+abbrev pub names_by_tuple : (type : ℕ) → Bool
+names_by_tuple type = (type == insert_type) || (type == replace_type) || (type == upsert_type)
+
+-- a tuple that is no row of a node of the replica set
+abbrev pub unless_member : (type : ℕ) → (named : Option (List ℕ)) → Option Refusal
+unless_member type None = None
+unless_member type (Some tuple) = if names_by_tuple type && not (is_member tuple) then Some (Unsupported SystemSpaceWrite) else None
+
+-- the nodes of a replica set aren't written by clients, and a journal's are rows of such nodes
+abbrev pub cluster_refusal : Writer → (type : ℕ) → (named : Option (List ℕ)) → Option Refusal
+cluster_refusal Client type named = Some (Unsupported SystemSpaceWrite)
+cluster_refusal Journal type named = unless_member type named
+
+-- a tuple that an update of a journal made in a space, unless it should be the row of a node and isn't
+abbrev pub tuple_of_journal : (space : ℕ) → Result (List ℕ) Refusal → Result (List ℕ) Refusal
+tuple_of_journal space (Err why) = Err why
+tuple_of_journal space (Ok tuple) = if (space == cluster) && not (is_member tuple) then Err (Unsupported SystemSpaceWrite) else Ok tuple
+
+-- a tuple that an update made, where it may stand in the space
+abbrev pub tuple_in_space : Writer → (space : ℕ) → Result (List ℕ) Refusal → Result (List ℕ) Refusal
+tuple_in_space Client space made = made
+tuple_in_space Journal space made = tuple_of_journal space made
+
 -- why a write of this type can't be made in a space, of the row that is named so
 abbrev pub write_refusal : Writer → (space type : ℕ) → (named : Option (List ℕ)) → Option Refusal
 write_refusal writer space type named =
     if describes_schema space then schema_refusal type named
     else if is_read_only space then Some (Unsupported SystemSpaceWrite)
+    else if space == cluster then cluster_refusal writer type named
     else if space == settings then leader_refusal writer named
     else None
 

@@ -17,7 +17,7 @@ use crate::made::Made;
 use crate::operations::update_tuple;
 use crate::place::put_in_place;
 use crate::scope::{Scope, Target};
-use crate::writable::write_refusal;
+use crate::writable::{tuple_in_space, write_refusal};
 use crate::write::{UPDATE, Write};
 use mx_base::{IndexId, Refusal};
 use mx_schema::array_or_empty;
@@ -67,7 +67,8 @@ fn change(
         return Err(refusal);
     }
     let old = array_or_empty(entry.tuple);
-    let new = update_tuple(scope.alloc, base, old, operations)?;
+    let updated = update_tuple(scope.alloc, base, old, operations)?;
+    let new = tuple_in_space(scope.writer, scope.space, updated)?;
     let row_key = row_key(target, old)?;
     let write = Write::Update {
         index,

@@ -16,7 +16,7 @@ use crate::operations::upsert_tuple;
 use crate::place::put_in_place;
 use crate::scope::{Scope, Target};
 use crate::unique::duplicate_in_others;
-use crate::writable::write_refusal;
+use crate::writable::{tuple_in_space, write_refusal};
 use crate::write::{UPSERT, Write};
 use mx_base::{IndexId, Refusal};
 use mx_msgpack::Bytes;
@@ -96,12 +96,14 @@ fn change(
         → JudgesMade before target.now.scope.space.0 (statement.Upsert base tuple.now operations.now) result
         (upsert_found target.now.scope.writer before target.now.scope.space.0 base tuple.now operations.now target.now.schema.now target.now.primary.now (Some old.now)) }
 {
-    let alloc = target.scope.alloc;
-    let new = upsert_tuple(alloc, base, array_or_empty(old), operations)?;
+    let scope = target.scope;
+    let updated = upsert_tuple(scope.alloc, base, array_or_empty(old), operations)?;
+    let new = tuple_in_space(scope.writer, scope.space, updated)?;
     let write = Write::Upsert {
         base,
         tuple,
         operations,
     };
-    put_in_place(target, &write, key, Bytes::new(alloc), new, false)
+    let no_key = Bytes::new(scope.alloc);
+    put_in_place(target, &write, key, no_key, new, false)
 }

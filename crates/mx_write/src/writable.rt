@@ -1,15 +1,15 @@
 //! What can't be written so, whatever else is wrong with a tuple or a key.
 
-ghost use Rattle.std.specs.Prelude.{◌≡◌, List};
+ghost use Rattle.std.specs.Prelude.{◌≡◌, List, Ok};
 ghost use Rattle.std.specs.Option.{option_copied};
 ghost use Rattle.mx_base.specs.declared.kinds.Unsupported.TheVariants.{SystemSpaceWrite};
 ghost use Rattle.mx_base.specs.declared.refusal.Refusal.TheVariants as refused;
 ghost use Rattle.mx_msgpack.specs.Items.{items_of};
 ghost use Rattle.mx_write.specs.Writable as spec;
 
-use crate::write::{DELETE, INSERT};
+use crate::write::{DELETE, INSERT, REPLACE, UPSERT};
 use mx_base::{IndexId, Refusal, SpaceId, Unsupported};
-use mx_msgpack::{array_of, parted, unsigned_in};
+use mx_msgpack::{Bytes, array_of, parted, unsigned_in};
 use mx_schema::{
     CLUSTER, INDEX_ROWS, SETTINGS, SHOWN_INDEX_ROWS, SHOWN_SPACE_ROWS, SPACE_ROWS, is_leader,
 };
@@ -37,7 +37,8 @@ pub fn write_refusal(
 {
     match space.0 {
         SPACE_ROWS | INDEX_ROWS => schema_refusal(kind, named),
-        SHOWN_SPACE_ROWS | SHOWN_INDEX_ROWS | CLUSTER => Some(system_write()),
+        SHOWN_SPACE_ROWS | SHOWN_INDEX_ROWS => Some(system_write()),
+        CLUSTER => cluster_refusal(writer, kind, named),
         SETTINGS => leader_refusal(writer, named),
         _ => None,
     }
@@ -77,6 +78,50 @@ fn system_write() -> Refusal
 {
     Refusal::Unsupported {
         what: Unsupported::SystemSpaceWrite,
+    }
+}
+
+/// The nodes of a replica set aren't written by clients, and a journal's are rows of such nodes.
+fn cluster_refusal(writer: Writer, kind: u8, named: Option<&[u8]>) -> Option<Refusal>
+    ensures { result ≡ spec.cluster_refusal writer kind (option_copied named.entry) }
+{
+    match writer {
+        Writer::Client => Some(system_write()),
+        Writer::Journal => unless_member(kind, named),
+    }
+}
+
+fn unless_member(kind: u8, named: Option<&[u8]>) -> Option<Refusal>
+    ensures { result ≡ spec.unless_member kind (option_copied named.entry) }
+{
+    match named {
+        Some(tuple) if names_by_tuple(kind) && !is_member(tuple) => Some(system_write()),
+        _ => None,
+    }
+}
+
+fn names_by_tuple(kind: u8) -> bool
+    ensures { result ≡ spec.names_by_tuple kind }
+{
+    kind == INSERT || kind == REPLACE || kind == UPSERT
+}
+
+/// A tuple that an update made, where it may stand in the space.
+///
+/// # Errors
+/// It should be the row of a node of the replica set, and isn't.
+pub(crate) fn tuple_in_space(
+    writer: Writer,
+    space: SpaceId,
+    tuple: Bytes,
+) -> Result<Bytes, Refusal>
+    ensures { result ≡ spec.tuple_in_space writer space.0 (Ok tuple) }
+{
+    match writer {
+        Writer::Journal if space.0 == CLUSTER && !is_member(tuple.as_slice()) => {
+            Err(system_write())
+        }
+        _ => Ok(tuple),
     }
 }
 

@@ -14,7 +14,7 @@ loop-row-preserved c = λ schemas before schema primary holds described there ow
     rw add-one
     (one_put schemas c.args.space.0 c.args.parts.now before rows c.loop-row.row-index _ c.in-Ok.keyed c.loop-row.state c.put.new.self schema primary described there own
     (simp length-map c.loop-row-test.true) (sym stands) c.in-Ok.ensures
-    (λ state schema primary key. c.in_ok-put-in-Ok.ensures schemas state schema primary key) (c.loop-row.invariant schemas before schema primary holds described there own))
+    (λ state schema primary key. c.in_ok-put-in-Ok.ensures.ok schemas state schema primary key) (c.loop-row.invariant schemas before schema primary holds described there own))
 
 pub returns : goal.returns
 returns c = λ schemas before schema primary holds described there own.

@@ -1,13 +1,12 @@
-use Rattle.std.proofs.Common.{◌≡◌, true, false, ◌++◌, inl, sym, ap, ◌∙◌, subst, nat_cmp, true≢false}
+use Rattle.std.proofs.Common.{◌≡◌, true, false, ◌++◌, inl, sym, ap, ◌∙◌, subst, true≢false}
 use Rattle.std.specs.Prelude.{is_some}
-use Rattle.std.specs.BTreeMap.{insert_entry}
-use Rattle.std.specs.Cmp.Lexicographic.{slice_cmp}
 use Rattle.std.specs.FinMap.{get}
 use Rattle.mx_key.specs.Comparable.{comparable_of}
 use Rattle.mx_key.specs.Keys.{AreFit}
 use Rattle.mx_schema.specs.Picks.{tuples_by_index}
 use Rattle.mx_schema.specs.State.{key_or_none}
 use Rattle.mx_schema.proofs.StoredLaws.{fit_joined, keys_joined}
+use Rattle.mx_space.specs.Entries.{with_entry}
 use Rattle.mx_space.specs.KeptKeys.{kept_key}
 use Rattle.mx_space.proofs.BuildLaws.{is_duplicate, no_row_fault, one_built}
 use Rattle.mx_space.proofs.build.add_row.Goals as goal
@@ -35,5 +34,5 @@ returns c = λ before long own built other absent is_long fit is.
       no_row_fault def long before c.args.index.now built other own absent is_long tuple k.0 k.1 new,
       one_built def long before c.args.index.now built other own absent is_long tuple k.0 k.1 new
           (subst (λ p. AreFit (p ++ own)) (sym parts) (fit_joined k.0 own k.2 fit)) c.insert.new.self
-          (c.in_ok-insert.ensures.ok ∙ (λ i. insert_entry (slice_cmp nat_cmp) c.args.index.now (key i) (its_own i))),
+          (c.in_ok-insert.ensures.ok ∙ (λ i. with_entry (key i) (its_own i) c.args.index.now)),
     )

@@ -5,7 +5,7 @@ use Rattle.mx_schema.specs.Catalogues.{schema_of}
 use Rattle.mx_write.specs.Change.{state_after_change}
 use Rattle.mx_write.specs.Installs.{MayChange}
 use Rattle.mx_write.proofs.EachSpaceLaws.{change_of, tuple_put}
-use Rattle.mx_write.proofs.InstallLaws.{at_either, held, held_after, held_before}
+use Rattle.mx_write.proofs.InstallLaws.{at_either, both_ends, held, held_after, held_before}
 use Rattle.mx_write.proofs.install.put.Goals as goal
 
 pub returns-in-280 : goal.returns-in-280
@@ -24,7 +24,9 @@ pub returns-in_default : goal.returns-in_default
 returns-in_default c = λ before key holds fit bytes changes.
     let tuple = c.args.keyed.tuple in
     at_either c.put.result
-    (c.put.ensures (schema_of before) before changes.schema changes.primary key holds.spaces changes.described changes.there changes.fits.own fit bytes)
+    (both_ends c.put.result
+    (c.put.ensures.ok (schema_of before) before changes.schema changes.primary key holds.spaces changes.described changes.there changes.fits.own fit bytes)
+    (c.put.ensures.err (schema_of before) before holds.spaces))
     (λ put. held_after before c.args.state.now holds c.args.space.0 key fit (Some tuple) changes c.put.new.self
     (tuple_put (held c.put.new.self) before c.args.space.0 key (search rules) (search rules) tuple put))
     (λ kept. held_before before c.args.state.now c.put.new.self holds kept)

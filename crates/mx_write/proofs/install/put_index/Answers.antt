@@ -10,21 +10,17 @@ use Rattle.mx_write.proofs.install.put_index.Goals as goal
 
 pub returns-in-Err : goal.returns-in-Err
 returns-in-Err c = λ before key holds fit bytes changes.
-    let row = c.args.row.tuple in
-    let index = c.in-Some.index in
-    let new = this_index_added before holds.sound key row index changes (ap index_in (sym c.as_slice.ensures) ∙ sym c.in_ok-index.ensures ∙ c.in-Some.is) in
-    held_before before c.args.state.now c.add_index.new.self holds
-    (c.in-Err.ensures (schema_of before) before new.schema holds.spaces new.there new.no_index new.first (beside_primary before key row index new)).1
+    held_before before c.args.state.now c.add_index.new.self holds (c.in-Err.ensures.err (schema_of before) before holds.spaces)
 
 pub returns-in-Ok-put : goal.returns-in-Ok-put
 returns-in-Ok-put c = λ before key holds fit bytes changes.
     let row = c.args.row.tuple in
     let index = c.in-Some.index in
     let new = this_index_added before holds.sound key row index changes (ap index_in (sym c.as_slice.ensures) ∙ sym c.in_ok-index.ensures ∙ c.in-Some.is) in
-    let added = (c.in-Ok.ensures (schema_of before) before new.schema holds.spaces new.there new.no_index new.first (beside_primary before key row index new)).1 in
+    let added = (c.in-Ok.ensures.builds (schema_of before) before new.schema holds.spaces new.there new.first (beside_primary before key row index new)).1 in
     held_after before c.args.state.now holds index_rows key fit (Some row) changes c.put.new.self
     (index_came before key row index new (held c.put.new.self) holds.sound
-    (c.in-Ok-put.ensures (with_index before key row index new) before changes.schema changes.primary key added
+    (c.in-Ok-put.ensures.ok (with_index before key row index new) before changes.schema changes.primary key added
     (index_rows_there before key row index new changes.schema changes.described) changes.there changes.fits.own fit bytes))
 
 pub returns-in-Err-put : goal.returns-in-Err-put
@@ -32,10 +28,9 @@ returns-in-Err-put c = λ before key holds fit bytes changes.
     let row = c.args.row.tuple in
     let index = c.in-Some.index in
     let new = this_index_added before holds.sound key row index changes (ap index_in (sym c.as_slice.ensures) ∙ sym c.in_ok-index.ensures ∙ c.in-Some.is) in
-    let added = (c.in-Ok.ensures (schema_of before) before new.schema holds.spaces new.there new.no_index new.first (beside_primary before key row index new)).1 in
+    let added = (c.in-Ok.ensures.builds (schema_of before) before new.schema holds.spaces new.there new.first (beside_primary before key row index new)).1 in
     held_before before c.args.state.now c.drop_index.new.self holds
     (index_taken_back before key row index new (held c.drop_index.new.self) holds.sound
-    (c.drop_index.ensures (with_index before key row index new) before (schema_with_index index.def new.schema)
-    (c.in-Err-put.ensures (with_index before key row index new) before changes.schema changes.primary key added
-    (index_rows_there before key row index new changes.schema changes.described) changes.there changes.fits.own fit bytes)
+    (c.drop_index.ensures.drops (with_index before key row index new) before (schema_with_index index.def new.schema)
+    (c.in-Err-put.ensures.err (with_index before key row index new) before added)
     (indexed_there before key row index new)))

@@ -16,7 +16,7 @@ returns-in-Ok c = λ before key holds fit bytes changes.
     let added = c.in_ok-add_space.ensures.ok (schema_of before) before holds.spaces new.absent in
     held_after before memory holds space_rows key fit (Some row) changes c.put.new.self
     (space_came before key row def new (held c.put.new.self) holds.sound
-    (c.in-Ok.ensures (with_space before key row def new) before changes.schema changes.primary key added
+    (c.in-Ok.ensures.ok (with_space before key row def new) before changes.schema changes.primary key added
     (space_rows_there before key row def new changes.schema changes.described) changes.there changes.fits.own fit bytes))
 
 pub returns-in-Err : goal.returns-in-Err
@@ -28,6 +28,5 @@ returns-in-Err c = λ before key holds fit bytes changes.
     let added = c.in_ok-add_space.ensures.ok (schema_of before) before holds.spaces new.absent in
     held_before before memory c.drop_space.new.self holds
     (space_taken_back before key row def new (held c.drop_space.new.self)
-    (c.drop_space.ensures (with_space before key row def new) before
-    (c.in-Err.ensures (with_space before key row def new) before changes.schema changes.primary key added
-    (space_rows_there before key row def new changes.schema changes.described) changes.there changes.fits.own fit bytes) new.no_tuples))
+    (c.drop_space.ensures.drops (with_space before key row def new) before
+    (c.in-Err.ensures.err (with_space before key row def new) before added) new.no_tuples))

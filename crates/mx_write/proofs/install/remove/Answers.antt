@@ -5,7 +5,7 @@ use Rattle.mx_space.specs.Stored.{Holds}
 use Rattle.mx_write.specs.Change.{state_after_change}
 use Rattle.mx_write.specs.Installs.{MayChange, Stands}
 use Rattle.mx_write.proofs.EachSpaceLaws.{change_of, tuple_removed}
-use Rattle.mx_write.proofs.InstallLaws.{at_either, held, held_after, held_before}
+use Rattle.mx_write.proofs.InstallLaws.{at_either, both_ends, held, held_after, held_before}
 use Rattle.mx_write.proofs.install.remove.Goals as goal
 
 pub returns-in-280 : goal.returns-in-280
@@ -23,7 +23,9 @@ returns-in-288 c = λ before key holds fit bytes changes stands.
 pub returns : goal.returns
 returns c = λ before key holds fit bytes changes stands.
     at_either c.remove.result
-    (c.remove.ensures (schema_of before) before changes.schema changes.primary key holds.spaces changes.described changes.there fit bytes)
+    (both_ends c.remove.result
+    (c.remove.ensures.ok (schema_of before) before changes.schema changes.primary key holds.spaces changes.described changes.there fit bytes)
+    (c.remove.ensures.err (schema_of before) before holds.spaces))
     (λ left. held_after before c.args.state.now holds c.args.space.0 key fit None changes c.remove.new.self
     (tuple_removed (held c.remove.new.self) before c.args.space.0 key (search rules) (search rules) left))
     (λ kept. held_before before c.args.state.now c.remove.new.self holds kept)

@@ -14,5 +14,5 @@ returns c = λ before key holds fit bytes changes stands.
     let old = this_index_dropped before holds.sound key row index changes stands (ap index_in (sym c.as_slice.ensures) ∙ sym c.in_ok-index.ensures ∙ c.in-Some.is) in
     held_after before c.args.state.now holds index_rows key fit None changes c.drop_index.new.self
     (index_went before key row index old (held c.drop_index.new.self) holds.sound
-    (c.drop_index.ensures (schema_of before) (without_tuple before index_rows key) old.schema
-    (c.in_ok-remove.ensures (schema_of before) before changes.schema changes.primary key holds.spaces changes.described changes.there fit bytes) old.there))
+    (c.drop_index.ensures.drops (schema_of before) (without_tuple before index_rows key) old.schema
+    (c.in_ok-remove.ensures.ok (schema_of before) before changes.schema changes.primary key holds.spaces changes.described changes.there fit bytes) old.there))

@@ -14,6 +14,6 @@ returns c = λ before key holds fit bytes changes stands.
     let old = this_space_dropped before holds.sound key row def changes stands (ap space_in (sym c.as_slice.ensures) ∙ sym c.in_ok-def.ensures ∙ c.in-Some.is) in
     held_after before c.args.state.now holds space_rows key fit None changes c.drop_space.new.self
     (space_went before key row def old (held c.drop_space.new.self)
-    (c.drop_space.ensures (schema_of before) (without_tuple before space_rows key)
-    (c.in_ok-remove.ensures (schema_of before) before changes.schema changes.primary key holds.spaces changes.described changes.there fit bytes)
+    (c.drop_space.ensures.drops (schema_of before) (without_tuple before space_rows key)
+    (c.in_ok-remove.ensures.ok (schema_of before) before changes.schema changes.primary key holds.spaces changes.described changes.there fit bytes)
     (no_tuples_left before key row def old holds.sound)))

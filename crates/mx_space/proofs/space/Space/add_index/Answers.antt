@@ -1,4 +1,4 @@
-use Rattle.std.proofs.Common.{refl, ap, ◌∙◌, inr}
+use Rattle.std.proofs.Common.{refl, ap, ◌∙◌}
 use Rattle.std.specs.List.{remove}
 use Rattle.std.proofs.lemmas.Result.{err_from_is_err_and}
 use Rattle.mx_schema.specs.RowParts.{index_place}
@@ -7,24 +7,22 @@ use Rattle.mx_space.proofs.AlterLaws.{put_back, space_with_index}
 use Rattle.mx_space.proofs.SpaceLaws.{primary_long, space_same}
 use Rattle.mx_space.proofs.space.Space.add_index.Goals as goal
 
-pub returns-in_err-index : goal.returns-in_err-index
-returns-in_err-index c = λ was all stores none first.
+pub returns-in_err-index-clause-builds : goal.returns-in_err-index-clause-builds
+returns-in_err-index-clause-builds c = λ was all stores none first.
     let whole = primary_long was c.args.self.now all stores in
     let why = c.in_err-index.ensures all whole.0 stores.holds.keeps none (λ other. whole.1 (first other)) in
     let p = err_from_is_err_and c.from_residual.result c.from_residual.ensures.1 in
-    rw (p.1, p.2) (why, stores)
+    rw (p.1, p.2) why
 
-pub returns-in-Err : goal.returns-in-Err
-returns-in-Err c = λ was all stores none first.
-    let after : Space = record { schema = record { def = c.args.self.now.schema.def; indexes = c.insert.new.self }; tuples = c.args.self.now.tuples; indexes = c.remove_index.new.indexes } in (
-      inr c.from.ensures,
-      space_same was c.args.self.now after all stores (ap (λ defs. record { def = c.args.self.now.schema.def; indexes = defs }) c.in-Err.ensures.err) refl
-          (c.remove_index.ensures ∙ ap (λ l. remove l c.place_behind-place.result) c.in_ok-insert_index.ensures.ok
-          ∙ put_back c.args.self.now.indexes.items c.place_behind-place.result c.in_ok-index.index c.in_ok-insert_index.ensures.within),
-    )
+pub returns-in-Err-clause-err : goal.returns-in-Err-clause-err
+returns-in-Err-clause-err c = λ was all stores.
+    let after : Space = record { schema = record { def = c.args.self.now.schema.def; indexes = c.insert.new.self }; tuples = c.args.self.now.tuples; indexes = c.remove_index.new.indexes } in
+    space_same was c.args.self.now after all stores (ap (λ defs. record { def = c.args.self.now.schema.def; indexes = defs }) c.in-Err.ensures.err) refl
+    (c.remove_index.ensures ∙ ap (λ l. remove l c.place_behind-place.result) c.in_ok-insert_index.ensures.ok
+    ∙ put_back c.args.self.now.indexes.items c.place_behind-place.result c.in_ok-index.index c.in_ok-insert_index.ensures.within)
 
-pub returns : goal.returns
-returns c = λ was all stores none first.
+pub returns-clause-builds : goal.returns-clause-builds
+returns-clause-builds c = λ was all stores none first.
     let def = c.args.def in
     let whole = primary_long was c.args.self.now all stores in
     let made = c.in_ok-index.ensures all whole.0 stores.holds.keeps none (λ other. whole.1 (first other)) in

@@ -6,7 +6,7 @@ use Rattle.mx_schema.specs.SchemaChanges.{schema_without_index}
 use Rattle.mx_schema.specs.State.{tuples_in}
 use Rattle.mx_space.specs.Kept.{StoresIndexed}
 use Rattle.mx_space.specs.Spaces.{IsGapOf, IsPlaceOf}
-use Rattle.mx_space.proofs.HeldLaws.{described_so, index_dropped, none_there, space_there}
+use Rattle.mx_space.proofs.HeldLaws.{described_so, index_dropped, is_described, none_there, space_there}
 use Rattle.mx_space.proofs.PlaceLaws.{found, none_found, space_changed, stays_ascending}
 use Rattle.mx_space.proofs.spaces.Spaces.drop_index.Goals as goal
 
@@ -17,8 +17,8 @@ invariant_of-self c =
     let at = subst (λ entries. IsPlaceOf id entries place) c.as_slice.ensures.value c.in-Ok.ensures in
     record { ascending = stays_ascending id c.args.self.now.entries.items place c.index_mut.result.now c.args.self.now.ascending at c.index_mut.ensures.value c.drop_index.new.self }
 
-pub returns-in-Ok : goal.returns-in-Ok
-returns-in-Ok c = λ schemas state schema holds is.
+pub returns-in-Ok-clause-drops : goal.returns-in-Ok-clause-drops
+returns-in-Ok-clause-drops c = λ schemas state schema holds is.
     let id = c.args.id.0 in
     let place = c.in-Ok.place in
     let entries = c.args.self.now.entries.items in
@@ -34,8 +34,18 @@ returns-in-Ok c = λ schemas state schema holds is.
     (subst (λ (s : Schema). StoresIndexed (Some (schema_without_index index s)) after (if index == 0 then empty else tuples_in state id)) (sym same)
     (c.drop_index.ensures (schemas id) (tuples_in state id) was))
 
-pub returns-in_default : goal.returns-in_default
-returns-in_default c = λ schemas state schema holds is.
+pub returns-in-Ok-clause-absent : goal.returns-in-Ok-clause-absent
+returns-in-Ok-clause-absent c = λ schemas state holds none.
+    let id = c.args.id.0 in
+    let place = c.in-Ok.place in
+    let entries = c.args.self.now.entries.items in
+    let entry = c.index_mut.result.now in
+    let at = subst (λ entries. IsPlaceOf id entries place) c.as_slice.ensures.value c.in-Ok.ensures in
+    let there = found id entries place entry c.args.self.now.ascending at c.index_mut.ensures.value in
+    absurd (is_described id entries schemas state holds entry.space there none)
+
+pub returns-in_default-clause-drops : goal.returns-in_default-clause-drops
+returns-in_default-clause-drops c = λ schemas state schema holds is.
     let id = c.args.id.0 in
     let place = c.in_default.field-0 in
     let entries = c.args.self.now.entries.items in
