@@ -25,9 +25,9 @@ use Rattle.mx_write.proofs.SoundLaws.{change_sound}
 use Rattle.mx_write.proofs.WrittenLaws.{Wrote, makes as makes_so, wrote}
 
 -- what a call tells at Ok and at Err
-pub both_ends : {X E P Q : Type 0} (result : Result X E) → OnOk result P → OnErr result Q → MatchResult result (λ _. P) (λ _. Q)
-both_ends (Ok x) ok err = ok
-both_ends (Err e) ok err = err
+pub both_ends : {X E : Type 0} (P Q : Type 0) (result : Result X E) → OnOk result P → OnErr result Q → MatchResult result (λ _. P) (λ _. Q)
+both_ends P Q (Ok x) ok err = ok
+both_ends P Q (Err e) ok err = err
 
 -- what either end of a call tells
 pub at_either : {X E P Q R S : Type 0} (result : Result X E) → MatchResult result (λ _. P) (λ _. Q) → (P → R) → (Q → S) → MatchResult result (λ _. R) (λ _. S)

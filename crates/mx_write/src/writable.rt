@@ -12,6 +12,7 @@ use mx_base::{IndexId, Refusal, SpaceId, Unsupported};
 use mx_msgpack::{Bytes, array_of, parted, unsigned_in};
 use mx_schema::{
     CLUSTER, INDEX_ROWS, SETTINGS, SHOWN_INDEX_ROWS, SHOWN_SPACE_ROWS, SPACE_ROWS, is_leader,
+    is_member,
 };
 
 /// The number of the first space that users may make.

@@ -24,7 +24,7 @@ pub returns-in_default : goal.returns-in_default
 returns-in_default c = λ before key holds fit bytes changes.
     let tuple = c.args.keyed.tuple in
     at_either c.put.result
-    (both_ends c.put.result
+    (both_ends _ _ c.put.result
     (c.put.ensures.ok (schema_of before) before changes.schema changes.primary key holds.spaces changes.described changes.there changes.fits.own fit bytes)
     (c.put.ensures.err (schema_of before) before holds.spaces))
     (λ put. held_after before c.args.state.now holds c.args.space.0 key fit (Some tuple) changes c.put.new.self

@@ -23,7 +23,7 @@ returns-in-288 c = λ before key holds fit bytes changes stands.
 pub returns : goal.returns
 returns c = λ before key holds fit bytes changes stands.
     at_either c.remove.result
-    (both_ends c.remove.result
+    (both_ends _ _ c.remove.result
     (c.remove.ensures.ok (schema_of before) before changes.schema changes.primary key holds.spaces changes.described changes.there fit bytes)
     (c.remove.ensures.err (schema_of before) before holds.spaces))
     (λ left. held_after before c.args.state.now holds c.args.space.0 key fit None changes c.remove.new.self
