@@ -227,32 +227,38 @@ def measure_cut(count, base):
     print(f"  a unit of a PING: {(pings - base) / size:,.1f} instructions", flush=True)
 
 
-def filled(tuples):
-    """The input that makes so many tuples, of the even keys from 0 on."""
-    return units(insert(at, 2 * at, 0) for at in range(tuples))
+def filling(tuples):
+    """The requests that make so many tuples, of the even keys from 0 on."""
+    return [insert(at, 2 * at, 0) for at in range(tuples)]
 
 
-def cost_among(asks, tuples):
+def cost_among(asks, tuples, filling):
     """What a request costs among so many tuples. Both runs ask some, so that both leave memory alike at their end."""
-    pieces = [asks(tuples + at, 2 * (at * STEP % tuples)) for at in range(2 * MORE)]
+    pieces, filled = [asks(tuples + at, 2 * (at * STEP % tuples)) for at in range(2 * MORE)], filling(tuples)
     totals = []
     for asked in (pieces[:MORE], pieces):
-        total, answered = instructions(filled(tuples) + units(asked))
+        total, answered = instructions(units(filled) + units(asked))
         totals.append(total)
-        if answered != tuples + len(asked):
-            print(f"    only {answered:,} of {tuples + len(asked):,} requests have a reply of tuples")
+        if answered != len(filled) + len(asked):
+            print(f"    only {answered:,} of {len(filled) + len(asked):,} requests have a reply that is no refusal")
     return (totals[1] - totals[0]) / MORE
 
 
-def measure_among(sizes):
+def measure_among(sizes, types=TYPES_ASKED, filling=filling):
     """Prints what a request of each type costs among so many tuples, and the ratio of the most to the fewest."""
     sizes = sorted(sizes)
     print("a request of one key among so many tuples, in instructions:")
     print(f"  {'':<8}" + "".join(f"{f'{tuples:,}':>12}" for tuples in sizes) + f"{'ratio':>8}")
-    for name, asks in TYPES_ASKED.items():
-        costs = [cost_among(asks, tuples) for tuples in sizes]
+    for name, asks in types.items():
+        costs = [cost_among(asks, tuples, filling) for tuples in sizes]
         ratio = costs[-1] / costs[0]
         print(f"  {name:<8}" + "".join(f"{cost:>12,.1f}" for cost in costs) + f"{ratio:>8.3f}", flush=True)
+
+
+def check_tuples(parser, sizes):
+    """Checks that each request of a type has a key of its own, which a DELETE finds once."""
+    if any(count < 2 * MORE or count % STEP == 0 for count in sizes):
+        parser.error(f"a number of tuples is {2 * MORE} at least, and no multiple of {STEP}")
 
 
 def main():
@@ -264,9 +270,7 @@ def main():
     options = parser.parse_args()
     if any(count < 1 for count in options.sizes):
         parser.error("a size is 1 at least")
-    # Each request of a type has a key of its own, which a DELETE finds once.
-    if any(count < 2 * MORE or count % STEP == 0 for count in options.tuples):
-        parser.error(f"a number of tuples is {2 * MORE} at least, and no multiple of {STEP}")
+    check_tuples(parser, options.tuples)
     if not is_built():
         sys.exit("the program is not built")
     if options.among:

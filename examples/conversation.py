@@ -1,7 +1,7 @@
 #!/usr/bin/env python3
 """Holds a conversation with the server and prints it, requests on the left and replies on the right.
 
-A line such as `1.4 REPLACE ..` is the request with sync 4 on connection 1. The client runs `./vurandy
+A line such as `1.3 REPLACE ..` is the request with sync 3 on connection 1. The client runs `./vurandy
 trace` on a new directory, and needs Python's standard library alone; `tests/iproto.py` writes and reads
 the packets. With --bytes each line is followed by the bytes that were sent.
 """
@@ -39,6 +39,10 @@ from iproto import (  # noqa: E402
 LEFT_WIDTH = 50
 RIGHT_WIDTH = 50
 
+# Update operations: on numbers, and on a text and whole fields.
+NUMBERS = [["+", 2, 3], ["-", 2, 1], ["&", 3, 6], ["|", 3, 1], ["^", 3, 3]]
+FIELDS = [[":", 1, 3, 0, "s"], ["!", 2, 0], ["#", 3, 1], ["=", 3, 1]]
+
 
 class Said:
     """What a client did: a line for people, and the bytes."""
@@ -50,35 +54,36 @@ class Said:
 def asks(connection, sync, name, **fields):
     """A client sends a request."""
     line = " ".join([f"{connection}.{sync}", name, *(f"{field}={value}" for field, value in fields.items())])
+    if len(line) > LEFT_WIDTH + RIGHT_WIDTH:
+        line = line.replace(", ", ",")
     return Said(connection, line, request(name, sync, **fields))
 
 
 def conversation():
     """What the clients do, in order."""
-    ping = request("PING", 3)
+    ping = request("PING", 2)
     return [
         asks(1, 1, "ID", version=4, features=[0, 1, 2, 3, 4]),
-        asks(1, 2, "PING"),
         Said(1, "1   the first 4 bytes of a PING", ping[:4]),
-        Said(1, "1.3 the rest of it", ping[4:]),
-        asks(1, 4, "REPLACE", space=512, tuple=[1, "apple"]),
+        Said(1, "1.2 the rest of it", ping[4:]),
+        asks(1, 3, "REPLACE", space=512, tuple=[1, "apple"]),
         asks(2, 1, "REPLACE", space=512, tuple=[2, "banana"]),
         asks(2, 2, "INSERT", space=512, tuple=[3, "cherry"]),
         asks(2, 3, "SELECT", space=512, key=[1]),
-        asks(1, 5, "SELECT", space=512, iterator="GE", key=[2]),
-        asks(1, 6, "SELECT", space=512, iterator="LT", key=[3], limit=1),
-        asks(1, 7, "SELECT", space=513, key=[1]),
-        asks(1, 8, "SELECT", space=512, key=[1, 2]),
-        asks(1, 9, "UPDATE", space=512, key=[2], operations=[["=", 2, 5]]),
-        asks(1, 10, "UPSERT", space=512, tuple=[2], operations=[["+", 2, 1]]),
-        asks(1, 11, "DELETE", space=512, key=[2]),
+        asks(1, 4, "SELECT", space=512, iterator="GE", key=[2]),
+        asks(1, 5, "SELECT", space=512, iterator="LT", key=[3], limit=1),
+        asks(1, 6, "SELECT", space=513, key=[1]),
+        asks(1, 7, "UPSERT", space=512, tuple=[2], operations=[["=", 2, 5]]),
+        asks(1, 8, "DELETE", space=512, key=[2]),
         # A space, its primary index and a second one.
-        asks(1, 12, "INSERT", space=280, tuple=[600, 1, "fruit", "memtx", 0, {}, []]),
-        asks(1, 13, "INSERT", space=288, tuple=[600, 0, "id", "tree", {}, [[0, "unsigned"]]]),
-        asks(1, 14, "INSERT", space=288, tuple=[600, 1, "name", "tree", {}, [[1, "string"]]]),
-        asks(1, 15, "INSERT", space=600, tuple=[7, "fig"]),
-        asks(1, 16, "INSERT", space=600, tuple=[8, "fig"]),
-        asks(1, 17, "SELECT", space=600, index=1, key=["fig"]),
+        asks(1, 9, "INSERT", space=280, tuple=[600, 1, "fruit", "memtx", 0, {}, []]),
+        asks(1, 10, "INSERT", space=288, tuple=[600, 0, "id", "tree", {}, [[0, "unsigned"]]]),
+        asks(1, 11, "INSERT", space=288, tuple=[600, 1, "name", "tree", {}, [[1, "string"]]]),
+        asks(1, 12, "INSERT", space=600, tuple=[7, "fig", 5, 12]),
+        asks(1, 13, "INSERT", space=600, tuple=[8, "fig"]),
+        asks(1, 14, "UPDATE", space=600, key=[7], operations=NUMBERS),
+        asks(1, 15, "UPDATE", space=600, index=1, key=["fig"], operations=FIELDS),
+        asks(1, 16, "SELECT", space=600, index=1, key=["figs"]),
         Said(1, "1   closes the connection", kind=CLOSE),
         Said(2, "2.4 a PING with c1, which is no MessagePack", packet({TYPE: 64, SYNC: 4}, Spelled(b"\xc1"))),
         asks(2, 5, "PING"),

@@ -39,6 +39,7 @@ KEYS = {
     "vclock": 0x26,
     "version": 0x54,
     "features": 0x55,
+    "isolation": 0x59,
 }
 # An UPDATE has its operations in the place of a tuple.
 OPERATIONS = {"UPDATE": 0x21, "UPSERT": 0x28}
@@ -182,9 +183,10 @@ def packet(header, body=None, width=4):
     return pack(Wide(len(content), width) if width else len(content)) + content
 
 
-def request(name, sync=None, **fields):
-    """The packet of a request. It has no body where it has no fields."""
-    header = {TYPE: TYPES[name]} if sync is None else {TYPE: TYPES[name], SYNC: sync}
+def request(name, sync=None, stream=None, **fields):
+    """The packet of a request, by its name or the number of its type. It has no body where it has no fields."""
+    header = {TYPE: TYPES.get(name, name), SYNC: sync, STREAM: stream}
+    header = {key: value for key, value in header.items() if value is not None}
     if fields.get("iterator") in ITERATORS:
         fields["iterator"] = ITERATORS.index(fields["iterator"])
     keys = KEYS | {"operations": OPERATIONS.get(name)}
@@ -342,6 +344,7 @@ WHOLE = (
         "ce00000011 8200010102 8410cd0200120a1400209101",
     ),
     (request("PING"), "ce00000003 810040"),
+    (request(8, 1, -1, isolation=2), "ce0000000a 8300080101 0aff 815902"),
     (request("UPSERT", 1, tuple=[1], operations=[]), "ce0000000b 8200090101 822191012890"),
     (request("UPDATE", 1, base=1, operations=[["=", 2, 2]]), "ce0000000f 8200040101 821501219193a13d0202"),
     (packet({TYPE: 64}, width=0), "03 810040"),

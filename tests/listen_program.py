@@ -13,66 +13,13 @@ import sys
 import tempfile
 from pathlib import Path
 
-from iproto import GREETING_BYTES, SEED, TYPE, error_reply, ok_reply, packet, request, tuples_reply
-from program import GREETING, ROOT, environment, is_built
+from iproto import TYPE, error_reply, ok_reply, packet, request, tuples_reply
+from program import Listening, exchange, is_built, receive
 
-# How long a check waits for bytes, and for the end of the run; and how long all checks may take.
-SECONDS, SECONDS_IN_ALL = 5, 50
+SECONDS_IN_ALL = 50
 SCRATCH = Path(tempfile.mkdtemp(prefix="vurandy-"))
 END = bytes.fromhex("d510aded")
 FAULTS = (AssertionError, OSError, ValueError, subprocess.TimeoutExpired)
-
-
-class Listening:
-    """A run that listens on a directory of its own."""
-
-    def __init__(self, folder):
-        self.process = subprocess.Popen(
-            [sys.executable, ROOT / "tools" / "listen.py", folder, "--port", "0"],
-            stdout=subprocess.PIPE,
-            stderr=subprocess.PIPE,
-            env=environment(SEED),
-        )
-
-    def __enter__(self):
-        try:
-            self.port = int(self.process.stdout.readline())
-        except BaseException:
-            self.__exit__()
-            raise
-        return self
-
-    def __exit__(self, *_):
-        self.process.kill()
-        self.process.communicate()
-
-    def connect(self):
-        """A new connection, behind its greeting."""
-        client = socket.create_connection(("127.0.0.1", self.port), timeout=SECONDS)
-        greeting = receive(client, GREETING_BYTES)
-        assert greeting == GREETING, f"the greeting is {greeting!r}"
-        return client
-
-    def end(self, number):
-        """Sends a signal. Returns the exit status and what was written on standard error."""
-        self.process.send_signal(number)
-        _, said = self.process.communicate(timeout=SECONDS)
-        return self.process.returncode, said.decode()
-
-
-def receive(client, size):
-    """So many bytes, or fewer where the connection ends."""
-    received = b""
-    while len(received) < size and (part := client.recv(size - len(received))):
-        received += part
-    return received
-
-
-def exchange(client, asked, expected):
-    """Sends a request, and checks the reply."""
-    client.sendall(asked)
-    answer = receive(client, len(expected))
-    assert answer == expected, f"expected {expected.hex()}, received {answer.hex()}"
 
 
 def replace(sync, tuple_):

@@ -3,10 +3,12 @@
 import os
 import shutil
 import signal
+import socket
 import subprocess
+import sys
 from pathlib import Path
 
-from iproto import SEED, greeting
+from iproto import GREETING_BYTES, SEED, greeting
 
 ROOT = Path(__file__).resolve().parent.parent
 PROGRAM = str(ROOT / "vurandy")
@@ -14,6 +16,8 @@ EXAMPLE = ROOT / "examples" / "first-connection"
 TRACE = ["trace", "DIR"]
 # What a connection is sent first in a run with this seed on a new directory.
 GREETING = greeting(SEED)
+# How long a client waits for bytes over TCP, and for the end of a run that listens.
+SECONDS_TO_WAIT = 5
 
 
 def is_built():
@@ -27,6 +31,60 @@ def environment(seed):
     if seed is not None:
         variables["VURANDY_SEED"] = seed
     return variables
+
+
+class Listening:
+    """A run that listens on a directory of its own."""
+
+    def __init__(self, folder):
+        self.process = subprocess.Popen(
+            [sys.executable, ROOT / "tools" / "listen.py", folder, "--port", "0"],
+            stdout=subprocess.PIPE,
+            stderr=subprocess.PIPE,
+            env=environment(SEED),
+        )
+
+    def __enter__(self):
+        try:
+            line = self.process.stdout.readline()
+            assert line, "the run ends before it listens"
+            self.port = int(line)
+        except BaseException:
+            self.__exit__()
+            raise
+        return self
+
+    def __exit__(self, *_):
+        self.process.kill()
+        self.process.communicate()
+
+    def connect(self):
+        """A new connection, behind its greeting."""
+        client = socket.create_connection(("127.0.0.1", self.port), timeout=SECONDS_TO_WAIT)
+        received = receive(client, GREETING_BYTES)
+        assert received == GREETING, f"the greeting is {received!r}"
+        return client
+
+    def end(self, number):
+        """Sends a signal. Returns the exit status and what was written on standard error."""
+        self.process.send_signal(number)
+        _, said = self.process.communicate(timeout=SECONDS_TO_WAIT)
+        return self.process.returncode, said.decode()
+
+
+def receive(client, size):
+    """So many bytes, or fewer where the connection ends."""
+    received = b""
+    while len(received) < size and (part := client.recv(size - len(received))):
+        received += part
+    return received
+
+
+def exchange(client, asked, expected):
+    """Sends a request, and checks the reply."""
+    client.sendall(asked)
+    answer = receive(client, len(expected))
+    assert answer == expected, f"expected {expected.hex()}, received {answer.hex()}"
 
 
 class OutOfTime(Exception):
@@ -52,10 +110,10 @@ def out_of_time(*_):
     raise OutOfTime
 
 
-def all_pass(script, checks, seconds, scratch):
+def all_pass(script, checks, seconds, scratch=None):
     """Makes the checks, each a name, a function and what it is given, and prints how many passed.
 
-    They have so many seconds. The folder `scratch` is removed at the end.
+    They have so many seconds. The folder `scratch`, where there is one, is removed at the end.
     """
     signal.signal(signal.SIGALRM, out_of_time)
     signal.alarm(seconds)
@@ -65,7 +123,8 @@ def all_pass(script, checks, seconds, scratch):
         print(f"FAILED  all checks: expected to end within {seconds} seconds, saw that they didn't")
         return False
     finally:
-        shutil.rmtree(scratch)
+        if scratch:
+            shutil.rmtree(scratch)
     failed = f", {results.count(False)} failed" if not all(results) else ""
     print(f"{script}: {results.count(True)} passed{failed}")
     return all(results)

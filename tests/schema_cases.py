@@ -3,30 +3,47 @@
 A conversation is a list of steps, in a new directory of its own.
 """
 
-from iproto import Spelled, Wide
+from iproto import Wide
 from steps import (
+    BAD_INDEX,
+    BAD_SPACE,
     DUPLICATE,
+    HASH_ITERATOR,
     INDEXES,
     KEY_CHANGED,
     LONGEST,
-    NOT_UNSIGNED,
     NO_FIELD,
+    NOT_UNSIGNED,
     SHOWN_INDEXES,
     SHOWN_SPACES,
-    SPACES,
     SPACE_ROWS,
+    SPACES,
     SYSTEM_WRITE,
     TEST,
+    add_index,
+    add_space,
     delete,
+    drop_index,
+    drop_space,
+    duplicate,
+    field_count,
+    field_missing,
+    field_type,
     has_tuples,
     index_row,
     index_rows,
     insert,
     key_count,
     key_type,
+    no_index,
+    no_space,
+    not_unique,
+    primary_last,
     replace,
     select,
+    space_exists,
     space_row,
+    still_indexed,
     too_long,
     update,
     upsert,
@@ -34,72 +51,21 @@ from steps import (
 
 # A space of a user.
 OWN = 600
-BAD_SPACE, BAD_INDEX = (9, "Bad space row"), (14, "Bad index row")
-HASH_ITERATOR = (5, "Unsupported: iterator of a hash index")
-NO_TEXT, TEXT_EXPECTED = (39, "Field 1 is missing"), (23, "Field 1: string expected")
+NO_TEXT, TEXT_EXPECTED = field_missing(1), field_type(1, "string")
 TEXTS, NUMBERS = [[1, "string"]], [[0, "unsigned"]]
-
-
-def space_exists(name):
-    return 10, f'Space "{name}" exists'
-
-
-def still_indexed(name):
-    return 11, f'Space "{name}" still has indexes'
-
-
-def primary_last(name):
-    return 17, f'Primary index of space "{name}" has to be dropped last'
-
-
-def duplicate(index, space="test"):
-    return 3, f'Duplicate key in unique index "{index}" of space "{space}"'
-
-
-def not_unique(index, space="test"):
-    return 41, f'Index "{index}" of space "{space}" is not unique'
-
-
-def lacks_index(index, space="test"):
-    return 35, f'No index {index} in space "{space}"'
-
-
-def lacks_space(space):
-    return 36, f"Space {space} does not exist"
-
-
-def add_space(row, refusal=None):
-    """The row of a space is added."""
-    return insert(row, refusal, SPACES)
-
-
-def add_index(row, refusal=None):
-    """The row of an index is added."""
-    return insert(row, refusal, INDEXES)
-
-
-def drop_space(space, reply):
-    """The row of a space is taken out."""
-    return delete([space], reply, SPACES)
-
-
-def drop_index(space, index, reply):
-    """The row of an index is taken out."""
-    return delete([space, index], reply, INDEXES)
-
 
 # What spaces that are made and dropped are answered.
 FIRST, PRIMARY = space_row(OWN, "first"), index_row(OWN, 0, "key", NUMBERS)
 OF_TEXTS = index_row(OWN, 0, "texts", TEXTS)
 SPACES_COME_AND_GO = (
-    insert([1], lacks_space(OWN), OWN),
+    insert([1], no_space(OWN), OWN),
     add_space(FIRST),
     # It is there, and takes no tuple before it has a primary index.
-    insert([1], lacks_index(0, "first"), OWN),
-    replace([1], lacks_index(0, "first"), OWN),
-    upsert([1], [], lacks_index(0, "first"), OWN),
-    delete([1], lacks_index(0, "first"), OWN),
-    select([], lacks_index(0, "first"), space=OWN),
+    insert([1], no_index(0, "first"), OWN),
+    replace([1], no_index(0, "first"), OWN),
+    upsert([1], [], no_index(0, "first"), OWN),
+    delete([1], no_index(0, "first"), OWN),
+    select([], no_index(0, "first"), space=OWN),
     select([OWN], FIRST, space=SHOWN_SPACES),
     # A number and a name are those of one space.
     add_space(FIRST, space_exists("first")),
@@ -123,7 +89,7 @@ SPACES_COME_AND_GO = (
     select([], [7, "a"], space=OWN),
     drop_index(OWN, 0, [PRIMARY]),
     drop_index(OWN, 0, []),
-    select([], lacks_index(0, "first"), space=OWN),
+    select([], no_index(0, "first"), space=OWN),
     add_index(OF_TEXTS),
     select([], space=OWN),
     insert([7], NO_TEXT, OWN),
@@ -132,9 +98,9 @@ SPACES_COME_AND_GO = (
     drop_index(OWN, 0, [OF_TEXTS]),
     drop_space(OWN, [FIRST]),
     drop_space(OWN, []),
-    select([], lacks_space(OWN), space=OWN),
-    insert([1], lacks_space(OWN), OWN),
-    add_index(PRIMARY, lacks_space(OWN)),
+    select([], no_space(OWN), space=OWN),
+    insert([1], no_space(OWN), OWN),
+    add_index(PRIMARY, no_space(OWN)),
     drop_space(OWN + 1, [space_row(OWN + 1, "FIRST")]),
     # Its number and its name are free again.
     add_space(space_row(OWN, "test"), space_exists("test")),
@@ -144,7 +110,7 @@ SPACES_COME_AND_GO = (
     insert([1]),
     drop_index(TEST, 0, index_rows(TEST)),
     drop_space(TEST, [space_row(TEST, "test")]),
-    insert([1], lacks_space(TEST)),
+    insert([1], no_space(TEST)),
     select([], *SPACE_ROWS[:-1], space=SPACES),
     add_space(space_row(OWN, "test")),
 )
@@ -185,7 +151,7 @@ INDEXES_COME_AND_GO = (
     delete(["b"], [], index=1),
     insert([2, "b"]),
     # One that isn't unique names no tuple.
-    add_index([TEST, 2, "pairs", "TREE", {"unique": False}, [{"field": 2, "type": "boolean"}]], (39, "Field 2 is missing")),
+    add_index([TEST, 2, "pairs", "TREE", {"unique": False}, [{"field": 2, "type": "boolean"}]], field_missing(2)),
     add_index([TEST, 2, "pairs", "tree", {"unique": False}, [[0, "unsigned"], [1, "string"]]]),
     select([2], [2, "b"], index=2),
     update([2, "b"], [], not_unique("pairs"), index=2),
@@ -193,7 +159,7 @@ INDEXES_COME_AND_GO = (
     drop_index(TEST, 0, primary_last("test")),
     drop_index(TEST, 2, [[TEST, 2, "pairs", "tree", {"unique": False}, [[0, "unsigned"], [1, "string"]]]]),
     drop_index(TEST, 1, [BY_NAME]),
-    select([], lacks_index(1), index=1),
+    select([], no_index(1), index=1),
     replace([3, "b"]),
     has_tuples([1, "a"], [2, "b"], [3, "b"]),
     # By the name of the other index, which is free again.
@@ -247,7 +213,7 @@ INDEX_OF_TUPLES = (
     add_index(UNIQUE, NO_TEXT),
     delete([1], [[1]]),
     add_index(UNIQUE, duplicate("u")),
-    select([], lacks_index(1), index=1),
+    select([], no_index(1), index=1),
     select([TEST], *index_rows(TEST), space=INDEXES),
     delete([3], [[3, "a"]]),
     add_index(UNIQUE, TEXT_EXPECTED),
@@ -263,16 +229,16 @@ FORMATTED = [OWN, 1, "pairs", "memtx", 2, {}, [{"name": "id", "type": "integer"}
 FORMATS = (
     add_space(FORMATTED),
     add_index(PRIMARY),
-    insert([1], (38, "Tuple of 1 fields, 2 expected"), OWN),
-    insert([1, "a", 2], (38, "Tuple of 3 fields, 2 expected"), OWN),
-    insert(["x", 5], (23, "Field 0: integer expected"), OWN),
+    insert([1], field_count(1, 2), OWN),
+    insert([1, "a", 2], field_count(3, 2), OWN),
+    insert(["x", 5], field_type(0, "integer"), OWN),
     insert([1, 5], TEXT_EXPECTED, OWN),
     # By its format a field may be what the index doesn't take.
     insert([-1, "a"], NOT_UNSIGNED, OWN),
     insert([1, None], space=OWN),
     insert([2, "a"], space=OWN),
     update([2], [["=", 1, 5]], TEXT_EXPECTED, OWN),
-    update([2], [["=", 2, 5]], (38, "Tuple of 3 fields, 2 expected"), OWN),
+    update([2], [["=", 2, 5]], field_count(3, 2), OWN),
     select([], [1, None], [2, "a"], space=OWN),
 )
 
@@ -394,8 +360,8 @@ LADDERS = {
         ({"tuple": [-1, LONGEST + b"a"]}, too_long([-1, LONGEST + b"a"])),
         ({"tuple": []}, NO_FIELD),
         ({"tuple": [-1]}, NOT_UNSIGNED),
-        ({"tuple": [TEST]}, (39, "Field 2 is missing")),
-        ({"tuple": [TEST, 1, 5]}, (23, "Field 2: string expected")),
+        ({"tuple": [TEST]}, field_missing(2)),
+        ({"tuple": [TEST, 1, 5]}, field_type(2, "string")),
         ({"tuple": [TEST, 1, "_space"]}, BAD_SPACE),
         ({"tuple": space_row(TEST, "_space")}, space_exists("test")),
         ({"tuple": space_row(OWN, "_space")}, space_exists("_space")),
@@ -407,9 +373,9 @@ LADDERS = {
         ({"tuple": []}, NO_FIELD),
         ({"tuple": [-1]}, NOT_UNSIGNED),
         ({"tuple": [513]}, NO_TEXT),
-        ({"tuple": [513, -1]}, (23, "Field 1: unsigned expected")),
-        ({"tuple": [513, 0, 5]}, (23, "Field 2: string expected")),
-        ({"tuple": [513, 0, "primary"]}, lacks_space(513)),
+        ({"tuple": [513, -1]}, field_type(1)),
+        ({"tuple": [513, 0, 5]}, field_type(2, "string")),
+        ({"tuple": [513, 0, "primary"]}, no_space(513)),
         ({"tuple": [TEST, 0, "primary"]}, BAD_INDEX),
         ({"tuple": index_row(TEST, 0, "primary", TEXTS)}, duplicate("primary", "_index")),
         ({"tuple": index_row(TEST, 1, "primary", TEXTS)}, duplicate("name", "_index")),
@@ -418,7 +384,7 @@ LADDERS = {
         ({"tuple": index_row(TEST, 1, "second", [[1, "scalar"]])}, [index_row(TEST, 1, "second", [[1, "scalar"]])]),
     ),
     "DELETE of a space": (
-        ({"space": SPACES, "index": 9, "key": [SPACES, 5]}, lacks_index(9, "_space")),
+        ({"space": SPACES, "index": 9, "key": [SPACES, 5]}, no_index(9, "_space")),
         ({"index": 0}, SYSTEM_WRITE),
         ({"key": [TEST, 5]}, key_count(2, 1)),
         ({"key": [-1]}, key_type(0)),
@@ -426,7 +392,7 @@ LADDERS = {
         ({"key": [513]}, []),
     ),
     "DELETE of an index": (
-        ({"space": INDEXES, "index": 9, "key": [SPACES]}, lacks_index(9, "_index")),
+        ({"space": INDEXES, "index": 9, "key": [SPACES]}, no_index(9, "_index")),
         ({"index": 0}, SYSTEM_WRITE),
         ({"key": [TEST]}, key_count(1, 2)),
         ({"key": [TEST, "a"]}, key_type(1)),
@@ -460,7 +426,7 @@ FOUND_AGAIN = (
     select([TEST], index_row(TEST, 0, "again", NUMBERS), space=INDEXES),
     select([], [1, "a"], [2, "a"], space=OWN),
     select(["a", 2], [2, "a"], space=OWN, index=1),
-    select(["a"], lacks_index(3, "first"), space=OWN, index=3),
+    select(["a"], no_index(3, "first"), space=OWN, index=3),
     has_tuples(),
     select([OWN + 1], space=SPACES),
     insert([3], NO_TEXT, OWN),

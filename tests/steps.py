@@ -1,10 +1,13 @@
 """Writes and what they are answered, as tests of the built program say them.
 
-A step is the name of a request, the fields of its body, and its reply: a list of tuples, or the number and
-the text of a refusal. What is expected is worked out by hand.
+A step is the name of a request or the number of its type, the fields of its body, with its stream if it has
+one, and its reply: a list of tuples, or the number and the text of a refusal. What is expected is worked out
+by hand.
 """
 
 import subprocess
+import tempfile
+from pathlib import Path
 
 from iproto import (
     GREETING_BYTES,
@@ -81,24 +84,11 @@ def index_rows(space):
 SPACE_ROWS = [space_row(space, name) for space, name in SPACE_NAMES.items()]
 INDEX_ROWS = [row for space in SPACE_NAMES for row in index_rows(space)]
 
-UNKNOWN_OPERATOR = (28, "Unknown update operator")
-DUPLICATE = (3, 'Duplicate key in unique index "primary" of space "test"')
-IN_PLACE = (5, "Unsupported: change of a schema row in place")
-SYSTEM_WRITE = (5, "Unsupported: write to a system space")
-NOT_UNSIGNED = (23, "Field 0: unsigned expected")
-NO_FIELD = (39, "Field 0 is missing")
-KEY_CHANGED = (94, 'Primary key of space "test" is changed')
-ROW_TOO_LONG = (202, "Transaction is too long")
-READ_ONLY = (7, "Node is read-only, the writable node is 1")
-NO_SPACE = (36, "Space 513 does not exist")
+# ---- refusals
 
 
-def bad_argument(place):
-    return 29, f"Update operation {place}: bad argument"
-
-
-def overflow(place):
-    return 95, f"Update operation {place}: integer overflow"
+def unknown_type(kind):
+    return 48, f"Unknown request type {kind}"
 
 
 def illegal(key):
@@ -109,8 +99,16 @@ def missing(key):
     return 69, f"Missing key 0x{key:02x}"
 
 
-def no_index(index, space):
-    return 35, f'No index {index} in space "{SPACE_NAMES[space]}"'
+def no_space(space):
+    return 36, f"Space {space} does not exist"
+
+
+def no_index(index, space="test"):
+    return 35, f'No index {index} in space "{space}"'
+
+
+def not_unique(index, space="test"):
+    return 41, f'Index "{index}" of space "{space}" is not unique'
 
 
 def key_count(given, parts):
@@ -121,13 +119,68 @@ def key_type(part, kind="unsigned"):
     return 18, f"Key part {part}: {kind} expected"
 
 
+def bad_argument(place):
+    return 29, f"Update operation {place}: bad argument"
+
+
+def overflow(place):
+    return 95, f"Update operation {place}: integer overflow"
+
+
 def too_long(tuple_):
     return 203, f"Tuple of {len(pack(tuple_))} bytes, {MAX_TUPLE} allowed"
 
 
-def insert(tuple_, reply=None, space=TEST):
+def field_count(fields, expected):
+    return 38, f"Tuple of {fields} fields, {expected} expected"
+
+
+def field_missing(field):
+    return 39, f"Field {field} is missing"
+
+
+def field_type(field, kind="unsigned"):
+    return 23, f"Field {field}: {kind} expected"
+
+
+def key_changed(space="test"):
+    return 94, f'Primary key of space "{space}" is changed'
+
+
+def duplicate(index="primary", space="test"):
+    return 3, f'Duplicate key in unique index "{index}" of space "{space}"'
+
+
+def space_exists(name):
+    return 10, f'Space "{name}" exists'
+
+
+def still_indexed(name):
+    return 11, f'Space "{name}" still has indexes'
+
+
+def primary_last(name):
+    return 17, f'Primary index of space "{name}" has to be dropped last'
+
+
+BAD_SPACE, BAD_INDEX = (9, "Bad space row"), (14, "Bad index row")
+UNKNOWN_OPERATOR = (28, "Unknown update operator")
+IN_PLACE = (5, "Unsupported: change of a schema row in place")
+SYSTEM_WRITE = (5, "Unsupported: write to a system space")
+HASH_ITERATOR = (5, "Unsupported: iterator of a hash index")
+ROW_TOO_LONG, RESULT_TOO_LONG = (202, "Transaction is too long"), (207, "Result is longer than 16777216 bytes")
+READ_ONLY = (7, "Node is read-only, the writable node is 1")
+# Those of a field, a key and a space that many tables have.
+NO_FIELD, NOT_UNSIGNED = field_missing(0), field_type(0)
+DUPLICATE, KEY_CHANGED, NO_SPACE = duplicate(), key_changed(), no_space(513)
+
+
+# ---- steps
+
+
+def insert(tuple_, reply=None, space=TEST, **fields):
     """An INSERT, whose reply is the tuple where no other is expected."""
-    return "INSERT", {"space": space, "tuple": tuple_}, [tuple_] if reply is None else reply
+    return "INSERT", {"space": space, "tuple": tuple_, **fields}, [tuple_] if reply is None else reply
 
 
 def replace(tuple_, reply=None, space=TEST):
@@ -159,6 +212,26 @@ def has_tuples(*tuples):
     return select([], *tuples)
 
 
+def add_space(row, refusal=None):
+    """The row of a space is added."""
+    return insert(row, refusal, SPACES)
+
+
+def add_index(row, refusal=None):
+    """The row of an index is added."""
+    return insert(row, refusal, INDEXES)
+
+
+def drop_space(space, reply):
+    """The row of a space is taken out."""
+    return delete([space], reply, SPACES)
+
+
+def drop_index(space, index, reply):
+    """The row of an index is taken out."""
+    return delete([space, index], reply, INDEXES)
+
+
 def is_refusal(reply):
     """Whether this is a number and a text, and no list."""
     return isinstance(reply, tuple)
@@ -176,8 +249,11 @@ def shown(data):
     return data.hex() if len(data) <= SHOWN_BYTES else f"{data[:SHOWN_BYTES].hex()}.. of {len(data)} bytes"
 
 
-def converse(steps, folder):
-    """Asks these steps in a folder's directory, each in a unit of its own, and checks each reply."""
+def converse(steps, folder=None):
+    """Asks these steps in a folder's directory, or in a new one, each in a unit of its own, and checks each reply."""
+    if folder is None:
+        with tempfile.TemporaryDirectory(prefix="vurandy-") as new_folder:
+            return converse(steps, Path(new_folder))
     asked = [request(name, sync, **fields) for sync, (name, fields, _) in enumerate(steps, 1)]
     ended = subprocess.run(
         [PROGRAM, *TRACE],
@@ -199,6 +275,40 @@ def converse(steps, folder):
         due = error_reply(sync, *reply, schema) if is_refusal(reply) else tuples_reply(sync, *reply, schema=schema)
         assert seen == due, f"reply {sync}, to {name} {shown(packet)}: expected {shown(due)}, saw {shown(seen)}"
     expect("number of replies", len(steps), len(replies))
+
+
+# ---- directories
+
+# What ends a journal in order.
+END = bytes.fromhex("d510aded")
+
+
+def journal_name(lsn):
+    """The name of the journal that begins at so many commits."""
+    return f"{lsn:020}.xlog"
+
+
+def journal_header(commits, replica=1):
+    """The header of a journal that begins at so many commits of this node, or of a new node of another id."""
+    lines = ("XLOG", "0.13", "Instance: 00010203-0405-4607-8809-0a0b0c0d0e0f")
+    lines += ("ReplicaSet: 10111213-1415-4617-9819-1a1b1c1d1e1f",)
+    lines += (f"Replica: {replica}",) if replica != 1 else ()
+    lines += (f"VClock: {{1: {commits}}}" if commits else "VClock: {}", "", "")
+    return "\n".join(lines).encode()
+
+
+def make_other_node(folder):
+    """Makes a folder's directory that of a node that isn't writable."""
+    (folder / "DIR").mkdir()
+    (folder / "DIR" / journal_name(0)).write_bytes(journal_header(0, replica=2) + END)
+
+
+def files_of(folder):
+    """The names of a directory's files."""
+    return sorted(path.name for path in (folder / "DIR").iterdir())
+
+
+# ---- long rows
 
 
 def body_of(name, fields):

@@ -12,18 +12,9 @@ import schema_cases
 from iproto import Spelled, Wide, pack
 from operation_cases import SHAPES, UPDATES, UPDATES_FROM_ONE, UPSERTS
 from program import all_pass, expect, is_built
-from refusal_cases import (
-    DELETE_BY_NAME,
-    LADDERS,
-    LEADER_WRITES,
-    NO_SPACES,
-    SCHEMA_WRITES,
-    SELECT_BY_NAME,
-    SYSTEM_WRITES,
-    UNCHANGED,
-)
 from steps import (
     DUPLICATE,
+    END,
     FLOAT,
     KEY_CHANGED,
     LEADER,
@@ -32,19 +23,21 @@ from steps import (
     MOST,
     NO_FIELD,
     NOT_UNSIGNED,
-    READ_ONLY,
     ROW_TOO_LONG,
     SETTINGS,
     TEST,
-    UNKNOWN_OPERATOR,
-    bad_argument,
     converse,
     delete,
+    duplicate,
+    field_type,
+    files_of,
     filling,
     has_tuples,
-    illegal,
     insert,
     is_refusal,
+    journal_header,
+    journal_name,
+    key_changed,
     key_count,
     key_type,
     no_index,
@@ -57,18 +50,11 @@ from steps import (
 
 SECONDS = 60
 SCRATCH = Path(tempfile.mkdtemp(prefix="vurandy-"))
-# What ends a journal in order.
-END = bytes.fromhex("d510aded")
 
 
 def new_folder():
     """A folder of its own for a check, in which a run makes its directory."""
     return Path(tempfile.mkdtemp(dir=SCRATCH))
-
-
-def answers(steps):
-    """Asks these steps in a new directory, and checks each reply."""
-    converse(steps, new_folder())
 
 
 # ---- conversations, each in a new directory
@@ -136,7 +122,7 @@ CONVERSATIONS = {
         delete([1, 2], key_count(2, 1)),
         delete(["1"], key_type(0)),
         delete([-1], key_type(0)),
-        delete([1], no_index(1, TEST), index=1),
+        delete([1], no_index(1), index=1),
         has_tuples([1, "c"]),
         delete([1], [[1, "c"]]),
         has_tuples(),
@@ -162,7 +148,7 @@ CONVERSATIONS = {
         update([], [], key_count(0, 1)),
         update([1, 2], [], key_count(2, 1)),
         update(["1"], [], key_type(0)),
-        update([1], [], no_index(1, TEST), index=1),
+        update([1], [], no_index(1), index=1),
         has_tuples([1, 7], [2, "b"]),
         # A key that is only spelled otherwise isn't changed.
         update([1], [["=", 0, Wide(1, 2)]], [[Wide(1, 2), 7]]),
@@ -215,7 +201,7 @@ CONVERSATIONS = {
     "settings": (
         select([], LEADER, space=SETTINGS),
         insert(["a", 1], space=SETTINGS),
-        insert(["a", 2], (3, 'Duplicate key in unique index "primary" of space "_schema"'), space=SETTINGS),
+        insert(["a", 2], duplicate("primary", "_schema"), space=SETTINGS),
         update(["a"], [["+", 1, 1]], [["a", 2]], space=SETTINGS),
         upsert(["a"], [["+", 1, 1]], space=SETTINGS),
         upsert(["b", 1], [["+", 1, 1]], space=SETTINGS),
@@ -226,10 +212,10 @@ CONVERSATIONS = {
         insert(["lead"], space=SETTINGS),
         select([], ["a", 3], ["b", 1], ["c", 2], ["lead"], LEADER, ["leaders"], space=SETTINGS),
         update(["d"], [["=", 1, 1]], [], space=SETTINGS),
-        update(["a"], [["=", 0, "b"]], (94, 'Primary key of space "_schema" is changed'), space=SETTINGS),
-        update(["a"], [["=", 0, 1]], (23, "Field 0: string expected"), space=SETTINGS),
-        insert([1], (23, "Field 0: string expected"), space=SETTINGS),
-        insert([b"a"], (23, "Field 0: string expected"), space=SETTINGS),
+        update(["a"], [["=", 0, "b"]], key_changed("_schema"), space=SETTINGS),
+        update(["a"], [["=", 0, 1]], field_type(0, "string"), space=SETTINGS),
+        insert([1], field_type(0, "string"), space=SETTINGS),
+        insert([b"a"], field_type(0, "string"), space=SETTINGS),
         insert([], NO_FIELD, space=SETTINGS),
         update([1], [], key_type(0, "string"), space=SETTINGS),
         delete([b"a"], key_type(0, "string"), space=SETTINGS),
@@ -269,11 +255,11 @@ def operations_are_applied(base, rows):
     steps = [step for row in rows for step in updated(base, *row)]
     # A refusal of several operations by one of them says nothing of the others: UPSERTS has those.
     rows = [row for row in rows if not is_refusal(row[2]) or len(row[1]) == 1]
-    answers(steps + [step for row in rows for step in upserted(base, *row)])
+    converse(steps + [step for row in rows for step in upserted(base, *row)])
 
 
 def upserts_skip_what_fails():
-    answers([step for row in UPSERTS for step in upserted(0, *row)])
+    converse([step for row in UPSERTS for step in upserted(0, *row)])
 
 
 def shapes_are_refused():
@@ -282,7 +268,7 @@ def shapes_are_refused():
     for operations, refusal in SHAPES:
         steps += [update([key], operations, refusal) for key in (1, 2)]
         steps += [upsert([key], operations, refusal) for key in (1, 2)]
-    answers([*steps, has_tuples([1, 5])])
+    converse([*steps, has_tuples([1, 5])])
 
 
 # ---- the length of a journal's row
@@ -319,40 +305,7 @@ def row_body_may_have_its_length():
     converse([has_tuples([1, "e"])], folder)
 
 
-# ---- refusals
-
-
-def climb(name, ladder):
-    fields, steps = {}, [insert([1, MOST]), insert([2, "b"])]
-    for changes, reply in ladder:
-        fields = fields | changes
-        steps.append((name, fields, reply))
-    answers(steps)
-
-
-def refused_writes_change_nothing():
-    folder = new_folder()
-    converse([*SCHEMA_WRITES, *SYSTEM_WRITES, *LEADER_WRITES, *NO_SPACES, *UNCHANGED], folder)
-    # Nor is there a row of them, so that the next journal has the same name.
-    converse(UNCHANGED, folder)
-    expect("journals", [journal_name(0)], files_of(folder))
-
-
 # ---- what a further run finds
-
-
-def journal_name(lsn):
-    """The name of the journal that begins at so many commits."""
-    return f"{lsn:020}.xlog"
-
-
-def journal_header(commits, replica=1):
-    """The header of a journal that begins at so many commits of this node, or of a new node of another id."""
-    lines = ("XLOG", "0.13", "Instance: 00010203-0405-4607-8809-0a0b0c0d0e0f")
-    lines += ("ReplicaSet: 10111213-1415-4617-9819-1a1b1c1d1e1f",)
-    lines += (f"Replica: {replica}",) if replica != 1 else ()
-    lines += (f"VClock: {{1: {commits}}}" if commits else "VClock: {}", "", "")
-    return "\n".join(lines).encode()
 
 
 def checksum(data):
@@ -369,11 +322,6 @@ def block(row):
     """The block of one row."""
     sizes = pack(Wide(len(row), 4)) + b"\0" + pack(Wide(checksum(row), 4)) + b"\xa3\0\0\0"
     return bytes.fromhex("d5ba0bab") + sizes + row
-
-
-def files_of(folder):
-    """The names of a directory's files."""
-    return sorted(path.name for path in (folder / "DIR").iterdir())
 
 
 # One step a run: the step, the type of its row and its body, if it leaves one, and the tuples that the next
@@ -468,50 +416,17 @@ def spaces_are_found_again():
     converse(schema_cases.FOUND_AGAIN, folder)
 
 
-def other_nodes_take_no_writes():
-    folder = new_folder()
-    (folder / "DIR").mkdir()
-    (folder / "DIR" / journal_name(0)).write_bytes(journal_header(0, replica=2) + END)
-    steps = (
-        # The request is judged first, and the space isn't looked for.
-        update([1], [["?"]], UNKNOWN_OPERATOR, 513),
-        upsert([1], [["="]], bad_argument(0), 513),
-        insert(7, illegal(0x21), 513),
-        insert([], READ_ONLY, 513),
-        replace([], READ_ONLY, 513),
-        update([], [], READ_ONLY, 513),
-        delete([], READ_ONLY, 513),
-        upsert([], [], READ_ONLY, 513),
-        insert([1], READ_ONLY),
-        replace([1], READ_ONLY),
-        update([1], [], READ_ONLY),
-        delete([1], READ_ONLY),
-        upsert([1], [], READ_ONLY),
-        *UNCHANGED,
-    )
-    converse(steps, folder)
-
-
 CHECKS = (
-    *((f"conversation of {name}", answers, steps) for name, steps in CONVERSATIONS.items()),
-    *((f"conversation of {name}", answers, steps) for name, steps in schema_cases.CONVERSATIONS.items()),
-    ("rows of spaces and indexes", answers, schema_cases.ROWS),
+    *((f"conversation of {name}", converse, steps) for name, steps in CONVERSATIONS.items()),
+    *((f"conversation of {name}", converse, steps) for name, steps in schema_cases.CONVERSATIONS.items()),
+    ("rows of spaces and indexes", converse, schema_cases.ROWS),
     *((f"operations by {name}", operations_are_applied, 0, rows) for name, rows in UPDATES.items()),
     *((f"operations by {name} from 1 on", operations_are_applied, 1, rows) for name, rows in UPDATES_FROM_ONE.items()),
     ("upserts skip what fails", upserts_skip_what_fails),
     ("shapes are refused", shapes_are_refused),
     ("a row's body may have its length", row_body_may_have_its_length),
-    *((f"order of the refusals of {name}", climb, name, ladder) for name, ladder in LADDERS.items()),
-    *(
-        (f"order of the refusals of {name}", climb, name.split()[0], ladder)
-        for name, ladder in schema_cases.LADDERS.items()
-    ),
-    ("order of the refusals of SELECT by a name", climb, "SELECT", SELECT_BY_NAME),
-    ("order of the refusals of DELETE by a name", climb, "DELETE", DELETE_BY_NAME),
-    ("refused writes change nothing", refused_writes_change_nothing),
     ("rows are found again", rows_are_found_again),
     ("spaces are found again", spaces_are_found_again),
-    ("other nodes take no writes", other_nodes_take_no_writes),
 )
 
 
