@@ -3,7 +3,7 @@
 --     tarantool netbox.lua PORT
 --
 -- The server has a new database and listens on this port of the machine. The status is 0 only where all
--- checks pass.
+-- checks pass, and 77 where this net.box asks for the space of collations, which isn't served.
 
 local json = require('json')
 local net_box = require('net.box')
@@ -39,6 +39,9 @@ end
 
 local server = net_box.connect('127.0.0.1', tonumber(arg[1]), {connect_timeout = 5})
 if not server:is_connected() then
+    if tostring(server.error):find('Space 277 does not exist', 1, true) then
+        os.exit(77)
+    end
     print('FAILED  connect: ' .. tostring(server.error))
     os.exit(1)
 end

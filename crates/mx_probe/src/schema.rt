@@ -10,7 +10,7 @@ use mx_key::KeyDef;
 use mx_msgpack::Bytes;
 use mx_schema::{
     Catalogue, IndexDef, IndexKind, Schema, SchemaFault, SpaceDef, first_index_rows,
-    first_setting_rows, first_space_rows, from_row_slices,
+    first_setting_rows, first_space_rows, from_row_slices, is_member,
 };
 use mx_tuple::{Format, Tuple, TupleBad, from_bytes};
 use std::alloc::{AllocError, Global};
@@ -23,6 +23,7 @@ pub fn answer(call: &str, arguments: &mut Arguments<'_>) -> Result<String, Alloc
         "new_space" => new_space(arguments),
         "new_index" => new_index(arguments),
         "from_rows" => from_rows(arguments),
+        "is_member" => member(arguments),
         _ => no_call(arguments),
     }
 }
@@ -34,6 +35,12 @@ fn first(arguments: &mut Arguments<'_>) -> Result<String, AllocError> {
     let indexes = first_index_rows();
     let settings = first_setting_rows();
     format!(in alloc; "{} {} {}", Rows(&spaces), Rows(&indexes), Rows(&settings))
+}
+
+/// Whether a row is that of a node of the replica set.
+fn member(arguments: &mut Arguments<'_>) -> Result<String, AllocError> {
+    let row = arguments.bytes();
+    format!(in arguments.alloc(); "{}", is_member(row.as_slice()))
 }
 
 /// How many rows there are, and their bytes.
