@@ -31,3 +31,16 @@ pub mod SlowMakeLaws
 pub mod SlowWriteLaws
 pub mod SlowStageLaws
 pub mod SlowReadLaws
+pub mod FrameReads
+pub mod FrameTuples
+pub mod FrameWindow
+pub mod FrameSound
+pub mod FrameCatalogue
+pub mod FrameStages
+pub mod FrameLookups
+pub mod FrameWrites
+pub mod FrameSelect
+pub mod FrameLaws
+pub mod FrameChange
+pub mod FrameSteps
+pub mod FrameRuns

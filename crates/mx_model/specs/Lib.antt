@@ -15,3 +15,5 @@ pub mod SlowSteps
 pub mod SlowWrites
 pub mod SlowReads
 pub mod SlowReadSteps
+pub mod Touches
+pub mod Frame

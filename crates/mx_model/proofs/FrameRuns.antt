@@ -1,0 +1,114 @@
+-- Statements one after the other are answered the same where nothing that rows touch meets what they read.
+use Rattle.std.proofs.Common.{◌≡◌, ℕ, Bool, true, false, ◌&&◌, ◌||◌, List, [], ◌∷◌, ◌++◌, Option, Some, None, refl, sym, ap, ◌∙◌, subst}
+use Rattle.std.specs.Prelude.{◌==◌}
+use Rattle.std.specs.List.{AllByRecursion, list_any}
+use Rattle.mx_msgpack.specs.Readers.{◌>>=◌}
+use Rattle.mx_row.specs.declared.row.Row.{Row}
+use Rattle.mx_schema.specs.declared.schema.Schema.{Schema}
+use Rattle.mx_schema.specs.Catalogues.{index_with, schema_of}
+use Rattle.mx_schema.specs.Sound.{IsSound}
+use Rattle.mx_schema.specs.State.{State}
+use Rattle.mx_write.specs.Change.{Change, state_after_changed}
+use Rattle.mx_write.specs.Judge.{row_change}
+use Rattle.mx_write.specs.Made.{write_of}
+use Rattle.mx_write.specs.Reads.{Read}
+use Rattle.mx_write.specs.Writes.{HasBytes}
+use Rattle.mx_model.specs.Answers.{state_after_row, state_after_rows}
+use Rattle.mx_model.specs.Frame.{AgreeBut, IsPlain, StaysSound, answer_to_statement, answers_from, reads_in, state_after_statement, state_after_statements}
+use Rattle.mx_model.specs.Touches.{Touched, index_in, is_met, lies_in_index, meets, rows_meet, touched_by_change}
+use Rattle.mx_model.specs.statements.Answer.{Answer}
+use Rattle.mx_model.specs.statements.Statement.{Statement}
+use Rattle.mx_model.proofs.FrameLaws.{answered_same}
+use Rattle.mx_model.proofs.FrameReads.{missed_parts}
+use Rattle.mx_model.proofs.FrameSteps.{IsPlainChange, answer_sound, changed_agree, described_after, plain_change, row_agrees, row_sound}
+
+-- ---- where spaces are described the same, the same is met
+
+module _ (one other : State) (described : (space : ℕ) → schema_of one space ≡ schema_of other space) (touched : List Touched) where
+  index_same : (space index : ℕ) → index_in one space index ≡ index_in other space index
+  index_same space index = ap (λ (found : Option Schema). found >>= (λ schema. index_with index schema.indexes)) (described space)
+
+  met_same : (read : Read) (some : List Touched) → list_any (is_met one read) some ≡ list_any (is_met other read) some
+  met_same read [] = refl
+  met_same read (first ∷ some) =
+      λ i. ((first.space == read.space) && lies_in_index (index_same read.space read.index i) read.range first) || met_same read some i
+
+  pub meets_same : (reads : List Read) → meets one touched reads ≡ meets other touched reads
+  meets_same [] = refl
+  meets_same (read ∷ reads) = λ i. met_same read touched i || meets_same reads i
+
+-- ---- statements one after the other
+
+module _ (base : State) (touched : List Touched) where
+  -- two states in which statements are made, described as a first one
+  record AreFramed (one other : State) : Type 0 where
+    agree : AgreeBut touched one other
+    sound : IsSound one
+    still : IsSound other
+    described : (space : ℕ) → schema_of base space ≡ schema_of one space
+
+  -- a statement is answered the same
+  statement_same : (one other : State) → AreFramed one other → (statement : Statement) → IsPlain statement → meets base touched (answer_to_statement one statement).reads ≡ false
+      → answer_to_statement other statement ≡ answer_to_statement one statement
+  statement_same one other framed statement plain missed =
+      answered_same touched one other framed.agree framed.sound framed.still statement.space statement.operation plain.0
+      (sym (meets_same base one framed.described touched (answer_to_statement one statement).reads) ∙ missed)
+
+  -- and so are those after it
+  framed_after : (one other : State) → AreFramed one other → (statement : Statement) → IsPlain statement → answer_to_statement other statement ≡ answer_to_statement one statement
+      → AreFramed (state_after_statement one statement) (state_after_statement other statement)
+  framed_after one other framed statement plain same = record {
+    agree = subst (λ (answer : Answer). AgreeBut touched (state_after_statement one statement) (state_after_changed other answer.change)) (sym same)
+        (changed_agree touched one other framed.agree (answer_to_statement one statement).change changes);
+    sound = answer_sound one framed.sound statement.space statement.operation plain.1;
+    still = answer_sound other framed.still statement.space statement.operation plain.1;
+    described = λ space. framed.described space ∙ sym (described_after one (answer_to_statement one statement).change changes space);
+  }
+    where
+      changes : IsPlainChange (answer_to_statement one statement).change
+      changes = plain_change one statement.space statement.operation plain.0
+
+  statements_same : (one other : State) → AreFramed one other → (statements : List Statement) → AllByRecursion IsPlain statements
+      → meets base touched (reads_in (answers_from one statements)) ≡ false
+      → (answers_from other statements ≡ answers_from one statements) × AgreeBut touched (state_after_statements one statements) (state_after_statements other statements)
+  statements_same one other framed [] plain missed = (refl, framed.agree)
+  statements_same one other framed (statement ∷ later) plain missed =
+      let after = state_after_statement one statement in
+      let parts = missed_parts base touched (answer_to_statement one statement).reads (reads_in (answers_from after later)) missed in
+      let same = statement_same one other framed statement plain.0 parts.0 in
+      let rest = statements_same after (state_after_statement other statement) (framed_after one other framed statement plain.0 same) later plain.1 parts.1 in
+      (λ i. same i ∷ rest.0 i, rest.1)
+
+-- statements from two states that agree but for what was touched, where nothing of it meets what they read
+pub run_same : (touched : List Touched) (one other : State) (statements : List Statement) → AgreeBut touched one other → IsSound one → IsSound other → AllByRecursion IsPlain statements
+    → meets one touched (reads_in (answers_from one statements)) ≡ false
+    → (answers_from other statements ≡ answers_from one statements) × AgreeBut touched (state_after_statements one statements) (state_after_statements other statements)
+run_same touched one other statements agree sound still plain missed =
+    statements_same one touched one other (record { agree = agree; sound = sound; still = still; described = λ space. refl }) statements plain missed
+
+-- ---- rows of commits
+
+neither : (a b : Bool) → (a || b) ≡ false → (a ≡ false) × (b ≡ false)
+neither true b e = absurd cc
+neither false b e = (refl, e)
+
+-- rows whose tuples are bytes keep a state sound
+pub rows_stay_sound : (before : State) (rows : List Row) → IsSound before → AllByRecursion (λ (row : Row). HasBytes (write_of row)) rows → StaysSound before rows
+rows_stay_sound before [] sound bytes = sound
+rows_stay_sound before (row ∷ rows) sound bytes = (sound, rows_stay_sound (state_after_row before row) rows (row_sound before sound row bytes.0) bytes.1)
+
+first_sound : (before : State) (rows : List Row) → StaysSound before rows → IsSound before
+first_sound before [] sound = sound
+first_sound before (row ∷ rows) sound = sound.0
+
+-- statements are answered the same after rows that touch nothing which they read
+pub rows_leave : (before : State) (rows : List Row) (statements : List Statement) → StaysSound before rows → AllByRecursion IsPlain statements
+    → rows_meet before rows (reads_in (answers_from before statements)) ≡ false → answers_from (state_after_rows before rows) statements ≡ answers_from before statements
+rows_leave before [] statements sound plain missed = refl
+rows_leave before (row ∷ rows) statements sound plain missed =
+    let after = state_after_row before row in
+    let touched = touched_by_change before (row_change before row) in
+    let reads = reads_in (answers_from before statements) in
+    let parts = neither (meets before touched reads) (rows_meet after rows reads) missed in
+    let same = (run_same touched before after statements (row_agrees before sound.0 row) sound.0 (first_sound after rows sound.1) plain parts.0).0 in
+    rows_leave after rows statements sound.1 plain (ap (λ (answers : List Answer). rows_meet after rows (reads_in answers)) same ∙ parts.1) ∙ same
