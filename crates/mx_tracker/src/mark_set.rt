@@ -1,0 +1,51 @@
+//! Marks of slots.
+
+ghost use Rattle.std.specs.Prelude.{◌≡◌, ◌≢◌, ℕ, ◌<◌, slice_set, false};
+ghost use Rattle.mx_tracker.specs.Marks.{slots, is_marked};
+
+use std::marker::Model;
+
+/// How many slots there are.
+pub const SLOTS: usize = 1024;
+
+/// A mark or none for each slot, which takes no memory.
+#[derive(Debug, Drop)]
+pub struct MarkSet {
+    marks: [bool; SLOTS],
+}
+
+impl Model for MarkSet {
+    ghost use Rattle.std.specs.Prelude.{Bool, List};
+
+    ghost Value = { List Bool };
+
+    ghost view = { λ m. m.marks };
+}
+
+impl MarkSet {
+    /// No slot is marked.
+    pub fn new() -> MarkSet
+        ensures { (slot : ℕ) → is_marked result slot ≡ false }
+    {
+        MarkSet {
+            marks: [false; SLOTS],
+        }
+    }
+
+    /// Whether a slot is marked.
+    pub fn has(&self, slot: u32) -> bool
+        requires { slot < slots }
+        ensures { result ≡ is_marked self.now slot }
+    {
+        self.marks[slot as usize]
+    }
+
+    /// Marks a slot, or takes its mark away.
+    pub(crate) fn set(&mut self, slot: usize, mark: bool)
+        requires { slot < slots }
+        ensures here { is_marked self.new slot ≡ mark }
+        ensures others { (other : ℕ) → other ≢ slot → is_marked self.new other ≡ is_marked self.old other }
+    {
+        self.marks[slot] = mark;
+    }
+}

@@ -1,0 +1,3 @@
+mod CountLaws
+mod LeastLaws
+pub mod StateLaws
