@@ -1,8 +1,8 @@
 -- What two states that agree but for what was touched describe the same, where reads of their rows met nothing of it.
-use Rattle.std.proofs.Common.{◌≡◌, ◌⊎◌, inl, inr, ℕ, ◌<◌, ◌≤◌, Bool, true, false, not, ◌&&◌, ◌||◌, List, [], ◌∷◌, filter, Option, Some, None, refl, sym, ap, ◌∙◌, subst, arith, true≢false}
+use Rattle.std.proofs.Common.{◌≡◌, ◌⊎◌, inl, inr, ℕ, ◌<◌, ◌≤◌, Bool, true, false, not, ◌&&◌, ◌||◌, List, [], ◌∷◌, Option, Some, None, refl, sym, ap, ◌∙◌, arith, true≢false}
 use Rattle.std.specs.Prelude.{pos, ◌==◌, if◌then◌else◌}
 use Rattle.std.specs.Cmp.{tied_itself}
-use Rattle.std.specs.FinMap.{entries, get}
+use Rattle.std.specs.FinMap.{get}
 use Rattle.std.specs.List.{Contains}
 use Rattle.std.specs.Ordering.{is_eq, is_gt, is_lt, ordering_then}
 use Rattle.mx_msgpack.specs.Readers.{◌>>=◌}
@@ -13,17 +13,17 @@ use Rattle.mx_schema.specs.declared.index_def.IndexDef.{IndexDef}
 use Rattle.mx_schema.specs.declared.schema.Schema.{Schema}
 use Rattle.mx_schema.specs.declared.space_def.SpaceDef.{SpaceDef}
 use Rattle.mx_schema.specs.Catalogues.{index_defs, indexes_of, schema_by, schema_of, space_of}
-use Rattle.mx_schema.specs.Picks.{Indexed, entry_key, tuples_by_index}
+use Rattle.mx_schema.specs.Picks.{entry_key}
 use Rattle.mx_schema.specs.SchemaChecks.{first_user_space}
 use Rattle.mx_schema.specs.Sound.{IsSound}
 use Rattle.mx_schema.specs.SpaceRows.{space_in}
 use Rattle.mx_schema.specs.State.{State, Tuples, index_rows, space_rows, tuples_in}
 use Rattle.mx_schema.proofs.OrderLaws.{eq_is}
 use Rattle.mx_write.specs.Reads.{index_read, schema_reads, space_read}
-use Rattle.mx_model.specs.Frame.{AgreeAt, AgreeBut, IsIndexTouched, IsTouched}
+use Rattle.mx_model.specs.Frame.{AgreeAt, AgreeBut, IsIndexTouched}
 use Rattle.mx_model.specs.Touches.{Touched, index_in}
 use Rattle.mx_model.proofs.FrameReads.{AreMissed, index_key, missed_key, missed_parts}
-use Rattle.mx_model.proofs.FrameSound.{HasFirst, indexes_first, spaces_first}
+use Rattle.mx_model.proofs.FrameSound.{indexes_first, spaces_first}
 use Rattle.mx_model.proofs.FrameTuples.{AreAlike, passing_same, same_option}
 
 -- ---- keys with a prefix

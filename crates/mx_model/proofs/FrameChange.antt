@@ -1,12 +1,11 @@
 -- States before and after a change agree but for what it touches, and still do after a further change that both make.
-use Rattle.std.proofs.Common.{◌≡◌, ◌⊎◌, inl, inr, ℕ, ◌≤◌, Bool, true, false, cond, ◌&&◌, List, [], ◌∷◌, ◌++◌, Option, Some, None, refl, sym, ap, ◌∙◌, subst, arith, eq-eqb, eqb-true, true≢false}
+use Rattle.std.proofs.Common.{◌≡◌, ◌⊎◌, inl, inr, ℕ, ◌≤◌, Bool, true, false, cond, ◌&&◌, List, [], ◌∷◌, ◌++◌, Option, Some, None, refl, sym, ap, ◌∙◌, subst, arith, eq-eqb, eqb-true}
 use Rattle.std.proofs.lemmas.Bool.Decides.{nat_tests}
-use Rattle.std.proofs.lemmas.List.Elements.{Contains-append_left, Contains-append_right}
+use Rattle.std.proofs.lemmas.List.Elements.{Contains-append_right}
 use Rattle.std.specs.Prelude.{is_none, ◌==◌, if◌then◌else◌}
 use Rattle.std.specs.FinMap.{empty, get, get-insert, get-remove, insert, remove}
 use Rattle.std.specs.List.{Contains}
 use Rattle.std.specs.Ordering.{eq_by_cmp}
-use Rattle.mx_msgpack.proofs.Options.{same_some}
 use Rattle.mx_key.specs.Keys.{Key, key_cmp}
 use Rattle.mx_key.proofs.KeyLaws.{key_cmp_total}
 use Rattle.mx_schema.specs.declared.index_def.IndexRow.{IndexRow}
@@ -17,13 +16,13 @@ use Rattle.mx_schema.specs.State.{State, Tuples, index_rows, tuples_in, with_tup
 use Rattle.mx_schema.proofs.KeyedLaws.{two_key}
 use Rattle.mx_schema.proofs.StateLaws.{tuples_set}
 use Rattle.mx_space.proofs.EntriesLaws.{tied_is, ties_itself}
-use Rattle.mx_write.specs.Change.{Change, state_after_change, state_after_changed, state_with}
+use Rattle.mx_write.specs.Change.{state_after_change, state_with}
 use Rattle.mx_write.specs.Descriptions.{index_named_by, space_named_by}
 use Rattle.mx_write.specs.Installs.{MayChange}
 use Rattle.mx_write.proofs.DescriptionLaws.{DroppedIndex, dropped_index}
 use Rattle.mx_write.proofs.EachSpaceLaws.{after_put, change_of}
 use Rattle.mx_model.specs.Frame.{AgreeAt, AgreeBut, IsIndexTouched, IsTouched}
-use Rattle.mx_model.specs.Touches.{Touched, touched_at, touched_by, touched_by_change}
+use Rattle.mx_model.specs.Touches.{Touched, touched_at, touched_by}
 
 -- the first of a list is in it
 contains_first : {X : Type 0} (x : X) (xs : List X) → Contains (x ∷ xs) x

@@ -1,18 +1,16 @@
 -- What a write looks up by keys is the same where what was touched has none of these keys.
-use Rattle.std.proofs.Common.{◌≡◌, ℕ, Bool, true, false, not, ◌||◌, List, [], ◌∷◌, filter, cond, Option, Some, None, refl, sym, ap, ◌∙◌, eqb-true}
-use Rattle.std.specs.Prelude.{◌==◌, if◌then◌else◌, Ok, Result}
+use Rattle.std.proofs.Common.{◌≡◌, ℕ, Bool, true, false, not, List, [], ◌∷◌, cond, Option, Some, None, refl, sym, ap, ◌∙◌, eqb-true}
+use Rattle.std.specs.Prelude.{◌==◌, if◌then◌else◌, Ok}
 use Rattle.std.specs.FinMap.{empty, entries, get}
 use Rattle.std.specs.List.{AllByRecursion}
 use Rattle.std.specs.Option.{option_map}
 use Rattle.std.specs.Result.{result_ok}
-use Rattle.mx_msgpack.proofs.Options.{same_some}
-use Rattle.mx_key.specs.declared.fault.NoKey.{NoKey}
 use Rattle.mx_key.specs.Keys.{Key}
 use Rattle.mx_key.specs.Ranges.{prefix_range}
 use Rattle.mx_schema.specs.declared.index_def.IndexDef.{IndexDef}
 use Rattle.mx_schema.specs.declared.schema.Schema.{Schema}
 use Rattle.mx_schema.specs.Catalogues.{index_with, schema_of}
-use Rattle.mx_schema.specs.Picks.{Indexed, indexed_with, tuples_by_index}
+use Rattle.mx_schema.specs.Picks.{Indexed, indexed_with}
 use Rattle.mx_schema.specs.Sound.{IsSound}
 use Rattle.mx_schema.specs.State.{State, key_in, tuples_in}
 use Rattle.mx_schema.proofs.AloneLaws.{same_key}
@@ -20,8 +18,8 @@ use Rattle.mx_schema.proofs.DescribedLaws.{its_keyed}
 use Rattle.mx_schema.proofs.SoundLaws.{sound_key}
 use Rattle.mx_schema.proofs.StoredLaws.{primary_index}
 use Rattle.mx_space.proofs.IndexedLaws.{held_there}
-use Rattle.mx_write.specs.Judged.{Judged, found, reads_of, unless, ◌>>=◌}
-use Rattle.mx_write.specs.Lookup.{entry_under, entry_with, holder_of, is_unique, other_indexes, own_key, primary_key_of, primary_key_with, tuple_under}
+use Rattle.mx_write.specs.Judged.{found, reads_of, unless, ◌>>=◌}
+use Rattle.mx_write.specs.Lookup.{entry_under, entry_with, holder_of, is_unique, other_indexes, own_key, primary_key_of, tuple_under}
 use Rattle.mx_write.specs.Reads.{key_read}
 use Rattle.mx_write.specs.Unique.{are_free, held_refusal, is_free, is_free_if_unique}
 use Rattle.mx_write.proofs.UniqueLaws.{number_is}
@@ -29,7 +27,7 @@ use Rattle.mx_model.specs.Frame.{AgreeAt}
 use Rattle.mx_model.specs.Touches.{Touched, meets}
 use Rattle.mx_model.proofs.FrameReads.{AreMissed, missed_parts}
 use Rattle.mx_model.proofs.FrameCatalogue.{alike_in, prefix_itself}
-use Rattle.mx_model.proofs.FrameSound.{are_apart, index_has, index_known}
+use Rattle.mx_model.proofs.FrameSound.{are_apart, index_known}
 use Rattle.mx_model.proofs.FrameStages.{both_same}
 use Rattle.mx_model.proofs.FrameTuples.{found_alike}
 

@@ -1,5 +1,5 @@
 -- Statements one after the other are answered the same where nothing that rows touch meets what they read.
-use Rattle.std.proofs.Common.{◌≡◌, ℕ, Bool, true, false, ◌&&◌, ◌||◌, List, [], ◌∷◌, ◌++◌, Option, Some, None, refl, sym, ap, ◌∙◌, subst}
+use Rattle.std.proofs.Common.{◌≡◌, ℕ, Bool, true, false, ◌&&◌, ◌||◌, List, [], ◌∷◌, Option, refl, sym, ap, ◌∙◌, subst}
 use Rattle.std.specs.Prelude.{◌==◌}
 use Rattle.std.specs.List.{AllByRecursion, list_any}
 use Rattle.mx_msgpack.specs.Readers.{◌>>=◌}
@@ -8,7 +8,7 @@ use Rattle.mx_schema.specs.declared.schema.Schema.{Schema}
 use Rattle.mx_schema.specs.Catalogues.{index_with, schema_of}
 use Rattle.mx_schema.specs.Sound.{IsSound}
 use Rattle.mx_schema.specs.State.{State}
-use Rattle.mx_write.specs.Change.{Change, state_after_changed}
+use Rattle.mx_write.specs.Change.{state_after_changed}
 use Rattle.mx_write.specs.Judge.{row_change}
 use Rattle.mx_write.specs.Made.{write_of}
 use Rattle.mx_write.specs.Reads.{Read}

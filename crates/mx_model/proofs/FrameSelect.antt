@@ -1,10 +1,9 @@
 -- A SELECT is answered the same where what it reads met nothing that was touched.
-use Rattle.std.proofs.Common.{◌≡◌, ◌⊎◌, inl, inr, ℕ, Bool, true, false, List, [], ◌∷◌, ◌++◌, length, Option, Some, None, Result, Ok, Err, refl, sym, ap, ◌∙◌, subst, arith}
+use Rattle.std.proofs.Common.{◌≡◌, inl, inr, ℕ, Bool, true, false, List, [], ◌∷◌, ◌++◌, Option, Some, None, Result, Ok, Err, refl, sym, ap, ◌∙◌, subst, arith}
 use Rattle.std.specs.Prelude.{nat_lt, ◌==◌, if◌then◌else◌}
 use Rattle.std.specs.FinMap.{get}
 use Rattle.mx_base.specs.declared.kinds.Unsupported.TheVariants.{HashIterator}
 use Rattle.mx_base.specs.declared.refusal.Refusal.TheVariants.{ResultTooLong, Unsupported}
-use Rattle.mx_msgpack.proofs.Options.{same_some}
 use Rattle.mx_key.specs.declared.fault.Misfit.{Misfit}
 use Rattle.mx_key.specs.declared.iterator.IterKind.{IterKind}
 use Rattle.mx_key.specs.Keys.{Key}
@@ -13,22 +12,20 @@ use Rattle.mx_schema.specs.declared.index_def.IndexDef.{IndexDef}
 use Rattle.mx_schema.specs.declared.schema.Schema.{Schema}
 use Rattle.mx_schema.specs.Catalogues.{index_with, schema_of}
 use Rattle.mx_schema.specs.Picks.{Selection, entries_of, max_result_size, pick, total_bytes, tuples_by_index}
-use Rattle.mx_schema.specs.SchemaChecks.{first_user_space}
 use Rattle.mx_schema.specs.Sound.{IsSound}
 use Rattle.mx_schema.specs.State.{State, Tuples, index_rows, shown_index_rows, shown_space_rows, source_of, space_rows, tuples_in}
 use Rattle.mx_schema.proofs.DescribedLaws.{its_keyed}
 use Rattle.mx_space.proofs.IndexedLaws.{AreApart}
-use Rattle.mx_write.specs.Lookup.{misfit_refusal}
 use Rattle.mx_write.specs.Reads.{index_read, schema_reads, space_read}
 use Rattle.mx_model.specs.Frame.{AgreeAt, AgreeBut}
 use Rattle.mx_model.specs.Touches.{Touched}
 use Rattle.mx_model.specs.statements.Answer.{Answer, refusal_after, tuples_after}
-use Rattle.mx_model.specs.statements.Lookup.{in_def, in_index, in_schema, in_space}
+use Rattle.mx_model.specs.statements.Lookup.{in_def, in_schema}
 use Rattle.mx_model.specs.statements.Select.{asked_key, part_count, range_reads, select_answer, select_answer_in, select_by_key, select_found, select_in_index, takes_iterator}
 use Rattle.mx_model.proofs.FrameCatalogue.{BothThere, alike_in, own_agree, schema_same, there_alike, tuples_agree}
 use Rattle.mx_model.proofs.FrameLookups.{IsAlike, by_number}
 use Rattle.mx_model.proofs.FrameReads.{AreMissed, missed_parts}
-use Rattle.mx_model.proofs.FrameSound.{HasSource, are_apart, index_known, source_described}
+use Rattle.mx_model.proofs.FrameSound.{are_apart, index_known, source_described}
 use Rattle.mx_model.proofs.FrameTuples.{found_alike}
 use Rattle.mx_model.proofs.FrameWindow.{pick_same, pick_whole}
 

@@ -1,10 +1,8 @@
 -- What a sound state has of an index: its entries are apart, and the rows of spaces and indexes have a first one.
 use Rattle.std.proofs.Common.{◌≡◌, ℕ, ◌<◌, Bool, true, false, List, [], ◌∷◌, length, Option, Some, None, refl, sym, ap, ◌∙◌, subst, arith, eqb-true}
-use Rattle.std.specs.Prelude.{IfSome, is_some, ◌==◌, if◌then◌else◌}
-use Rattle.std.specs.FinMap.{empty}
+use Rattle.std.specs.Prelude.{is_some, ◌==◌, if◌then◌else◌}
 use Rattle.std.specs.List.{AllByRecursion}
 use Rattle.std.specs.Option.{option_map}
-use Rattle.mx_key.specs.Keys.{Key}
 use Rattle.mx_key.specs.Parts.{part_in}
 use Rattle.mx_msgpack.specs.Items.{array_of}
 use Rattle.mx_msgpack.specs.Reading.{after_first, head_at, measured, reading_of}
@@ -13,14 +11,12 @@ use Rattle.mx_msgpack.specs.Spelling.{array_head, map_head, shortest_unsigned, s
 use Rattle.mx_schema.specs.declared.index_def.IndexDef.{IndexDef}
 use Rattle.mx_schema.specs.declared.schema.Schema.{Schema}
 use Rattle.mx_schema.specs.Bootstrap.{first_state}
-use Rattle.mx_schema.specs.Catalogues.{StandByKey, index_with, schema_of}
+use Rattle.mx_schema.specs.Catalogues.{index_with, schema_of}
 use Rattle.mx_schema.specs.IndexRows as rows
-use Rattle.mx_schema.specs.Picks.{Indexed}
 use Rattle.mx_schema.specs.SchemaChecks.{first_user_space}
 use Rattle.mx_schema.specs.Sound.{AreKeyed, AreUnique, HaveKeys, IsSound}
 use Rattle.mx_schema.specs.SpaceRows.{space_in}
-use Rattle.mx_schema.specs.State.{State, Tuples, index_rows, shown_index_rows, shown_space_rows, source_of, space_rows, tuples_in}
-use Rattle.mx_schema.proofs.DescribedLaws.{its_keyed}
+use Rattle.mx_schema.specs.State.{State, Tuples, index_rows, shown_index_rows, shown_space_rows, source_of, space_rows}
 use Rattle.mx_schema.proofs.FirstSoundLaws.{first_primary, first_there}
 use Rattle.mx_schema.proofs.FirstStateLaws.{first_ids, has_number, schema_is, schema_listed}
 use Rattle.mx_schema.proofs.PartLaws.{own_whole}

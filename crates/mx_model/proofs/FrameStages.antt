@@ -1,17 +1,15 @@
 -- Stages of a write come to the same where each does whose reads met nothing that was touched.
-use Rattle.std.proofs.Common.{◌≡◌, inl, inr, ℕ, Bool, true, false, List, [], ◌∷◌, ◌++◌, Option, Some, None, Result, Ok, Err, refl, sym, ap, ◌∙◌, subst}
+use Rattle.std.proofs.Common.{◌≡◌, inl, inr, ℕ, List, [], ◌∷◌, ◌++◌, Option, Some, None, Result, Ok, Err, refl, sym, ap, ◌∙◌, subst}
 use Rattle.mx_msgpack.proofs.Options.{same_some}
 use Rattle.mx_base.specs.declared.refusal.Refusal.{Refusal}
 use Rattle.mx_base.specs.declared.refusal.Refusal.TheVariants.{SpaceMissing}
-use Rattle.mx_schema.specs.declared.index_def.IndexDef.{IndexDef}
 use Rattle.mx_schema.specs.declared.schema.Schema.{Schema}
-use Rattle.mx_schema.specs.declared.space_def.SpaceDef.{SpaceDef}
-use Rattle.mx_schema.specs.Catalogues.{schema_by, schema_of, space_of}
+use Rattle.mx_schema.specs.Catalogues.{schema_of}
 use Rattle.mx_schema.specs.Sound.{IsSound}
 use Rattle.mx_schema.specs.State.{State}
 use Rattle.mx_write.specs.Judged.{Judged, found_or, next_stage, unless, ◌>>=◌}
 use Rattle.mx_write.specs.Lookup.{the_index, the_space, the_unique_index}
-use Rattle.mx_write.specs.Reads.{Read, index_read, space_read}
+use Rattle.mx_write.specs.Reads.{index_read, space_read}
 use Rattle.mx_model.specs.Frame.{AgreeBut}
 use Rattle.mx_model.specs.Touches.{Touched}
 use Rattle.mx_model.proofs.FrameReads.{AreMissed, missed_both, missed_parts}

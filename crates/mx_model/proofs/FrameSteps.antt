@@ -1,5 +1,5 @@
 -- What statements make of two states that agree but for what was touched, and what any statement or row touches.
-use Rattle.std.proofs.Common.{◌≡◌, ◌⊎◌, inl, inr, ℕ, Bool, true, false, ◌||◌, List, [], ◌∷◌, ◌++◌, length, Option, Some, None, Result, Ok, Err, refl, sym, ap, ◌∙◌, subst}
+use Rattle.std.proofs.Common.{◌≡◌, ◌⊎◌, inl, inr, ℕ, Bool, true, false, ◌||◌, List, ◌++◌, Option, Some, None, Result, Ok, Err, refl, sym, ap, ◌∙◌, subst}
 use Rattle.std.specs.Prelude.{nat_lt, ◌==◌, if◌then◌else◌}
 use Rattle.std.specs.FinMap.{insert, remove}
 use Rattle.mx_base.specs.declared.kinds.Unsupported.TheVariants.{HashIterator}
@@ -19,9 +19,8 @@ use Rattle.mx_schema.specs.State.{State, index_rows, source_of, space_rows, tupl
 use Rattle.mx_schema.proofs.StateLaws.{schema_set}
 use Rattle.mx_write.specs.declared.writable.Writer.{Writer}
 use Rattle.mx_write.specs.declared.writable.Writer.TheVariants.{Client, Journal}
-use Rattle.mx_write.specs.Change.{Change, state_after_change, state_after_changed, state_with}
+use Rattle.mx_write.specs.Change.{Change, state_after_change, state_after_changed}
 use Rattle.mx_write.specs.Judge.{change_in, judged_row, judged_write, row_change}
-use Rattle.mx_write.specs.Judged.{Judged}
 use Rattle.mx_write.specs.Made.{Made, nothing, write_of}
 use Rattle.mx_write.specs.Reads.{schema_reads}
 use Rattle.mx_write.specs.Writable.{describes_schema}
@@ -32,11 +31,11 @@ use Rattle.mx_write.proofs.WrittenLaws.{Wrote, makes, wrote}
 use Rattle.mx_model.specs.Answers.{answer_in_space, state_after_row}
 use Rattle.mx_model.specs.Frame.{AgreeBut, IsNoSchemaWrite, OperationHasBytes}
 use Rattle.mx_model.specs.Touches.{Touched, touched_by_change}
-use Rattle.mx_model.specs.statements.Answer.{Answer, refusal_after, tuples_after}
+use Rattle.mx_model.specs.statements.Answer.{refusal_after, tuples_after}
 use Rattle.mx_model.specs.statements.Lookup.{in_def, in_schema}
 use Rattle.mx_model.specs.statements.Select.{asked_key, iterator_of, part_count, range_reads, select_answer, select_answer_in, select_by_key, select_found, select_in_index, takes_iterator}
 use Rattle.mx_model.specs.statements.Statement.{Operation, Selects, Writes}
-use Rattle.mx_model.specs.statements.Write.{answer_of, answer_of_outcome, write_answer_in}
+use Rattle.mx_model.specs.statements.Write.{answer_of_outcome}
 use Rattle.mx_model.proofs.FrameChange.{after_removed, agree_after, change_agrees}
 
 -- ---- a SELECT changes nothing

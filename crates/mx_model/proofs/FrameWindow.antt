@@ -11,9 +11,9 @@ use Rattle.std.specs.declared.cmp.Ordering.TheVariants.{Less, Equal, Greater}
 use Rattle.std.proofs.lemmas.List.{reverse-append}
 use Rattle.mx_key.specs.declared.iterator.IterKind.{IterKind}
 use Rattle.mx_key.specs.Keys.{Key, is_key_prefix, key_cmp}
-use Rattle.mx_key.specs.Ranges.{End, Range, descends, is_from, is_up_to, lies_in, range_of, range_until}
+use Rattle.mx_key.specs.Ranges.{Range, descends, is_from, is_up_to, lies_in, range_of, range_until}
 use Rattle.mx_key.proofs.KeyLaws.{key_cmp_total}
-use Rattle.mx_schema.specs.Picks.{Indexed, Selection, directed, last_key, pick, picked, range_read, up_to_last, window}
+use Rattle.mx_schema.specs.Picks.{Indexed, directed, last_key, pick, picked, range_read, up_to_last, window}
 use Rattle.mx_schema.specs.State.{Tuples}
 use Rattle.mx_schema.proofs.OrderLaws.{both, lt_is}
 use Rattle.mx_space.proofs.WindowLaws.{filter-directed}

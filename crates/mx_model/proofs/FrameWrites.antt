@@ -1,10 +1,9 @@
 -- A write that isn't of the rows of spaces and indexes comes to the same where what it reads met nothing that was touched.
-use Rattle.std.proofs.Common.{◌≡◌, ℕ, Bool, true, false, ◌||◌, List, [], ◌∷◌, Option, Some, None, Result, Ok, Err, refl, sym, ap, ◌∙◌}
-use Rattle.std.specs.Prelude.{length, ◌==◌, if◌then◌else◌}
+use Rattle.std.proofs.Common.{◌≡◌, ℕ, Bool, true, false, ◌||◌, List, [], ◌∷◌, Option, Some, None, Ok, refl, sym, ap, ◌∙◌}
+use Rattle.std.specs.Prelude.{◌==◌, if◌then◌else◌}
 use Rattle.mx_base.specs.declared.refusal.Refusal.{Refusal}
 use Rattle.mx_base.specs.declared.refusal.Refusal.TheVariants.{IndexMissing}
 use Rattle.mx_key.specs.Keys.{Key}
-use Rattle.mx_key.specs.Parts.{whole_key}
 use Rattle.mx_row.specs.Rows.{delete_type, insert_type, replace_type, update_type, upsert_type}
 use Rattle.mx_schema.specs.declared.index_def.IndexDef.{IndexDef}
 use Rattle.mx_schema.specs.declared.schema.Schema.{Schema}
@@ -20,9 +19,9 @@ use Rattle.mx_write.specs.Delete.{delete_found, deletes}
 use Rattle.mx_write.specs.Descriptions.{build_fault_by, description_fault, drop_fault, new_index_fault}
 use Rattle.mx_write.specs.Insert.{inserts, inserts_taken}
 use Rattle.mx_write.specs.Judge.{judged_write}
-use Rattle.mx_write.specs.Judged.{Judged, found, found_or, judged_as, reads_of, unless, ◌>>=◌}
-use Rattle.mx_write.specs.Lookup.{all_indexes, entry_with, key_or_refusal, other_indexes, own_key, the_index, the_key, the_primary, the_space, the_unique_index, tuple_under, unless_unique}
-use Rattle.mx_write.specs.Made.{Made, made, nothing}
+use Rattle.mx_write.specs.Judged.{Judged, judged_as, reads_of, unless, ◌>>=◌}
+use Rattle.mx_write.specs.Lookup.{all_indexes, entry_with, other_indexes, own_key, the_index, the_key, the_primary, the_space, the_unique_index, tuple_under, unless_unique}
+use Rattle.mx_write.specs.Made.{Made, made}
 use Rattle.std.specs.List.{AllByRecursion}
 use Rattle.mx_write.specs.Reads.{index_read, key_read}
 use Rattle.mx_write.specs.Replace.{replaces}
