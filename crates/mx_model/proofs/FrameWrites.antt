@@ -28,7 +28,7 @@ use Rattle.mx_write.specs.Replace.{replaces}
 use Rattle.mx_write.specs.Unique.{are_free}
 use Rattle.mx_write.specs.Update.{key_change, put_in_place, the_operations, tuple_or_refusal, update_found, updates}
 use Rattle.mx_write.specs.Upsert.{upsert_found, upserts}
-use Rattle.mx_write.specs.Writable.{describes_schema, primary_name, write_refusal}
+use Rattle.mx_write.specs.Writable.{describes_schema, primary_name, tuple_in_space, write_refusal}
 use Rattle.mx_write.specs.Writes.{Write, Insert, Replace, Update, Delete, Upsert}
 use Rattle.mx_write.proofs.StageLaws.{came_by, was_found}
 use Rattle.mx_model.specs.Frame.{AgreeBut}
@@ -123,7 +123,7 @@ module _ (touched : List Touched) (one other : State) (space : ℕ) (schema : Sc
         (λ _ _ after.
             later_same touched one (the_operations operations) _ _
             (λ applied _ next.
-                later_same touched one (judged_as (tuple_or_refusal (updated base old applied))) _ _
+                later_same touched one (judged_as (tuple_in_space writer space (tuple_or_refusal (updated base old applied)))) _ _
                 (λ new _ last. place_same (Update index base key operations) own new (new ∷ []) last) next)
             after)
         missed
@@ -141,7 +141,7 @@ module _ (touched : List Touched) (one other : State) (space : ℕ) (schema : Sc
     upsert_found_same (Some old) missed =
         later_same touched one (the_operations operations) _ _
         (λ applied _ next.
-            later_same touched one (judged_as (tuple_or_refusal (upserted base old applied))) _ _
+            later_same touched one (judged_as (tuple_in_space writer space (tuple_or_refusal (upserted base old applied)))) _ _
             (λ new _ last. place_same (Upsert base tuple operations) (own_key primary tuple) new [] last) next)
         missed
 
