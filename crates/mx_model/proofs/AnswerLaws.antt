@@ -130,7 +130,7 @@ abbrev pub Agrees : State → Answer → Type 0
 Agrees before answer =
     ((answer.row ≡ None) × (answer.change ≡ None)) ⊎ ((row : Row) × (answer.row ≡ Some row) × (IsSound before → answer.change ≡ row_change before row))
 
-write_agrees : (before : State) (space : ℕ) (write : Write) → Agrees before (write_answer_in before space write)
+pub write_agrees : (before : State) (space : ℕ) (write : Write) → Agrees before (write_answer_in before space write)
 write_agrees before space write = by_outcome (judged_write Client before space write).outcome refl
   where
     by_outcome : (outcome : Result Made Refusal) → (judged_write Client before space write).outcome ≡ outcome
@@ -142,7 +142,7 @@ write_agrees before space write = by_outcome (judged_write Client before space w
         by_row None none = inl (none, changes_nothing before space write made is none)
         by_row (Some row) its = inr (row, its, λ sound. sym (changes_again before space write made row sound is its))
 
-select_agrees : (before : State) (space index limit offset : ℕ) (iterator : IterKind) (key : List ℕ) → Agrees before (select_answer_in before space index limit offset iterator key)
+pub select_agrees : (before : State) (space index limit offset : ℕ) (iterator : IterKind) (key : List ℕ) → Agrees before (select_answer_in before space index limit offset iterator key)
 select_agrees before space index limit offset iterator key = by_schema (schema_of before space)
   where
     by_size : (source : ℕ) (def : IndexDef) (found : Selection) (whole : Range) (long : Bool) → Agrees before

@@ -125,8 +125,12 @@ module _ (touched : List Touched) (one other : State) where
           by_row : (def : Option SpaceDef) → space_of one space ≡ def → space_of other space ≡ space_of one space → BothThere one other space
           by_row None is same = inl (ap (schema_by one space) is, ap (schema_by other space) (same ∙ is))
           by_row (Some def) is same =
-              inr (record { def = def; indexes = indexes_of one space }, record { def = def; indexes = indexes_of other space },
-              ap (schema_by one space) is, ap (schema_by other space) (same ∙ is))
+              inr (
+                record { def = def; indexes = indexes_of one space },
+                record { def = def; indexes = indexes_of other space },
+                ap (schema_by one space) is,
+                ap (schema_by other space) (same ∙ is),
+              )
 
       -- ---- the rows of its indexes
 

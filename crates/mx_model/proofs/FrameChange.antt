@@ -138,9 +138,12 @@ module _ (before : State) (sound : IsSound before) where
     first_touched zero =
         let first : Touched = record { space = index_rows; key = two_key index.space.0 0; tuple = row } in
         let stood : get (tuples_in before index_rows) (two_key index.space.0 0) ≡ Some row =
-        ap (get (tuples_in before index_rows)) (ap (two_key index.space.0) (sym zero) ∙ sym old.same) ∙ old.stands in
-        (old.high, row, subst (λ n. Contains (touched_by before (change_of index_rows (two_key index.space.0 n) None)) first) (sym zero)
-        (touches_old before index_rows (two_key index.space.0 0) None row stood))
+        ap (get (tuples_in before index_rows)) (ap (two_key index.space.0) (sym zero) ∙ sym old.same) ∙ old.stands in (
+          old.high,
+          row,
+          subst (λ n. Contains (touched_by before (change_of index_rows (two_key index.space.0 n) None)) first) (sym zero)
+              (touches_old before index_rows (two_key index.space.0 0) None row stood),
+        )
 
     others_stay : (is_first : Bool) → (index.def.id.0 == 0) ≡ is_first → (q : ℕ) → IsIndexTouched gone q ⊎ (tuples_in (base is_first) q ≡ tuples_in before q)
     others_stay true zero q = by_space (q == index.space.0) refl

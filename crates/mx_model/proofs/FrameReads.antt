@@ -11,7 +11,8 @@ use Rattle.mx_schema.specs.State.{State}
 use Rattle.mx_write.specs.Reads.{Read}
 use Rattle.mx_model.specs.Touches.{Touched, index_in, is_met, lies_in_index, meets}
 
-both_false : (a b : Bool) → (a || b) ≡ false → (a ≡ false) × (b ≡ false)
+-- neither of two tests holds
+pub both_false : (a b : Bool) → (a || b) ≡ false → (a ≡ false) × (b ≡ false)
 both_false true b e = absurd cc
 both_false false b e = (refl, e)
 

@@ -1,5 +1,5 @@
 -- Statements one after the other are answered the same where nothing that rows touch meets what they read.
-use Rattle.std.proofs.Common.{◌≡◌, ℕ, Bool, true, false, ◌&&◌, ◌||◌, List, [], ◌∷◌, Option, refl, sym, ap, ◌∙◌, subst}
+use Rattle.std.proofs.Common.{◌≡◌, ℕ, false, ◌&&◌, ◌||◌, List, [], ◌∷◌, ◌++◌, Option, refl, sym, ap, ◌∙◌, subst, append_assoc}
 use Rattle.std.specs.Prelude.{◌==◌}
 use Rattle.std.specs.List.{AllByRecursion, list_any}
 use Rattle.mx_msgpack.specs.Readers.{◌>>=◌}
@@ -19,7 +19,7 @@ use Rattle.mx_model.specs.Touches.{Touched, index_in, is_met, lies_in_index, mee
 use Rattle.mx_model.specs.statements.Answer.{Answer}
 use Rattle.mx_model.specs.statements.Statement.{Statement}
 use Rattle.mx_model.proofs.FrameLaws.{answered_same}
-use Rattle.mx_model.proofs.FrameReads.{missed_parts}
+use Rattle.mx_model.proofs.FrameReads.{both_false, missed_parts}
 use Rattle.mx_model.proofs.FrameSteps.{IsPlainChange, answer_sound, changed_agree, described_after, plain_change, row_agrees, row_sound}
 
 -- ---- where spaces are described the same, the same is met
@@ -86,11 +86,25 @@ pub run_same : (touched : List Touched) (one other : State) (statements : List S
 run_same touched one other statements agree sound still plain missed =
     statements_same one touched one other (record { agree = agree; sound = sound; still = still; described = λ space. refl }) statements plain missed
 
--- ---- rows of commits
+-- ---- statements that follow others
 
-neither : (a b : Bool) → (a || b) ≡ false → (a ≡ false) × (b ≡ false)
-neither true b e = absurd cc
-neither false b e = (refl, e)
+-- they are answered in the state after these
+pub answers-append : (before : State) (statements later : List Statement)
+    → answers_from before (statements ++ later) ≡ answers_from before statements ++ answers_from (state_after_statements before statements) later
+answers-append before [] later = refl
+answers-append before (statement ∷ statements) later =
+    ap (λ answers. answer_to_statement before statement ∷ answers) (answers-append (state_after_statement before statement) statements later)
+
+pub after-append : (before : State) (statements later : List Statement)
+    → state_after_statements before (statements ++ later) ≡ state_after_statements (state_after_statements before statements) later
+after-append before [] later = refl
+after-append before (statement ∷ statements) later = after-append (state_after_statement before statement) statements later
+
+pub reads-append : (answers later : List Answer) → reads_in (answers ++ later) ≡ reads_in answers ++ reads_in later
+reads-append [] later = refl
+reads-append (answer ∷ answers) later = ap (λ reads. answer.reads ++ reads) (reads-append answers later) ∙ sym (append_assoc answer.reads (reads_in answers) (reads_in later))
+
+-- ---- rows of commits
 
 -- rows whose tuples are bytes keep a state sound
 pub rows_stay_sound : (before : State) (rows : List Row) → IsSound before → AllByRecursion (λ (row : Row). HasBytes (write_of row)) rows → StaysSound before rows
@@ -109,6 +123,6 @@ rows_leave before (row ∷ rows) statements sound plain missed =
     let after = state_after_row before row in
     let touched = touched_by_change before (row_change before row) in
     let reads = reads_in (answers_from before statements) in
-    let parts = neither (meets before touched reads) (rows_meet after rows reads) missed in
+    let parts = both_false (meets before touched reads) (rows_meet after rows reads) missed in
     let same = (run_same touched before after statements (row_agrees before sound.0 row) sound.0 (first_sound after rows sound.1) plain parts.0).0 in
     rows_leave after rows statements sound.1 plain (ap (λ (answers : List Answer). rows_meet after rows (reads_in answers)) same ∙ parts.1) ∙ same

@@ -1,5 +1,5 @@
 -- What statements make of two states that agree but for what was touched, and what any statement or row touches.
-use Rattle.std.proofs.Common.{◌≡◌, ◌⊎◌, inl, inr, ℕ, Bool, true, false, ◌||◌, List, ◌++◌, Option, Some, None, Result, Ok, Err, refl, sym, ap, ◌∙◌, subst}
+use Rattle.std.proofs.Common.{◌≡◌, ◌⊎◌, inl, inr, ℕ, Bool, true, false, List, ◌++◌, Option, Some, None, Result, Ok, Err, refl, sym, ap, ◌∙◌, subst}
 use Rattle.std.specs.Prelude.{nat_lt, ◌==◌, if◌then◌else◌}
 use Rattle.std.specs.FinMap.{insert, remove}
 use Rattle.mx_base.specs.declared.kinds.Unsupported.TheVariants.{HashIterator}
@@ -36,6 +36,7 @@ use Rattle.mx_model.specs.statements.Lookup.{in_def, in_schema}
 use Rattle.mx_model.specs.statements.Select.{asked_key, iterator_of, part_count, range_reads, select_answer, select_answer_in, select_by_key, select_found, select_in_index, takes_iterator}
 use Rattle.mx_model.specs.statements.Statement.{Operation, Selects, Writes}
 use Rattle.mx_model.specs.statements.Write.{answer_of_outcome}
+use Rattle.mx_model.proofs.FrameReads.{both_false}
 use Rattle.mx_model.proofs.FrameChange.{after_removed, agree_after, change_agrees}
 
 -- ---- a SELECT changes nothing
@@ -126,17 +127,13 @@ plain_change before space (Writes write) plain = by_outcome (judged_write Client
     by_outcome (Ok is) e = by_case is (wrote Client before space is write e)
     by_outcome (Err why) e = inl refl
 
-either_false : (a b : Bool) → (a || b) ≡ false → (a ≡ false) × (b ≡ false)
-either_false true b e = absurd cc
-either_false false b e = (refl, e)
-
 -- two states still agree after it
 pub changed_agree : (touched : List Touched) (one other : State) → AgreeBut touched one other → (change : Option Change) → IsPlainChange change
     → AgreeBut touched (state_after_changed one change) (state_after_changed other change)
 changed_agree touched one other agree change (inl none) = subst (λ (c : Option Change). AgreeBut touched (state_after_changed one c) (state_after_changed other c)) (sym none) agree
 changed_agree touched one other agree change (inr (space, key, tuple, is, plain)) =
     subst (λ (c : Option Change). AgreeBut touched (state_after_changed one c) (state_after_changed other c)) (sym is)
-    (agree_after touched one other agree space key tuple (either_false (space == space_rows) (space == index_rows) plain).1)
+    (agree_after touched one other agree space key tuple (both_false (space == space_rows) (space == index_rows) plain).1)
 
 -- and spaces are described as before it
 pub described_after : (before : State) (change : Option Change) → IsPlainChange change → (q : ℕ) → schema_of (state_after_changed before change) q ≡ schema_of before q
@@ -145,10 +142,10 @@ described_after before change (inr (space, key, tuple, is, plain)) q =
     ap (λ (c : Option Change). schema_of (state_after_changed before c) q) is ∙ by_tuple tuple
   where
     no_space : (space == space_rows) ≡ false
-    no_space = (either_false (space == space_rows) (space == index_rows) plain).0
+    no_space = (both_false (space == space_rows) (space == index_rows) plain).0
 
     no_index : (space == index_rows) ≡ false
-    no_index = (either_false (space == space_rows) (space == index_rows) plain).1
+    no_index = (both_false (space == space_rows) (space == index_rows) plain).1
 
     by_tuple : (tuple : Option (List ℕ)) → schema_of (state_after_change before (change_of space key tuple)) q ≡ schema_of before q
     by_tuple None = ap (λ s. schema_of s q) (after_removed before space key no_index) ∙ schema_set before space (remove (tuples_in before space) key) no_space no_index q

@@ -1,5 +1,5 @@
 -- A write that isn't of the rows of spaces and indexes comes to the same where what it reads met nothing that was touched.
-use Rattle.std.proofs.Common.{◌≡◌, ℕ, Bool, true, false, ◌||◌, List, [], ◌∷◌, Option, Some, None, Ok, refl, sym, ap, ◌∙◌}
+use Rattle.std.proofs.Common.{◌≡◌, ℕ, false, List, [], ◌∷◌, Option, Some, None, Ok, refl, sym, ap, ◌∙◌}
 use Rattle.std.specs.Prelude.{◌==◌, if◌then◌else◌}
 use Rattle.mx_base.specs.declared.refusal.Refusal.{Refusal}
 use Rattle.mx_base.specs.declared.refusal.Refusal.TheVariants.{IndexMissing}
@@ -35,14 +35,10 @@ use Rattle.mx_model.specs.Frame.{AgreeBut}
 use Rattle.mx_model.specs.Touches.{Touched}
 use Rattle.mx_model.proofs.FrameCatalogue.{tuples_agree}
 use Rattle.mx_model.proofs.FrameLookups.{IsAlike, by_number, entry_same, free_same, others_known, under_same}
-use Rattle.mx_model.proofs.FrameReads.{AreMissed, missed_parts}
+use Rattle.mx_model.proofs.FrameReads.{AreMissed, both_false, missed_parts}
 use Rattle.mx_model.proofs.FrameStages.{both_same, in_space_same, index_reads, later_same, unique_index_reads}
 
 -- ---- what only rows of spaces and indexes are asked
-
-either_false : (a b : Bool) → (a || b) ≡ false → (a ≡ false) × (b ≡ false)
-either_false true b e = absurd cc
-either_false false b e = (refl, e)
 
 module _ (space : ℕ) (elsewhere : describes_schema space ≡ false) where
   abbrev by_space : (spaces indexes : Option Refusal) → Option Refusal
@@ -50,7 +46,7 @@ module _ (space : ℕ) (elsewhere : describes_schema space ≡ false) where
 
   asks_nothing : (spaces indexes : Option Refusal) → by_space spaces indexes ≡ None
   asks_nothing spaces indexes =
-      let parts = either_false (space == space_rows) (space == index_rows) elsewhere in
+      let parts = both_false (space == space_rows) (space == index_rows) elsewhere in
       ap (λ b. if b then spaces else if space == index_rows then indexes else None) parts.0 ∙ ap (λ b. if b then indexes else None) parts.1
 
   described_same : (one other : State) (tuple : List ℕ) → description_fault other space tuple ≡ description_fault one space tuple
@@ -61,7 +57,7 @@ module _ (space : ℕ) (elsewhere : describes_schema space ≡ false) where
 
   built_same : (one other : State) (tuple : List ℕ) → new_index_fault other space tuple ≡ new_index_fault one space tuple
   built_same one other tuple =
-      let is_other = (either_false (space == space_rows) (space == index_rows) elsewhere).1 in
+      let is_other = (both_false (space == space_rows) (space == index_rows) elsewhere).1 in
       ap (λ b. if b then build_fault_by other (index_in tuple) else None) is_other ∙ sym (ap (λ b. if b then build_fault_by one (index_in tuple) else None) is_other)
 
 -- a unique index that was found is one of the space's
@@ -98,8 +94,8 @@ module _ (touched : List Touched) (one other : State) (space : ℕ) (schema : Sc
   place_same write key tuple shown missed =
       later_same touched one (unless (tuple_fault schema primary tuple)) _ _
       (λ _ _ after.
-          later_same touched one (unless (key_change schema (own_key primary tuple) key)) _ _
-          (λ _ _ last. free_made key tuple (made space write key (Some tuple) shown) last) after)
+      later_same touched one (unless (key_change schema (own_key primary tuple) key)) _ _
+      (λ _ _ last. free_made key tuple (made space write key (Some tuple) shown) last) after)
       missed
 
   -- ---- what each write makes of what it found
@@ -110,8 +106,8 @@ module _ (touched : List Touched) (one other : State) (space : ℕ) (schema : Sc
       both_same touched one (unless (description_fault one space tuple)) (unless (description_fault other space tuple)) _ _
       (λ _. ap unless (described_same space elsewhere one other tuple))
       (λ _ _ after.
-          free_then None tuple (all_indexes primary schema) (by_number touched one other space schema alike 0 primary first, others_known touched one other space schema alike) _ _
-          (λ _ _. ap (λ fault. unless fault >>= λ _. made space (Insert tuple) (own_key primary tuple) (Some tuple) (tuple ∷ [])) (built_same space elsewhere one other tuple)) after)
+      free_then None tuple (all_indexes primary schema) (by_number touched one other space schema alike 0 primary first, others_known touched one other space schema alike) _ _
+      (λ _ _. ap (λ fault. unless fault >>= λ _. made space (Insert tuple) (own_key primary tuple) (Some tuple) (tuple ∷ [])) (built_same space elsewhere one other tuple)) after)
       missed
 
   module _ (writer : Writer) (index base : ℕ) (key operations : List ℕ) where
@@ -121,11 +117,11 @@ module _ (touched : List Touched) (one other : State) (space : ℕ) (schema : Sc
     update_found_same (Some (own, old)) missed =
         later_same touched one (unless (write_refusal writer space update_type (Some old))) _ _
         (λ _ _ after.
-            later_same touched one (the_operations operations) _ _
-            (λ applied _ next.
-                later_same touched one (judged_as (tuple_in_space writer space (tuple_or_refusal (updated base old applied)))) _ _
-                (λ new _ last. place_same (Update index base key operations) own new (new ∷ []) last) next)
-            after)
+        later_same touched one (the_operations operations) _ _
+        (λ applied _ next.
+        later_same touched one (judged_as (tuple_in_space writer space (tuple_or_refusal (updated base old applied)))) _ _
+        (λ new _ last. place_same (Update index base key operations) own new (new ∷ []) last) next)
+        after)
         missed
 
     delete_found_same : describes_schema space ≡ false → (entry : Option Indexed) → delete_found writer other space index key entry ≡ delete_found writer one space index key entry
@@ -141,8 +137,8 @@ module _ (touched : List Touched) (one other : State) (space : ℕ) (schema : Sc
     upsert_found_same (Some old) missed =
         later_same touched one (the_operations operations) _ _
         (λ applied _ next.
-            later_same touched one (judged_as (tuple_in_space writer space (tuple_or_refusal (upserted base old applied)))) _ _
-            (λ new _ last. place_same (Upsert base tuple operations) (own_key primary tuple) new [] last) next)
+        later_same touched one (judged_as (tuple_in_space writer space (tuple_or_refusal (upserted base old applied)))) _ _
+        (λ new _ last. place_same (Upsert base tuple operations) (own_key primary tuple) new [] last) next)
         missed
 
 -- ---- the tuple that a key finds in a unique index
@@ -161,8 +157,8 @@ module _ (touched : List Touched) (one other : State) (space : ℕ) (schema : Sc
   keyed_same def there same missed =
       later_same touched one (the_primary schema) _ _
       (λ primary is_first after.
-          let first = was_found (IndexMissing (record { 0 = 0 }) schema.def.name) (index_with 0 schema.indexes) primary is_first in
-          later_same touched one (the_key def key) _ _ (λ asked _ last. by_key primary first asked last) after)
+      let first = was_found (IndexMissing (record { 0 = 0 }) schema.def.name) (index_with 0 schema.indexes) primary is_first in
+      later_same touched one (the_key def key) _ _ (λ asked _ last. by_key primary first asked last) after)
       missed
     where
       by_key : (primary : IndexDef) → index_with 0 schema.indexes ≡ Some primary → (asked : Key)
@@ -199,11 +195,11 @@ module _ (touched : List Touched) (one other : State) (agree : AgreeBut touched 
       (λ schema primary. unless (tuple_fault schema primary tuple) >>= λ _. next schema primary)
       (λ schema. index_reads touched one space schema 0)
       (λ schema is are rows looked.
-          later_same touched one (the_index space schema 0) _ _
-          (λ primary is_first after.
-              let first = was_found (IndexMissing (record { 0 = 0 }) schema.def.name) (index_with 0 schema.indexes) primary is_first in
-              later_same touched one (unless (tuple_fault schema primary tuple)) _ _ (λ _ _ last. same schema (alike_by schema is are rows) primary first last) after)
-          looked)
+      later_same touched one (the_index space schema 0) _ _
+      (λ primary is_first after.
+      let first = was_found (IndexMissing (record { 0 = 0 }) schema.def.name) (index_with 0 schema.indexes) primary is_first in
+      later_same touched one (unless (tuple_fault schema primary tuple)) _ _ (λ _ _ last. same schema (alike_by schema is are rows) primary first last) after)
+      looked)
       missed
 
   insert_same : (tuple : List ℕ) → AreMissed one touched (inserts writer one space tuple).reads → inserts writer other space tuple ≡ inserts writer one space tuple
@@ -258,11 +254,11 @@ module _ (touched : List Touched) (one other : State) (agree : AgreeBut touched 
       (λ schema. keyed_in space index key schema one (finish schema)) (λ schema. keyed_in space index key schema other (next schema))
       (λ schema. unique_index_reads touched one space schema index)
       (λ schema is are rows looked.
-          later_same touched one (the_unique_index space schema index) _ _
-          (λ def is_found after.
-              let alike = alike_by schema is are rows in
-              keyed_same touched one other space schema alike index key (finish schema) (next schema) def (unique_found space schema index def is_found) (same schema alike) after)
-          looked)
+      later_same touched one (the_unique_index space schema index) _ _
+      (λ def is_found after.
+      let alike = alike_by schema is are rows in
+      keyed_same touched one other space schema alike index key (finish schema) (next schema) def (unique_found space schema index def is_found) (same schema alike) after)
+      looked)
       missed
 
   update_same : (index base : ℕ) (key operations : List ℕ) → AreMissed one touched (updates writer one space index base key operations).reads

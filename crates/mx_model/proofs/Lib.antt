@@ -44,3 +44,4 @@ pub mod FrameLaws
 pub mod FrameChange
 pub mod FrameSteps
 pub mod FrameRuns
+pub mod FrameCommit

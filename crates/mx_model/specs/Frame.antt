@@ -1,5 +1,5 @@
 -- The frame of a statement: two states that agree but for what was touched, between which a statement that read none of it can't tell.
-use Rattle.std.specs.Prelude.{◌≡◌, ◌⊎◌, ⊤, ℕ, ◌≤◌, pos, false, List, [], ◌∷◌, ◌++◌, Some}
+use Rattle.std.specs.Prelude.{◌≡◌, ◌⊎◌, ⊤, ℕ, ◌≤◌, pos, false, List, [], ◌∷◌, ◌++◌, Option, Some, None}
 use Rattle.std.specs.FinMap.{get}
 use Rattle.std.specs.List.{Contains}
 use Rattle.mx_key.specs.Keys.{Key, Integer}
@@ -72,6 +72,16 @@ answers_from before (statement ∷ later) = answer_to_statement before statement
 abbrev pub reads_in : List Answer → List Read
 reads_in [] = []
 reads_in (answer ∷ later) = answer.reads ++ reads_in later
+
+-- the row that an answer writes, before others
+abbrev pub with_row : Option Row → List Row → List Row
+with_row None rows = rows
+with_row (Some row) rows = row ∷ rows
+
+-- the rows that answers write, one after the other
+abbrev pub rows_in : List Answer → List Row
+rows_in [] = []
+rows_in (answer ∷ later) = with_row answer.row (rows_in later)
 
 -- a state is sound, and stays so after each of these rows
 abbrev pub StaysSound : State → List Row → Type 0

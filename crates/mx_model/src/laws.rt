@@ -10,7 +10,7 @@ ghost use Rattle.mx_outside.specs.Disks.{Files};
 ghost use Rattle.mx_model.specs.declared.damage.Damage.{Damage};
 ghost use Rattle.mx_model.specs.Answers.{answer_in_space, answer_to, state_after_row, state_after_rows};
 ghost use Rattle.mx_model.specs.Directories.{AllFollow, IsDirectoryState, Reached, SameOutcome};
-ghost use Rattle.mx_model.specs.Frame.{AgreeBut, IsNoSchemaWrite, IsPlain, StaysSound, answers_from, reads_in, state_after_statements};
+ghost use Rattle.mx_model.specs.Frame.{AgreeBut, IsNoSchemaWrite, IsPlain, OperationHasBytes, StaysSound, answers_from, reads_in, rows_in, state_after_statements};
 ghost use Rattle.mx_model.specs.Histories.{Base, History, IsLegal, asks_in, asking, history_from, journal_of, remembered, state_of};
 ghost use Rattle.mx_model.specs.Touches.{Touched, meets, rows_meet, touched_by_change};
 ghost use Rattle.mx_model.specs.statements.Statement.{Operation, Statement};
@@ -81,4 +81,18 @@ pub fn untouched_runs_are_answered_the_same()
         → rows_meet before rows (reads_in (answers_from before statements)) ≡ false
         → answers_from (state_after_rows before rows) statements ≡ answers_from before statements }
     ensures sound { (before : State) (rows : List Row) → IsSound before → AllByRecursion (λ (row : Row). HasBytes (write_of row)) rows → StaysSound before rows }
+{}
+
+/// A theorem, which does nothing when it is called: what the statements of a transaction have written
+/// makes of the state, row after row, what the statements do; and so it does after the rows of others
+/// that touch nothing which the statements read.
+pub fn a_commit_is_its_statements()
+    ensures alone { (before : State) (statements : List Statement) → IsSound before → AllByRecursion (λ (statement : Statement). OperationHasBytes statement.operation) statements
+        → (state_after_rows before (rows_in (answers_from before statements)) ≡ state_after_statements before statements)
+        × StaysSound before (rows_in (answers_from before statements)) }
+    ensures later { (before : State) (others : List Row) (statements : List Statement) → StaysSound before others → AllByRecursion IsPlain statements
+        → rows_meet before others (reads_in (answers_from before statements)) ≡ false
+        → (state_after_rows (state_after_rows before others) (rows_in (answers_from before statements))
+        ≡ state_after_statements (state_after_rows before others) statements)
+        × StaysSound (state_after_rows before others) (rows_in (answers_from before statements)) }
 {}

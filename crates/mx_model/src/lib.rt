@@ -17,9 +17,9 @@ pub use apply::apply_row;
 pub use damage::{Damage, DamageKind};
 pub use ids::Ids;
 pub use laws::{
-    a_change_touches_all_that_it_changes, a_directory_stands_once, commits_are_sound,
-    replies_are_determined, rows_make_their_changes, untouched_runs_are_answered_the_same,
-    untouched_statements_are_answered_the_same,
+    a_change_touches_all_that_it_changes, a_commit_is_its_statements, a_directory_stands_once,
+    commits_are_sound, replies_are_determined, rows_make_their_changes,
+    untouched_runs_are_answered_the_same, untouched_statements_are_answered_the_same,
 };
 pub use new_database::bootstrap;
 pub use node::{WRITABLE_NODE, is_write, next_lsn};
