@@ -93,6 +93,32 @@ fn a_journal_may_set_the_leader(rt: HostRuntime) -> Result<(), Fail> {
     Ok(())
 }
 
+/// A tuple in the space of the nodes of the replica set, and what an INSERT of it by a journal is answered.
+const NODES: &[(&[u8], u16)] = &[
+    (b"\x92\x02\xd9\x2401234567-89ab-4def-8123-456789abcdef", 0),
+    (b"\x92\x1f\xd9\x2400000000-0000-0000-0000-000000000000", 0),
+    // The node that may be written, an id that is too great, and a third field.
+    (b"\x92\x01\xd9\x2401234567-89ab-4def-8123-456789abcdef", 5),
+    (b"\x92\x20\xd9\x2401234567-89ab-4def-8123-456789abcdef", 5),
+    (b"\x93\x02\xd9\x2401234567-89ab-4def-8123-456789abcdef\xc0", 5),
+    // Upper case, and no UUID.
+    (b"\x92\x02\xd9\x2401234567-89AB-4DEF-8123-456789ABCDEF", 5),
+    (b"\x92\x02\xa1x", 5),
+    (b"\x91\x02", 5),
+];
+
+#[test]
+fn a_journal_writes_rows_of_nodes(rt: HostRuntime) -> Result<(), Fail> {
+    let alloc = rt.alloc();
+    let state = state_of(&rt, alloc, &[])?;
+    let scope = scope_in(&state, alloc, Writer::Journal, 320);
+    for (tuple, inserted) in NODES {
+        let array = array_or_empty(tuple);
+        assert_eq!(&rt; code_in(scope.insert(array)), *inserted, "{tuple:?}");
+    }
+    Ok(())
+}
+
 #[test]
 fn an_insert_has_its_key_and_its_tuple(rt: HostRuntime) -> Result<(), Fail> {
     let alloc = rt.alloc();
