@@ -1,5 +1,5 @@
 -- The least of the views that slots have, and what a change of one slot makes of it.
-use Rattle.std.proofs.Common.{◌≡◌, ◌≢◌, ℕ, ◌≤◌, true, nat_eq, length, Option, Some, None, min, refl, sym, ap, ◌∙◌, inl, inr, arith, eq-eqb}
+use Rattle.std.proofs.Common.{◌≡◌, ◌≢◌, ℕ, ◌<◌, ◌≤◌, true, nat_eq, length, Option, Some, None, min, refl, sym, ap, ◌∙◌, inl, inr, arith, eq-eqb}
 use Rattle.std.proofs.Math.Nat.{min-eq_left, min-eq_right}
 use Rattle.std.proofs.lemmas.Bool.{cases_eq, cases_lt}
 use Rattle.std.proofs.lemmas.List.{get_or_past}
@@ -8,8 +8,15 @@ use Rattle.std.specs.Option.{option_eq}
 use Rattle.mx_txn.specs.declared.state.TxnState.{TxnState}
 use Rattle.mx_txn.specs.declared.state.TxnState.TheVariants.{Active, View, Aborted}
 use Rattle.mx_txn.specs.Slots.{Txns, IsOldestView}
-use Rattle.mx_txn.specs.Views.{States, txns_of, state_at, view_in, lesser_of, with_state, IsOldestBelow}
+use Rattle.mx_txn.specs.Views.{States, txns_of, state_at, view_in, lesser_of, with_state}
 use Rattle.mx_txn.proofs.StateLaws.{get-txns_of, get-with_state_same, get-with_state_other}
+
+-- the least view among so many first slots; none where they have no view
+abbrev pub IsOldestBelow : States → ℕ → Option ℕ → Type 0
+IsOldestBelow states number None = (slot at : ℕ) → slot < number → ¬ (view_in (state_at states slot) ≡ Some at)
+IsOldestBelow states number (Some oldest) =
+    ((slot : ℕ) × (slot < number) × (view_in (state_at states slot) ≡ Some oldest))
+    × ((slot at : ℕ) → slot < number → view_in (state_at states slot) ≡ Some at → oldest ≤ at)
 
 -- the number is the least of those that the slots have, none where they have none
 abbrev pub IsLeast : (ℕ → Option ℕ) → Option ℕ → Type 0

@@ -52,13 +52,6 @@ abbrev pub IsFirstVacant : States → ℕ → Option ℕ → Type 0
 IsFirstVacant states from None = (slot : ℕ) → from ≤ slot → slot < max_open → IsSome (state_at states slot)
 IsFirstVacant states from (Some vacant) = (from ≤ vacant) × (vacant < max_open) × (state_at states vacant ≡ None) × ((slot : ℕ) → from ≤ slot → slot < vacant → IsSome (state_at states slot))
 
--- the least view among so many first slots; none where they have no view
-abbrev pub IsOldestBelow : States → ℕ → Option ℕ → Type 0
-IsOldestBelow states number None = (slot at : ℕ) → slot < number → ¬ (view_in (state_at states slot) ≡ Some at)
-IsOldestBelow states number (Some oldest) =
-    ((slot : ℕ) × (slot < number) × (view_in (state_at states slot) ≡ Some oldest))
-    × ((slot at : ℕ) → slot < number → view_in (state_at states slot) ≡ Some at → oldest ≤ at)
-
 -- the numbers that are kept beside the states are right
 pub record AreCounted (states : States) (live vacant_from used : ℕ) (oldest : Option ℕ) : Type 0 where
   pub whole : length states ≡ max_open

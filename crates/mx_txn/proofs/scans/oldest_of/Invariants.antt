@@ -1,4 +1,4 @@
-use Rattle.mx_txn.specs.Views.{IsOldestBelow}
+use Rattle.mx_txn.proofs.LeastLaws.{IsOldestBelow}
 use Rattle.mx_txn.proofs.scans.oldest_of.Given as goal
 
 abbrev pub invariant-loop-state : goal.invariant-loop-state
