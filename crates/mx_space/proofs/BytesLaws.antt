@@ -6,7 +6,7 @@ use Rattle.std.specs.declared.cmp.Ordering.TheVariants.{Less, Equal, Greater}
 use Rattle.std.specs.BTreeMap.{insert_entry, is_at}
 use Rattle.std.specs.Cmp.{tied_itself}
 use Rattle.std.specs.Cmp.Lexicographic.{slice_cmp}
-use Rattle.std.specs.FinMap.{FinMap, empty, entries, entries-insert, entries_sorted, get, get-entries, get-insert, get-remove, insert, len-empty, len-entries, remove, same_map}
+use Rattle.std.specs.FinMap.{FinMap, empty, entries, entries-insert, entries_sorted, get, get-entries, get-remove, insert, len-empty, len-entries, remove}
 use Rattle.std.specs.FinMap.Entries.{below_all, by_order, find, find-where_key, is_sorted, is_sorted-where_key, put, same_entries, where_key}
 use Rattle.std.specs.List.{AllByRecursion}
 use Rattle.std.specs.Map.{lookup, remove_entry}
@@ -19,7 +19,7 @@ use Rattle.mx_key.specs.Comparable.{comparable_of}
 use Rattle.mx_key.proofs.EncodingLaws.{bytes_order}
 use Rattle.mx_key.proofs.KeyLaws.{key_cmp-IsAntisymmetric, key_cmp_total}
 use Rattle.mx_schema.proofs.OrderLaws.{both, lt_is}
-use Rattle.mx_space.specs.Changes.{without_key}
+use Rattle.mx_space.specs.Changes.{with_added, without_key}
 use Rattle.mx_space.specs.Entries.{IndexEntry, has_entry, with_entry}
 use Rattle.mx_space.specs.Kept.{StoresEntries, entry_bytes}
 use Rattle.mx_space.proofs.EntriesLaws.{tied_is}
@@ -182,9 +182,18 @@ module _ (key : Key) (fit : AreFit key) where
       ap (lookup (is_at (slice_cmp nat_cmp (comparable_of key)))) (sym keeps.same)
       ∙ found_bytes (entries all) keeps.fit ∙ ap (option_map comparable_of) (sym (get-entries all key))
 
+-- an entry under a key that had none
+pub stores_added : (key primary : Key) (added : Option (List ℕ)) → AreFit key → added ≡ Some (comparable_of key) → (kept : List IndexEntry) (all : Kept) → StoresEntries kept all
+    → get all key ≡ None → StoresEntries (with_added added (comparable_of primary) kept) (insert all key primary)
+stores_added key primary added fit is kept all keeps new =
+    let fresh : has_entry (comparable_of key) kept ≡ false = ap is_some (stored_entry key fit kept all keeps ∙ ap (option_map comparable_of) new) in
+    subst (λ a. StoresEntries (with_added a (comparable_of primary) kept) (insert all key primary)) (sym is)
+    (subst (λ b. StoresEntries (if b then kept else insert_entry (slice_cmp nat_cmp) kept (comparable_of key) (comparable_of primary)) (insert all key primary)) (sym fresh)
+    (stores_more key primary fit kept all keeps))
+
 -- ---- an entry that was added is taken back
 
-taken_back : (kept : List IndexEntry) (key primary : List ℕ) → lookup (is_at (slice_cmp nat_cmp key)) kept ≡ None
+pub taken_back : (kept : List IndexEntry) (key primary : List ℕ) → lookup (is_at (slice_cmp nat_cmp key)) kept ≡ None
     → remove_entry (is_at (slice_cmp nat_cmp key)) (insert_entry (slice_cmp nat_cmp) kept key primary) ≡ kept
 taken_back [] key primary none = ap (λ o. cond (is_eq o) [] ((key, primary) ∷ [])) (tied_itself nat_list_cmp_total key)
 taken_back (entry ∷ kept) key primary none = by_order_of (slice_cmp nat_cmp key entry.0) refl none (taken_back kept key primary)
@@ -227,18 +236,3 @@ undone_so kept key copy primary added now (Err why) is same new put = tt
 pub one_by_bytes : (one other : Key) → AreFit one → AreFit other → comparable_of one ≡ comparable_of other → one ≡ other
 one_by_bytes one other fit fits same =
     tied_is one other (ap is_eq (sym (bytes_order one other fit fits) ∙ ap (slice_cmp nat_cmp (comparable_of one)) (sym same) ∙ tied_itself nat_list_cmp_total (comparable_of one)))
-
--- one entry is removed behind another one that is added, or before it
-pub removed_behind : (all : Kept) (key other primary : Key) → eq_by_cmp key_cmp key other ≡ false → remove (insert all key primary) other ≡ insert (remove all other) key primary
-removed_behind all key other primary not_one =
-    same_map key_cmp_total key_cmp-IsAntisymmetric (remove (insert all key primary) other) (insert (remove all other) key primary)
-    (λ q. get-remove key_cmp_total (insert all key primary) other q ∙ ap (cond (eq_by_cmp key_cmp q other) None) (get-insert key_cmp_total all key primary q)
-    ∙ by_tests q (eq_by_cmp key_cmp q other) (eq_by_cmp key_cmp q key) refl refl
-    ∙ sym (get-insert key_cmp_total (remove all other) key primary q ∙ ap (cond (eq_by_cmp key_cmp q key) (Some primary)) (get-remove key_cmp_total all other q)))
-  where
-    by_tests : (q : Key) (a b : Bool) → eq_by_cmp key_cmp q other ≡ a → eq_by_cmp key_cmp q key ≡ b → cond a None (cond b (Some primary) (get all q)) ≡ cond b (Some primary) (cond a None (get all q))
-    by_tests q true true at_other at_key =
-        let same : q ≡ key = tied_is q key at_key in
-        absurd (true≢false (sym (ap (λ k. eq_by_cmp key_cmp k other) (sym same) ∙ at_other) ∙ not_one))
-    by_tests q true false at_other at_key = refl
-    by_tests q false b at_other at_key = refl

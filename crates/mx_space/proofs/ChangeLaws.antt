@@ -1,12 +1,9 @@
 -- What a write makes of the entries that are kept of each index.
-use Rattle.std.proofs.Common.{◌≡◌, ◌≢◌, ℕ, Bool, true, false, List, [], ◌∷◌, length, Option, Some, None, inl, inr, refl, sym, ap, ◌∙◌, subst}
-use Rattle.std.specs.Prelude.{◌==◌, is_some, if◌then◌else◌}
-use Rattle.std.specs.BTreeMap.{insert_entry}
-use Rattle.std.specs.Cmp.Lexicographic.{slice_cmp}
+use Rattle.std.proofs.Common.{◌≡◌, ℕ, Bool, true, false, List, [], ◌∷◌, length, Option, Some, None, inl, inr, refl, sym, ap, ◌∙◌, subst}
+use Rattle.std.specs.Prelude.{◌==◌}
 use Rattle.std.specs.FinMap.{get, insert, remove}
 use Rattle.std.specs.List.{AllZip}
-use Rattle.std.specs.Option.{option_map}
-use Rattle.std.specs.Ordering.{eq_by_cmp, nat_cmp}
+use Rattle.std.specs.Ordering.{eq_by_cmp}
 use Rattle.mx_key.specs.Keys.{Key, key_cmp}
 use Rattle.mx_key.specs.Comparable.{comparable_of}
 use Rattle.mx_msgpack.proofs.Options.{same_some}
@@ -14,24 +11,18 @@ use Rattle.mx_schema.specs.declared.index_def.IndexDef.{IndexDef}
 use Rattle.mx_schema.specs.State.{Tuples}
 use Rattle.mx_space.specs.declared.change.Change.{Change}
 use Rattle.mx_space.specs.Changes.{AddsEntry, IsNoChange, Puts, PutsByNumber, RemovesByNumber, Removes, all_changed, all_without, changed, with_added, without_key}
-use Rattle.mx_space.specs.Entries.{IndexEntry, has_entry}
+use Rattle.mx_space.specs.Entries.{IndexEntry}
 use Rattle.mx_space.specs.Built.{AreLong}
 use Rattle.mx_space.specs.Kept.{StoresByNumber, StoresEntries, StoresIndex, kept_entries}
 use Rattle.mx_space.specs.KeptKeys.{kept_key}
-use Rattle.mx_space.proofs.BytesLaws.{stored_entry, stores_less, stores_more, one_by_bytes, removed_behind}
-use Rattle.mx_space.proofs.EntriesLaws.{entries_with, entries_without, entry_is_new, tied_is, same_entry, without_entry}
+use Rattle.mx_space.proofs.BytesLaws.{one_by_bytes, stores_added, stores_less}
+use Rattle.mx_space.proofs.EntriesLaws.{entries_with, entries_without, entry_is_new, same_entry, without_entry}
+use Rattle.mx_space.proofs.KeyMapLaws.{left_apart, untied}
 
 -- nothing changes
 unchanged : (bytes : List ℕ) (change : Change) (kept : List IndexEntry) → IsNoChange change → changed bytes change kept ≡ kept
 unchanged bytes change kept none =
     ap (λ r. without_key r (with_added change.added bytes kept)) none.removed ∙ ap (λ a. with_added a bytes kept) none.added
-
-not_tied : (one other : Key) → comparable_of other ≢ comparable_of one → eq_by_cmp key_cmp one other ≡ false
-not_tied one other apart = by_test (eq_by_cmp key_cmp one other) refl
-  where
-    by_test : (b : Bool) → eq_by_cmp key_cmp one other ≡ b → b ≡ false
-    by_test true tied = absurd (apart (ap comparable_of (sym (tied_is one other tied))))
-    by_test false tied = refl
 
 module _ (tuples : Tuples) (long : ℕ) (whole : AreLong long tuples) (primary : Key) (is : length primary ≡ long) where
   abbrev bytes : List ℕ
@@ -43,13 +34,7 @@ module _ (tuples : Tuples) (long : ℕ) (whole : AreLong long tuples) (primary :
       added_to : (change : Change) (kept : List IndexEntry) → AddsEntry def primary tuple change → StoresEntries kept (kept_entries def tuples)
           → get (kept_entries def tuples) (kept_key def primary tuple) ≡ None
           → StoresEntries (with_added change.added bytes kept) (insert (kept_entries def tuples) (kept_key def primary tuple) primary)
-      added_to change kept adds keeps new =
-          let key = comparable_of (kept_key def primary tuple) in
-          let fresh : has_entry key kept ≡ false =
-          ap is_some (stored_entry (kept_key def primary tuple) adds.fit kept (kept_entries def tuples) keeps ∙ ap (option_map comparable_of) new) in
-          subst (λ a. StoresEntries (with_added a bytes kept) (insert (kept_entries def tuples) (kept_key def primary tuple) primary)) (sym adds.added)
-          (subst (λ b. StoresEntries (if b then kept else insert_entry (slice_cmp nat_cmp) kept key bytes) (insert (kept_entries def tuples) (kept_key def primary tuple) primary)) (sym fresh)
-          (stores_more (kept_key def primary tuple) primary adds.fit kept (kept_entries def tuples) keeps))
+      added_to change kept adds keeps new = stores_added (kept_key def primary tuple) primary change.added adds.fit adds.added kept (kept_entries def tuples) keeps new
 
       put_one : (kept : List IndexEntry) (change : Change) (old : Option (List ℕ)) → get tuples primary ≡ old → PutsByNumber false def primary tuple old change
           → StoresEntries kept (kept_entries def tuples) → StoresEntries (changed bytes change kept) (kept_entries def (insert tuples primary tuple))
@@ -66,10 +51,10 @@ module _ (tuples : Tuples) (long : ℕ) (whole : AreLong long tuples) (primary :
       put_one kept change (Some old) there (inr (adds, removes, apart)) keeps =
           let new_key = kept_key def primary tuple in
           let old_key = kept_key def primary old in
-          let other : eq_by_cmp key_cmp new_key old_key ≡ false = not_tied new_key old_key apart in
+          let other : eq_by_cmp key_cmp new_key old_key ≡ false = untied new_key old_key (λ same. apart (ap comparable_of (sym same))) in
           let new : kept_entries def (insert tuples primary tuple) ≡ remove (insert (kept_entries def tuples) new_key primary) old_key =
           entries_with def long tuples whole primary is tuple ∙ ap (λ o. insert (without_entry def primary o (kept_entries def tuples)) new_key primary) there
-          ∙ sym (removed_behind (kept_entries def tuples) new_key old_key primary other) in
+          ∙ sym (left_apart (kept_entries def tuples) new_key old_key primary other) in
           let fresh = entry_is_new def long tuples whole primary is tuple (Some old) there
           (λ replaced e. subst (λ o. eq_by_cmp key_cmp new_key (kept_key def primary o) ≡ false) (same_some old replaced e) other) in
           subst (λ r. StoresEntries (without_key r (with_added change.added bytes kept)) (kept_entries def (insert tuples primary tuple))) (sym removes.key_is)

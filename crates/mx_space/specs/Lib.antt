@@ -4,6 +4,8 @@ pub mod Changes
 pub mod Entries
 pub mod Kept
 pub mod KeptKeys
+pub mod Reserved
+pub mod Reserves
 pub mod Scans
 pub mod Selecting
 pub mod Spaces

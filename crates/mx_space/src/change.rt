@@ -76,7 +76,7 @@ pub(crate) fn remove_all(indexes: &mut [TreeIndex], keys: &[Option<Bytes>])
 ///
 /// # Errors
 /// Out of memory. Nothing changed then.
-fn add(
+pub(crate) fn add(
     alloc: Global,
     index: &mut TreeIndex,
     added: &Option<Bytes>,
@@ -94,7 +94,8 @@ fn add(
     index.insert(key, primary)
 }
 
-fn take_out(index: &mut TreeIndex, key: &Option<Bytes>)
+/// Takes the entry under a key out, where there is a key.
+pub(crate) fn take_out(index: &mut TreeIndex, key: &Option<Bytes>)
     ensures { index.new ≡ without_key key.now index.old }
 {
     if let Some(key) = key {

@@ -7,6 +7,7 @@ ghost use Rattle.mx_key.specs.Comparable.{comparable_of};
 ghost use Rattle.mx_key.specs.Keys.{Key, AreFit};
 ghost use Rattle.mx_space.specs.Changes.{IsNoChange, Puts, Removes};
 ghost use Rattle.mx_space.specs.KeptKeys.{kept_key};
+ghost use Rattle.mx_space.specs.Reserved.{Edits};
 
 use crate::change::Change;
 use mx_msgpack::Bytes;
@@ -51,6 +52,49 @@ pub(crate) fn removals_of(
         left = others;
     }
     Ok(keys)
+}
+
+/// What a change of a tuple does to each index, where a tuple with its primary key may stand already.
+pub(crate) fn edits_of(
+    alloc: Global,
+    defs: &[IndexDef],
+    primary: &[u8],
+    tuple: Option<&[u8]>,
+    old: Option<&[u8]>,
+) -> Result<Vec<Change>, AllocError>
+    ensures { (key : Key) → AreFit key → primary.now ≡ comparable_of key
+        → IfOk result (λ edits. AllZip (Edits key (option_copied tuple.entry) (option_copied old.entry)) defs.now edits.items) }
+{
+    let mut edits = Vec::new(alloc);
+    let mut left = defs;
+    while let Some((def, others)) = left.split_first() {
+        edits.push(edit_of(alloc, def, primary, tuple, old)?)?;
+        left = others;
+    }
+    Ok(edits)
+}
+
+fn edit_of(
+    alloc: Global,
+    def: &IndexDef,
+    primary: &[u8],
+    tuple: Option<&[u8]>,
+    old: Option<&[u8]>,
+) -> Result<Change, AllocError>
+    ensures { (key : Key) → AreFit key → primary.now ≡ comparable_of key
+        → IfOk result (λ edit. Edits key (option_copied tuple.entry) (option_copied old.entry) def.now edit) }
+{
+    if let Some(tuple) = tuple {
+        return change_of(alloc, def, primary, tuple, old);
+    }
+    let Some(old) = old else {
+        return Ok(no_change());
+    };
+    let removed = removal_of(alloc, def, primary, old)?;
+    Ok(Change {
+        added: None,
+        removed,
+    })
 }
 
 fn removal_of(

@@ -21,19 +21,23 @@ ghost use Rattle.mx_space.specs.Builds.{build_fault};
 ghost use Rattle.mx_space.specs.Built.{AreLong};
 ghost use Rattle.mx_space.specs.Changes.{Puts, Removes, index_kept};
 ghost use Rattle.mx_space.specs.Kept.{HoldsOneEach, StoresIndexed};
+ghost use Rattle.mx_space.specs.Reserved.{EditsAll, content_of, content_installed, content_readied, content_released};
 ghost use Rattle.mx_space.specs.Scans.{SelectsByKey};
 
 use crate::build::{BuildFault, new_entries};
 use crate::change::{Change, put_all, remove_all};
-use crate::changes::{changes_of, removals_of};
+use crate::changes::{changes_of, edits_of, removals_of};
 use crate::entries::is_joined;
 use crate::index::Index;
 use crate::pick::{Pick, SelectFault};
 use crate::places::{
     clear_all, find_index, insert_index, place_behind, remove_index, remove_indexes,
 };
+use crate::prepared::Step;
+use crate::reserve::{free_place, remove_added, remove_replaced, reserve_parts, set_tuple};
 use crate::selection::{as_fault, select_entries};
 use crate::tree_index::TreeIndex;
+use crate::tuple_changes::TupleChange;
 use mx_base::IndexId;
 use mx_key::{KeyRange, range_of_key};
 use mx_msgpack::{Bytes, Tuples};
@@ -237,6 +241,67 @@ impl Space {
             self.tuples.clear();
             clear_all(self.indexes.as_mut_slice());
         }
+    }
+
+    /// Takes the memory that a change needs.
+    ///
+    /// # Errors
+    /// Out of memory. Nothing changed then.
+    pub(crate) fn reserve(&mut self, alloc: Global, change: TupleChange) -> Result<Step, AllocError>
+        ensures change { IfOk result (λ step. step.change ≡ change) }
+        ensures edits { (all : plain.Tuples) (key : Key) → StoresTuples self.old.tuples.entries all → AreFit key → change.key ≡ comparable_of key
+            → IfOk result (λ step. EditsAll key change.tuple (finite.get all key) self.old.schema.indexes step.edits.items) }
+        ensures ok { IfOk result (λ step. content_of self.new ≡ content_readied step (content_of self.old)) }
+        ensures undo { IfOk result (λ step. content_released step (content_of self.new) ≡ content_of self.old) }
+        ensures err { OnErr result (content_of self.new ≡ content_of self.old) }
+    {
+        let edits = self.edits(alloc, &change)?;
+        let is_new = reserve_parts(
+            alloc,
+            &mut self.tuples,
+            self.indexes.as_mut_slice(),
+            edits.as_slice(),
+            &change,
+        )?;
+        Ok(Step {
+            change,
+            edits,
+            is_new,
+        })
+    }
+
+    /// Makes a change that is ready.
+    pub(crate) fn install(&mut self, step: Step)
+        ensures { content_of self.new ≡ content_installed step (content_of self.old) }
+    {
+        remove_replaced(self.indexes.as_mut_slice(), step.edits.as_slice());
+        let TupleChange { key, tuple, .. } = step.change;
+        set_tuple(&mut self.tuples, &key, tuple);
+    }
+
+    /// Takes back what was made ready of a change.
+    pub(crate) fn release(&mut self, step: &Step)
+        ensures { content_of self.new ≡ content_released step.now (content_of self.old) }
+    {
+        remove_added(self.indexes.as_mut_slice(), step.edits.as_slice());
+        free_place(&mut self.tuples, &step.change.key, step.is_new);
+    }
+
+    /// What a change does to each index; nothing is made where there is none beside the primary one.
+    fn edits(&self, alloc: Global, change: &TupleChange) -> Result<Vec<Change>, AllocError>
+        ensures { (all : plain.Tuples) (key : Key) → StoresTuples self.now.tuples.entries all → AreFit key → change.now.key ≡ comparable_of key
+            → IfOk result (λ edits. EditsAll key change.now.tuple (finite.get all key) self.now.schema.indexes edits.items) }
+    {
+        let defs = self.schema.indexes.as_slice();
+        if defs.len() < 2 {
+            return Ok(Vec::new(alloc));
+        }
+        let old = self.tuple(&change.key);
+        let tuple = match &change.tuple {
+            Some(tuple) => Some(tuple.as_slice()),
+            None => None,
+        };
+        edits_of(alloc, defs, change.key.as_slice(), tuple, old)
     }
 
     /// Whether there is no index beside the primary one.

@@ -1,6 +1,6 @@
 //! The spaces of a database in the order of their numbers.
 
-ghost use Rattle.std.specs.Prelude.{◌≡◌, ◌≢◌, ◌⊎◌, ℕ, [], Option, Some, None, Ok, MatchResult, OnOk, OnErr};
+ghost use Rattle.std.specs.Prelude.{◌≡◌, ◌≢◌, ◌⊎◌, ℕ, [], Option, Some, None, Ok, IfOk, MatchResult, OnOk, OnErr};
 ghost use Rattle.std.specs.FinMap as finite;
 ghost use Rattle.std.specs.Option.{option_copied};
 ghost use Rattle.mx_key.specs.Comparable.{comparable_of};
@@ -10,13 +10,17 @@ ghost use Rattle.mx_schema.specs.declared.schema.Schema as described;
 ghost use Rattle.mx_schema.specs.Catalogues.{index_with};
 ghost use Rattle.mx_schema.specs.SchemaChanges.{schema_with_index, schema_without_index, with_schema, without_index};
 ghost use Rattle.mx_schema.specs.State as plain;
+ghost use Rattle.mx_schema.specs.Stored.{StoresTuples};
 ghost use Rattle.mx_schema.specs.State.{key_in, tuples_in, with_tuple, without_tuple};
 ghost use Rattle.mx_space.specs.declared.build.BuildFault.TheVariants.{NoMemory};
 ghost use Rattle.mx_space.specs.Builds.{build_fault};
+ghost use Rattle.mx_space.specs.Reserved.{Content, EditsAll, changed_at, content_under, content_installed, content_readied, content_released};
 ghost use Rattle.mx_space.specs.Spaces.{IsAscending, IsAscending-prop, IsGapOf, IsPlaceOf, RemovesSpace, SetsSpace, space_under};
 
 use crate::build::BuildFault;
+use crate::prepared::Step;
 use crate::space::Space;
+use crate::tuple_changes::TupleChange;
 use mx_base::{IndexId, SpaceId};
 use mx_msgpack::Bytes;
 use mx_schema::{IndexDef, Keyed};
@@ -105,6 +109,46 @@ impl Spaces {
         match place_of(self.entries.as_slice(), id) {
             Ok(place) => self.entries[place].space.remove(alloc, key),
             Err(_) => Ok(()),
+        }
+    }
+
+    /// Takes the memory that a change needs; none where its space isn't there.
+    ///
+    /// # Errors
+    /// Out of memory. Nothing changed then.
+    pub(crate) fn reserve(&mut self, alloc: Global, change: TupleChange) -> Result<Step, AllocError>
+        ensures change { IfOk result (λ step. step.change ≡ change) }
+        ensures edits { (space : Content) (all : plain.Tuples) (key : Key) → content_under change.space.0 self.old.entries.items ≡ Some space → StoresTuples space.1 all → AreFit key → change.key ≡ comparable_of key
+            → IfOk result (λ step. EditsAll key change.tuple (finite.get all key) space.0.indexes step.edits.items) }
+        ensures ok { IfOk result (λ step. (q : ℕ) → content_under q self.new.entries.items ≡ changed_at change.space.0 (content_readied step) q (content_under q self.old.entries.items)) }
+        ensures undo { IfOk result (λ step. (q : ℕ) → changed_at change.space.0 (content_released step) q (content_under q self.new.entries.items) ≡ content_under q self.old.entries.items) }
+        ensures err { OnErr result ((q : ℕ) → content_under q self.new.entries.items ≡ content_under q self.old.entries.items) }
+    {
+        match place_of(self.entries.as_slice(), change.space) {
+            Ok(place) => self.entries[place].space.reserve(alloc, change),
+            Err(_) => Ok(Step {
+                change,
+                edits: Vec::new(alloc),
+                is_new: false,
+            }),
+        }
+    }
+
+    /// Makes a change that is ready.
+    pub(crate) fn install(&mut self, step: Step)
+        ensures { (q : ℕ) → content_under q self.new.entries.items ≡ changed_at step.change.space.0 (content_installed step) q (content_under q self.old.entries.items) }
+    {
+        if let Ok(place) = place_of(self.entries.as_slice(), step.change.space) {
+            self.entries[place].space.install(step);
+        }
+    }
+
+    /// Takes back what was made ready of a change.
+    pub(crate) fn release(&mut self, step: &Step)
+        ensures { (q : ℕ) → content_under q self.new.entries.items ≡ changed_at step.now.change.space.0 (content_released step.now) q (content_under q self.old.entries.items) }
+    {
+        if let Ok(place) = place_of(self.entries.as_slice(), step.change.space) {
+            self.entries[place].space.release(step);
         }
     }
 

@@ -1,7 +1,8 @@
 //! The state of a database: its spaces by number.
 
-ghost use Rattle.std.specs.Prelude.{◌≡◌, ◌≢◌, ◌⊎◌, ℕ, [], Option, Some, None, Ok, IfOk, MatchOption, MatchResult, OnOk, OnErr};
+ghost use Rattle.std.specs.Prelude.{◌≡◌, ◌≢◌, ◌⊎◌, ℕ, List, [], Option, Some, None, Ok, IfOk, MatchOption, MatchResult, OnOk, OnErr};
 ghost use Rattle.std.specs.FinMap as finite;
+ghost use Rattle.std.specs.List.{AllByRecursion, AllZip};
 ghost use Rattle.std.specs.Option.{option_copied};
 ghost use Rattle.mx_msgpack.specs.Items.{IsArray};
 ghost use Rattle.mx_key.specs.Comparable.{comparable_of};
@@ -16,15 +17,19 @@ ghost use Rattle.mx_schema.specs.State.{key_in, source_of, tuples_in, with_tuple
 ghost use Rattle.mx_schema.specs.Stored.{StoresTuples};
 ghost use Rattle.mx_space.specs.declared.build.BuildFault.TheVariants.{NoMemory};
 ghost use Rattle.mx_space.specs.Builds.{build_fault};
+ghost use Rattle.mx_space.specs.Reserves.{AreApart, PlainChange, IsReserved, MayStand, SpellsChange, state_with_all};
 ghost use Rattle.mx_space.specs.Scans.{SelectsByKey};
 ghost use Rattle.mx_space.specs.Spaces.{space_under};
 ghost use Rattle.mx_space.specs.Stored.{Holds, HoldsBy, HoldsSpace};
 
 use crate::build::BuildFault;
 use crate::pick::{Pick, SelectFault};
+use crate::prepared::Prepared;
+use crate::reserve_all::{install_all, release_all, reserve_all};
 use crate::selection::select_from;
 use crate::space::Space;
 use crate::spaces::{SpaceEntry, Spaces};
+use crate::tuple_changes::TupleChanges;
 use mx_base::{IndexId, SpaceId};
 use mx_key::KeyRange;
 use mx_msgpack::{Bytes, Tuples};
@@ -93,6 +98,33 @@ impl State {
         ensures err { (schemas : ℕ → Option described.Schema) (state : plain.State) → HoldsBy schemas self.old state → OnErr result (HoldsBy schemas self.new state) }
     {
         self.spaces.remove(alloc, id, key)
+    }
+
+    /// Takes all memory that changes need. The state is then read no more before `install` or `release`.
+    ///
+    /// # Errors
+    /// Out of memory. Nothing changed then.
+    pub fn reserve(&mut self, alloc: Global, changes: TupleChanges) -> Result<Prepared, AllocError>
+        ensures ok { (schemas : ℕ → Option described.Schema) (state : plain.State) (all : List PlainChange) → HoldsBy schemas self.old state
+            → AllZip SpellsChange changes all → AllByRecursion (MayStand schemas) all → AreApart all → IfOk result (λ prepared. IsReserved schemas self.new state prepared all) }
+        ensures err { (schemas : ℕ → Option described.Schema) (state : plain.State) → HoldsBy schemas self.old state → OnErr result (HoldsBy schemas self.new state) }
+    {
+        reserve_all(alloc, &mut self.spaces, changes)
+    }
+
+    /// Makes the changes that were made ready, all of them.
+    pub fn install(&mut self, prepared: Prepared)
+        ensures { (schemas : ℕ → Option described.Schema) (state : plain.State) (all : List PlainChange) → IsReserved schemas self.old state prepared all
+            → HoldsBy schemas self.new (state_with_all state all) }
+    {
+        install_all(&mut self.spaces, prepared);
+    }
+
+    /// Gives the memory back that was taken for changes, which aren't made.
+    pub fn release(&mut self, prepared: Prepared)
+        ensures { (schemas : ℕ → Option described.Schema) (state : plain.State) (all : List PlainChange) → IsReserved schemas self.old state prepared all → HoldsBy schemas self.new state }
+    {
+        release_all(&mut self.spaces, prepared);
     }
 
     /// Adds a space without indexes, where there is none of its number.

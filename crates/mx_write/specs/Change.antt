@@ -2,7 +2,8 @@
 use Rattle.std.specs.Prelude.{ℕ, ◌&&◌, List, Option, Some, None, is_none, ◌==◌, if◌then◌else◌}
 use Rattle.mx_key.specs.Keys.{Key}
 use Rattle.mx_schema.specs.SchemaChanges.{without_index}
-use Rattle.mx_schema.specs.State.{State, index_rows, with_tuple, without_tuple}
+use Rattle.mx_schema.specs.State.{State, index_rows}
+pub use Rattle.mx_space.specs.Reserves.{state_with}
 use Rattle.mx_write.specs.Descriptions.{index_named_by, space_named_by}
 
 -- the tuple that stands under a primary key of a space afterwards, or none
@@ -10,10 +11,6 @@ pub record Change : Type 0 where
   pub space : ℕ
   pub key : Key
   pub tuple : Option (List ℕ)
-
-abbrev pub state_with : State → (space : ℕ) → Key → (tuple : Option (List ℕ)) → State
-state_with before space key None = without_tuple before space key
-state_with before space key (Some tuple) = with_tuple before space key tuple
 
 -- a space's tuples go before the row of its primary index
 abbrev pub without_dropped : State → Change → State

@@ -1,0 +1,164 @@
+-- Only private functions and proofs need these: memory while changes of it are ready.
+use Rattle.std.specs.Prelude.{◌≡◌, ◌≢◌, ◌⊎◌, ◌<◌, ℕ, Bool, true, false, List, [], ◌∷◌, length, map, Option, Some, None, is_some, ◌==◌, if◌then◌else◌}
+use Rattle.std.specs.BTreeMap.{is_at}
+use Rattle.std.specs.Cmp.Lexicographic.{slice_cmp}
+use Rattle.std.specs.FinMap.{FinMap, get, insert, remove}
+use Rattle.std.specs.List.{AllByRecursion, AllZip}
+use Rattle.std.specs.Map.{remove_entry, set_value}
+use Rattle.std.specs.Option.{option_map}
+use Rattle.std.specs.Ordering.{nat_cmp}
+use Rattle.mx_key.specs.Keys.{Key, key_cmp}
+use Rattle.mx_schema.specs.declared.index_def.IndexDef.{IndexDef}
+use Rattle.mx_schema.specs.declared.schema.Schema.{Schema}
+use Rattle.mx_schema.specs.State.{Tuples}
+use Rattle.mx_schema.specs.Stored.{StandByPrimary, StoredTuple, StoresNone, StoresTuples}
+use Rattle.mx_space.specs.declared.change.Change.{Change}
+use Rattle.mx_space.specs.declared.prepared.Step.{Step}
+use Rattle.mx_space.specs.declared.space.Space.{Space}
+use Rattle.mx_space.specs.declared.spaces.SpaceEntry.{SpaceEntry}
+use Rattle.mx_space.specs.Changes.{IsNoChange, Puts, Removes, all_without, with_added}
+use Rattle.mx_space.specs.Entries.{IndexEntry, with_entry}
+use Rattle.mx_space.specs.Kept.{StoresEntries, kept_entries}
+use Rattle.mx_space.specs.KeptKeys.{kept_key}
+use Rattle.mx_space.specs.Spaces.{space_under}
+
+-- ---- what a change does to an index
+
+-- a tuple is put in the place of another one with its primary key, or taken out
+abbrev pub Edits : Key → (tuple old : Option (List ℕ)) → IndexDef → Change → Type 0
+Edits primary (Some tuple) old def change = Puts primary tuple old def change
+Edits primary None None def change = IsNoChange change
+Edits primary None (Some old) def change = (change.added ≡ None) × Removes primary old def change.removed
+
+-- the same in each index; nothing is said where there is no index beside the primary one
+abbrev pub EditsAll : Key → (tuple old : Option (List ℕ)) → List IndexDef → List Change → Type 0
+EditsAll primary tuple old defs changes = AllZip (Edits primary tuple old) defs changes ⊎ ((changes ≡ []) × (length defs < 2))
+
+-- ---- what memory has, as lists
+
+-- of a space: its schema, its tuples, and the entries of each index
+abbrev pub Content : Type 0
+Content = Schema × List StoredTuple × List (List IndexEntry)
+
+abbrev pub content_of : Space → Content
+content_of space = (space.schema, space.tuples.entries, space.indexes.items)
+
+-- of the space of a number
+abbrev pub content_under : (id : ℕ) → List SpaceEntry → Option Content
+content_under id entries = option_map content_of (space_under id entries)
+
+-- one space is changed
+abbrev pub changed_at : (id : ℕ) → (Content → Content) → (q : ℕ) → Option Content → Option Content
+changed_at id change q content = if q == id then option_map change content else content
+
+-- the entries of each index with those that changes add
+abbrev pub all_added : (primary : List ℕ) → List Change → List (List IndexEntry) → List (List IndexEntry)
+all_added primary [] kept = kept
+all_added primary (change ∷ changes) [] = []
+all_added primary (change ∷ changes) (one ∷ others) = with_added change.added primary one ∷ all_added primary changes others
+
+-- the keys that changes add
+abbrev pub added_keys : List Change → List (Option (List ℕ))
+added_keys changes = map (λ change. change.added) changes
+
+-- the keys that they remove
+abbrev pub removed_keys : List Change → List (Option (List ℕ))
+removed_keys changes = map (λ change. change.removed) changes
+
+-- tuples with a place for one under this key, where one will be put
+abbrev pub with_held : (tuple : Option (List ℕ)) → (key : List ℕ) → List StoredTuple → List StoredTuple
+with_held None key kept = kept
+with_held (Some tuple) key kept = with_entry key [] kept
+
+-- without the place, where it was new
+abbrev pub without_held : (is_new : Bool) → (key : List ℕ) → List StoredTuple → List StoredTuple
+without_held is_new key kept = if is_new then remove_entry (is_at (slice_cmp nat_cmp key)) kept else kept
+
+-- with the tuple in its place, or without it
+abbrev pub with_set : (tuple : Option (List ℕ)) → (key : List ℕ) → List StoredTuple → List StoredTuple
+with_set None key kept = remove_entry (is_at (slice_cmp nat_cmp key)) kept
+with_set (Some tuple) key kept = set_value (is_at (slice_cmp nat_cmp key)) kept tuple
+
+-- what is made ready of a change
+abbrev pub content_readied : Step → Content → Content
+content_readied step content = (
+  content.0,
+  with_held step.change.tuple step.change.key content.1,
+  all_added step.change.key step.edits.items content.2,
+)
+
+-- the change is made
+abbrev pub content_installed : Step → Content → Content
+content_installed step content = (
+  content.0,
+  with_set step.change.tuple step.change.key content.1,
+  all_without (removed_keys step.edits.items) content.2,
+)
+
+-- what was made ready is taken back
+abbrev pub content_released : Step → Content → Content
+content_released step content = (
+  content.0,
+  without_held step.is_new step.change.key content.1,
+  all_without (added_keys step.edits.items) content.2,
+)
+
+-- all of it, the last one first
+abbrev pub all_released : (q : ℕ) → List Step → Option Content → Option Content
+all_released q [] content = content
+all_released q (step ∷ earlier) content = all_released q earlier (changed_at step.change.space.0 (content_released step) q content)
+
+-- ---- what memory has, as maps
+
+-- the tuple that will stand under a primary key of a space, or none
+abbrev pub Coming : Type 0
+Coming = Key × Option (List ℕ)
+
+-- a key has none of these changes
+abbrev pub IsFree : Key → List Coming → Type 0
+IsFree key coming = AllByRecursion (λ (other : Coming). key ≢ other.0) coming
+
+-- tuples with a place under a key
+abbrev pub with_place : Coming → Tuples → Tuples
+with_place (key, None) tuples = tuples
+with_place (key, Some tuple) tuples = if is_some (get tuples key) then tuples else insert tuples key []
+
+-- a place under each key that will have a tuple
+abbrev pub with_places : Tuples → List Coming → Tuples
+with_places tuples [] = tuples
+with_places tuples (one ∷ coming) = with_place one (with_places tuples coming)
+
+-- an index's entries with that of a tuple that will be put
+abbrev pub with_coming : IndexDef → Coming → FinMap key_cmp Key → FinMap key_cmp Key
+with_coming def (key, None) all = all
+with_coming def (key, Some tuple) all = insert all (kept_key def key tuple) key
+
+-- those of tuples, and of those that will be put
+abbrev pub coming_entries : IndexDef → Tuples → List Coming → FinMap key_cmp Key
+coming_entries def tuples [] = kept_entries def tuples
+coming_entries def tuples (one ∷ coming) = with_coming def one (coming_entries def tuples coming)
+
+-- the tuples after a change
+abbrev pub tuples_with : Tuples → Coming → Tuples
+tuples_with tuples (key, None) = remove tuples key
+tuples_with tuples (key, Some tuple) = insert tuples key tuple
+
+-- the index of the number 0 has no entries beside the tuples
+abbrev pub StoresComingByNumber : (is_first : Bool) → IndexDef → Tuples → List Coming → List IndexEntry → Type 0
+StoresComingByNumber true def tuples coming kept = kept ≡ []
+StoresComingByNumber false def tuples coming kept = StoresEntries kept (coming_entries def tuples coming)
+
+abbrev pub StoresComing : Tuples → List Coming → IndexDef → List IndexEntry → Type 0
+StoresComing tuples coming def kept = StoresComingByNumber (def.id.0 == 0) def tuples coming kept
+
+-- a space with these tuples, where these changes are ready
+pub record StoresReserved (schema : Option Schema) (content : Content) (tuples : Tuples) (coming : List Coming) : Type 0 where
+  pub is : schema ≡ Some content.0
+  pub keeps : StoresTuples content.1 (with_places tuples coming)
+  pub stands : StandByPrimary content.0 tuples
+  pub indexes : AllZip (StoresComing tuples coming) content.0.indexes content.2
+
+-- what memory has of a space, where it has something
+abbrev pub HoldsReserved : (schema : Option Schema) → Option Content → Tuples → List Coming → Type 0
+HoldsReserved schema None tuples coming = StoresNone schema tuples
+HoldsReserved schema (Some content) tuples coming = StoresReserved schema content tuples coming
