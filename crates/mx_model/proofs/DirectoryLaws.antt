@@ -19,6 +19,7 @@ use Rattle.mx_model.specs.Histories.{Base}
 use Rattle.mx_model.specs.Directories.{Named, Reached, Continues, ReadAll, IsDirectoryState, ids_in, same_id, are_its_ids, ids_or, head_fits, reached_at, origin_of, after_origin, after_blocks, after_head, after_file, after_files, and_then}
 use Rattle.mx_xlog.specs.Files.{FileRead, ReadsAs}
 use Rattle.mx_files.specs.Names.{is_journal, is_snapshot, journal_name, same_bytes}
+use Rattle.mx_model.proofs.EachLaws.{each_of_both}
 
 -- the order of names
 abbrev pub by_name : List ℕ → List ℕ → Ordering
@@ -220,8 +221,7 @@ after_head-fits name file reached journal named ids clock =
     passes (head_fits name file.head reached) (same_bytes reached.clock file.head.clock) _ _ _ (three_true _ _ _ journal named ids) clock
 
 pub append_all : (P : Named → Type 0) (earlier : List Named) (last : Named) → AllByRecursion P earlier → P last → AllByRecursion P (earlier ++ last ∷ [])
-append_all P [] last all is = (is, tt)
-append_all P (file ∷ earlier) last all is = (all.0, append_all P earlier last all.1 is)
+append_all P earlier last all is = each_of_both P earlier (last ∷ []) all (is, tt)
 
 pub map-append : (earlier more : List Named) → names_of (earlier ++ more) ≡ names_of earlier ++ names_of more
 map-append [] more = refl

@@ -17,11 +17,11 @@ use Rattle.mx_model.proofs.AnswerLaws.{Agrees, select_agrees, write_agrees}
 use Rattle.mx_model.proofs.FrameRuns.{rows_leave}
 use Rattle.mx_model.proofs.FrameSteps.{answer_sound}
 
-operation_agrees : (before : State) (space : ℕ) (operation : Operation) → Agrees before (answer_in_space before space operation)
+pub operation_agrees : (before : State) (space : ℕ) (operation : Operation) → Agrees before (answer_in_space before space operation)
 operation_agrees before space (Selects index limit offset iterator key) = select_agrees before space index limit offset (iterator_of iterator) key
 operation_agrees before space (Writes write) = write_agrees before space write
 
-row_after : (before : State) (row : Row) (change : Option Change) → change ≡ row_change before row → state_after_row before row ≡ state_after_changed before change
+pub row_after : (before : State) (row : Row) (change : Option Change) → change ≡ row_change before row → state_after_row before row ≡ state_after_changed before change
 unfolding state_after_row
 row_after before row change changes = ap (state_after_changed before) (sym changes)
 
@@ -55,7 +55,8 @@ run_rows before (statement ∷ later) sound bytes =
         let after = subst (λ state. Makes state rest) (sym same) makes in
         subst (λ row. Makes before (with_row row rest)) (sym is) (after.0, (sound, after.1))
 
-last_sound : (before : State) (rows : List Row) → StaysSound before rows → IsSound (state_after_rows before rows)
+-- so it is sound after them
+pub last_sound : (before : State) (rows : List Row) → StaysSound before rows → IsSound (state_after_rows before rows)
 last_sound before [] sound = sound
 last_sound before (row ∷ rows) sound = last_sound (state_after_row before row) rows sound.1
 

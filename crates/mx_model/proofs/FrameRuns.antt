@@ -41,21 +41,21 @@ module _ (one other : State) (described : (space : ℕ) → schema_of one space 
 
 module _ (base : State) (touched : List Touched) where
   -- two states in which statements are made, described as a first one
-  record AreFramed (one other : State) : Type 0 where
-    agree : AgreeBut touched one other
-    sound : IsSound one
-    still : IsSound other
-    described : (space : ℕ) → schema_of base space ≡ schema_of one space
+  pub record AreFramed (one other : State) : Type 0 where
+    pub agree : AgreeBut touched one other
+    pub sound : IsSound one
+    pub still : IsSound other
+    pub described : (space : ℕ) → schema_of base space ≡ schema_of one space
 
   -- a statement is answered the same
-  statement_same : (one other : State) → AreFramed one other → (statement : Statement) → IsPlain statement → meets base touched (answer_to_statement one statement).reads ≡ false
+  pub statement_same : (one other : State) → AreFramed one other → (statement : Statement) → IsPlain statement → meets base touched (answer_to_statement one statement).reads ≡ false
       → answer_to_statement other statement ≡ answer_to_statement one statement
   statement_same one other framed statement plain missed =
       answered_same touched one other framed.agree framed.sound framed.still statement.space statement.operation plain.0
       (sym (meets_same base one framed.described touched (answer_to_statement one statement).reads) ∙ missed)
 
   -- and so are those after it
-  framed_after : (one other : State) → AreFramed one other → (statement : Statement) → IsPlain statement → answer_to_statement other statement ≡ answer_to_statement one statement
+  pub framed_after : (one other : State) → AreFramed one other → (statement : Statement) → IsPlain statement → answer_to_statement other statement ≡ answer_to_statement one statement
       → AreFramed (state_after_statement one statement) (state_after_statement other statement)
   framed_after one other framed statement plain same = record {
     agree = subst (λ (answer : Answer). AgreeBut touched (state_after_statement one statement) (state_after_changed other answer.change)) (sym same)
@@ -111,7 +111,7 @@ pub rows_stay_sound : (before : State) (rows : List Row) → IsSound before → 
 rows_stay_sound before [] sound bytes = sound
 rows_stay_sound before (row ∷ rows) sound bytes = (sound, rows_stay_sound (state_after_row before row) rows (row_sound before sound row bytes.0) bytes.1)
 
-first_sound : (before : State) (rows : List Row) → StaysSound before rows → IsSound before
+pub first_sound : (before : State) (rows : List Row) → StaysSound before rows → IsSound before
 first_sound before [] sound = sound
 first_sound before (row ∷ rows) sound = sound.0
 

@@ -1,3 +1,4 @@
+pub mod EachLaws
 pub mod HistoryLaws
 pub mod DirectoryLaws
 pub mod GrowthLaws
@@ -45,3 +46,17 @@ pub mod FrameChange
 pub mod FrameSteps
 pub mod FrameRuns
 pub mod FrameCommit
+pub mod OverlapFound
+pub mod OverlapSteps
+pub mod OverlapCommits
+pub mod OverlapStandings
+pub mod OverlapLasting
+pub mod AloneFrame
+pub mod AloneSound
+pub mod AlonePlaces
+pub mod AloneSteps
+pub mod AloneNames
+pub mod AloneStreams
+pub mod AloneRequests
+pub mod AloneCommits
+pub mod AloneSerial

@@ -21,6 +21,7 @@ use Rattle.mx_model.specs.declared.damage.Damage.{Damage}
 use Rattle.mx_model.specs.declared.damage.DamageKind.TheVariants.{Gap}
 use Rattle.mx_row.specs.declared.tx.Tx.{Tx}
 use Rattle.mx_schema.specs.State.{State}
+use Rattle.mx_schema.proofs.AloneLaws.{each_follows}
 use Rattle.mx_model.specs.Answers.{state_after_rows}
 use Rattle.mx_row.specs.Clocks.{last_lsn, clock_after_one, clock_after, follows}
 use Rattle.mx_row.specs.Rows.{IsTransaction, transactions_in}
@@ -28,6 +29,7 @@ use Rattle.mx_model.specs.Directories.{Named, Reached, ReadAll, Origin, IsDirect
 use Rattle.mx_xlog.specs.Files.{FileRead, ReadsAs, SameHead, SameFile, SameRead}
 use Rattle.mx_files.specs.Names.{is_journal, is_snapshot, journal_name, same_bytes}
 use Rattle.mx_model.proofs.DirectoryLaws.{by_name, names_in, names_of, same_itself}
+use Rattle.mx_model.proofs.EachLaws.{each_kept}
 
 -- ---- what is alike but for the bytes of identifiers
 
@@ -201,23 +203,10 @@ all_found (e ∷ es) = (
   all_still e es (names_in es) (all_found es),
 )
 
--- what holds of each holds of those that a test lets through
-all_kept : (P : List ℕ → Type 0) (p : List ℕ → Bool) (names : List (List ℕ)) → AllByRecursion P names → AllByRecursion P (filter p names)
-all_kept P p [] all = tt
-all_kept P p (name ∷ names) all = by_test (all_kept P p names all.1) (p name)
-  where
-    by_test : AllByRecursion P (filter p names) → (b : Bool) → AllByRecursion P (cond b (name ∷ filter p names) (filter p names))
-    by_test others true = (all.0, others)
-    by_test others false = others
-
-all_like : (P Q : List ℕ → Type 0) → ((name : List ℕ) → P name → Q name) → (names : List (List ℕ)) → AllByRecursion P names → AllByRecursion Q names
-all_like P Q like [] all = tt
-all_like P Q like (name ∷ names) all = (like name all.0, all_like P Q like names all.1)
-
 pub all_there : (files : Files) (p : List ℕ → Bool) → AllByRecursion (IsListed files) (filter p (finite.keys files))
 all_there files p =
-    all_kept (IsListed files) p (finite.keys files)
-    (all_like (λ name. is_some (find by_name name (finite.entries files)) ≡ true) (IsListed files) (λ name found. ap is_some (get-entries files name) ∙ found)
+    each_kept (IsListed files) p (finite.keys files)
+    (each_follows (λ name. is_some (find by_name name (finite.entries files)) ≡ true) (IsListed files) (λ name found. ap is_some (get-entries files name) ∙ found)
     (finite.keys files) (all_found (finite.entries files)))
 
 same_parts : (x y : List ℕ) (xs ys : List (List ℕ)) → x ∷ xs ≡ y ∷ ys → (x ≡ y) × (xs ≡ ys)

@@ -1,13 +1,17 @@
 pub mod statements
+pub mod Alone
 pub mod Answers
 pub mod Transactions
 pub mod Directories
 pub mod DamageText
 pub mod Histories
 pub mod Order
+pub mod Overlaps
 pub mod Gate
 pub mod Replies
 pub mod ReplyStream
+pub mod RunAlone
+pub mod Streams
 pub mod Survival
 pub mod SelectSteps
 pub mod Slow

@@ -11,6 +11,7 @@ mod out_units;
 mod reply;
 mod slow;
 mod statements;
+mod transaction_laws;
 mod txs;
 
 pub use apply::apply_row;
@@ -27,4 +28,10 @@ pub use out_units::{OutUnit, OutUnits};
 pub use reply::Reply;
 pub use slow::{ReadRange, ReadRanges, Slow};
 pub use statements::select::{iterator_of, misfit_refusal, part_count_refusal, takes_iterator};
+pub use transaction_laws::{
+    a_commit_makes_what_its_statements_did, a_commit_moves_what_it_overlaps,
+    a_commit_was_answered_alone, a_conflict_has_its_commit, a_view_keeps_its_place,
+    a_write_dooms_what_is_overlapped, committed_transactions_are_serializable,
+    open_transactions_stand_alone,
+};
 pub use txs::Txs;

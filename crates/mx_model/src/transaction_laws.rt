@@ -1,0 +1,112 @@
+//! Theorems on transactions that are open beside others. Each is a function that does nothing when it is
+//! called.
+
+ghost use Rattle.std.specs.Prelude.{◌≡◌, ◌≢◌, ◌⊎◌, ℕ, ◌<◌, ◌≤◌, ◌++◌, suc, pred, Bool, true, false, List, [], ◌∷◌, length, map, Some, slice_get};
+ghost use Rattle.std.specs.List.{AllByRecursion};
+ghost use Rattle.mx_base.specs.declared.ids.TxnName.{TxnName};
+ghost use Rattle.mx_request.specs.declared.request.Request.{Request};
+ghost use Rattle.mx_request.specs.declared.request.Request.TheVariants.{Commit};
+ghost use Rattle.mx_row.specs.declared.tx.Tx.{Tx};
+ghost use Rattle.mx_schema.specs.Sound.{IsSound};
+ghost use Rattle.mx_schema.specs.State.{State};
+ghost use Rattle.mx_model.specs.declared.ids.Ids.{Ids};
+ghost use Rattle.mx_model.specs.declared.reply.Reply.TheVariants.{Empty};
+ghost use Rattle.mx_model.specs.Alone.{AllStandAlone, StandsAlone, answers_alone};
+ghost use Rattle.mx_model.specs.Answers.{state_after_rows};
+ghost use Rattle.mx_model.specs.Frame.{IsPlain};
+ghost use Rattle.mx_model.specs.Histories.{CanBeAsked};
+ghost use Rattle.mx_model.specs.Overlaps.{Active, Doomed, IsWithin, Step, Transaction, View, has_row, is_some_row, place_of, reads_before, standing, standing_after_commit, standing_after_step, state_at, statements_in};
+ghost use Rattle.mx_model.specs.RunAlone.{run_alone, writes};
+ghost use Rattle.mx_model.specs.Streams.{Streams, commit_with, outcome_of, streams_after, streams_left, transaction_named, transaction_with, transaction_with_all};
+ghost use Rattle.mx_model.specs.Touches.{rows_meet};
+ghost use Rattle.mx_model.specs.Transactions.{is_schema_commit, state_after};
+ghost use Rattle.mx_model.specs.statements.Answer.{Answer};
+ghost use Rattle.mx_model.specs.statements.Statement.{Statement};
+
+/// A commit changes how an open transaction stands exactly as the table of `standing_after_commit` says: it
+/// overlaps one that wasn't overlapped where it touches what that one has read, and dooms one that has a
+/// row then; a schema commit dooms each one that is overlapped.
+pub fn a_commit_moves_what_it_overlaps()
+    ensures { (ids : Ids) (base : State) (journal : List Tx) (commit : Tx) (transaction : Transaction) → IsWithin (length journal) transaction
+        → standing ids base (journal ++ commit ∷ []) false transaction
+        ≡ standing_after_commit (has_row ids base journal (length journal) transaction.steps) (is_schema_commit commit)
+        (rows_meet (state_after base journal) commit.rows (reads_before (suc (length journal)) transaction.steps)) (length journal)
+        (standing ids base journal false transaction) }
+{}
+
+/// A statement of a transaction's own changes how it stands only where it is overlapped and the statement
+/// writes: then it is doomed, at that statement already.
+pub fn a_write_dooms_what_is_overlapped()
+    ensures at { (ids : Ids) (base : State) (journal : List Tx) (is_write : Bool) (transaction : Transaction)
+        → standing ids base journal is_write transaction ≡ standing_after_step is_write (standing ids base journal false transaction) }
+    ensures after { (ids : Ids) (base : State) (journal : List Tx) (step : Step) (transaction : Transaction) → step.after ≡ length journal
+        → standing ids base journal false (transaction_with step transaction)
+        ≡ standing_after_step (writes step.statement.operation) (standing ids base journal false transaction) }
+{}
+
+/// Where a transaction is doomed, a commit since its BEGIN touched a key or a gap that it had read before.
+pub fn a_conflict_has_its_commit()
+    ensures { (ids : Ids) (base : State) (journal : List Tx) (is_write : Bool) (transaction : Transaction) → standing ids base journal is_write transaction ≡ Doomed
+        → (number : ℕ) × (commit : Tx) × (transaction.begun < number) × (number ≤ length journal) × (slice_get journal (pred number) ≡ Some commit)
+        × (rows_meet (state_at base journal (pred number)) commit.rows (reads_before number transaction.steps) ≡ true) }
+{}
+
+/// Whatever is asked, all open transactions were answered as if each ran alone on the prefix of the journal
+/// that it reads.
+pub fn open_transactions_stand_alone()
+    ensures asked { (streams : Streams) (name : TxnName) (asked : Request) → AllStandAlone streams → CanBeAsked asked
+        → AllStandAlone (streams_after streams name (outcome_of streams name asked)) }
+    ensures left { (streams : Streams) (connection : ℕ) → AllStandAlone streams → AllStandAlone (streams_left streams connection) }
+{}
+
+/// So a transaction that isn't overlapped was answered as if it ran alone on the newest state, just before
+/// its commit.
+pub fn a_commit_was_answered_alone()
+    ensures { (ids : Ids) (base : State) (journal : List Tx) (transaction : Transaction) → StandsAlone ids base journal transaction → standing ids base journal false transaction ≡ Active
+        → map (λ (step : Step). step.reply) transaction.steps
+        ≡ map (λ (answer : Answer). answer.reply) (run_alone ids (state_after base journal) (statements_in transaction.steps)).answers }
+{}
+
+/// And what it commits makes of that state what its statements did when they ran alone.
+pub fn a_commit_makes_what_its_statements_did()
+    ensures rows { (ids : Ids) (before : State) (statements : List Statement) → IsSound before → AllByRecursion IsPlain statements
+        → state_after_rows before (run_alone ids before statements).rows ≡ (run_alone ids before statements).state }
+    ensures journal { (streams : Streams) (transaction : Transaction) → AllStandAlone streams
+        → StandsAlone streams.base.ids streams.base.state streams.journal transaction
+        → state_after streams.base.state (streams.journal ++ commit_with streams (run_alone streams.base.ids (state_after streams.base.state streams.journal) (statements_in transaction.steps)).rows)
+        ≡ (run_alone streams.base.ids (state_after streams.base.state streams.journal) (statements_in transaction.steps)).state }
+{}
+
+/// Transactions are strictly serializable: one whose COMMIT is accepted was answered as if it ran alone on a
+/// prefix of the journal that has all that was committed before its BEGIN. Where it commits rows this is the
+/// whole journal, and the state after it is that of its run.
+pub fn committed_transactions_are_serializable()
+    ensures replies { (streams : Streams) (name : TxnName) (transaction : Transaction) → AllStandAlone streams → transaction_named name streams.transactions ≡ Some transaction
+        → (outcome_of streams name Commit).reply ≡ Empty
+        → map (λ (step : Step). step.reply) transaction.steps
+        ≡ map (λ (answer : Answer). answer.reply) (answers_alone streams.base.ids streams.base.state streams.journal transaction) }
+    ensures place { (streams : Streams) (name : TxnName) (transaction : Transaction) → AllStandAlone streams → transaction_named name streams.transactions ≡ Some transaction
+        → (transaction.begun ≤ place_of streams.base.state streams.journal transaction) × (place_of streams.base.state streams.journal transaction ≤ length streams.journal) }
+    ensures rows { (streams : Streams) (name : TxnName) (transaction : Transaction) → AllStandAlone streams → transaction_named name streams.transactions ≡ Some transaction
+        → is_some_row (outcome_of streams name Commit).rows ≡ true
+        → (place_of streams.base.state streams.journal transaction ≡ length streams.journal)
+        × (state_after streams.base.state (streams_after streams name (outcome_of streams name Commit)).journal
+        ≡ (run_alone streams.base.ids (state_after streams.base.state streams.journal) (statements_in transaction.steps)).state) }
+{}
+
+/// A transaction that a commit has overlapped, and that isn't doomed, reads the prefix before that commit for
+/// the rest of its life, whatever is committed and whatever it states: it is answered as if it ran alone there.
+pub fn a_view_keeps_its_place()
+    ensures place { (ids : Ids) (base : State) (journal more : List Tx) (further : List Step) (transaction : Transaction) (place : ℕ)
+        → standing ids base journal false transaction ≡ View place → AllByRecursion (λ (step : Step). length journal ≤ step.after) further
+        → (place < length journal) × (state_at base (journal ++ more) place ≡ state_at base journal place)
+        × (place_of base (journal ++ more) (transaction_with_all further transaction) ≡ place)
+        × ((standing ids base (journal ++ more) false (transaction_with_all further transaction) ≡ View place)
+        ⊎ (standing ids base (journal ++ more) false (transaction_with_all further transaction) ≡ Doomed)) }
+    ensures replies { (ids : Ids) (base : State) (journal more : List Tx) (further : List Step) (transaction : Transaction) (place : ℕ)
+        → standing ids base journal false transaction ≡ View place → AllByRecursion (λ (step : Step). length journal ≤ step.after) further
+        → StandsAlone ids base (journal ++ more) (transaction_with_all further transaction)
+        → standing ids base (journal ++ more) false (transaction_with_all further transaction) ≢ Doomed
+        → map (λ (step : Step). step.reply) (further ++ transaction.steps)
+        ≡ map (λ (answer : Answer). answer.reply) (run_alone ids (state_at base journal place) (statements_in (further ++ transaction.steps))).answers }
+{}
