@@ -58,7 +58,7 @@ without_entry def primary (Some tuple) all = remove all (kept_key def primary tu
 
 module _ (def : IndexDef) (long : ℕ) where
   -- the primary key in a key, where its tuple's entry has that key
-  abbrev by_tuple : (key : Key) → Option (List ℕ) → Option Key
+  abbrev pub by_tuple : (key : Key) → Option (List ℕ) → Option Key
   by_tuple key None = None
   by_tuple key (Some tuple) = cond (eq_by_cmp key_cmp key (kept_key def (primary_in long key) tuple)) (Some (primary_in long key)) None
 

@@ -166,7 +166,7 @@ module _ (def : IndexDef) (unique : def.unique ≡ true) (tuples : Tuples) (one_
             apart (ap (λ (e : IndexEntry). e.0) same ∙ ap comparable_of joined ∙ keys_joined wanted entry.1 ∙ ap (λ p. comparable_of wanted ++ p) (sym (ap (λ (e : IndexEntry). e.1) same)))))
 
         -- the first one is, and so it is that of the tuple
-        first_is_of : (key primary : List ℕ) → first_from (comparable_of wanted) kept ≡ Some (key, primary) → key ≡ comparable_of wanted ++ primary
+        pub first_is_of : (key primary : List ℕ) → first_from (comparable_of wanted) kept ≡ Some (key, primary) → key ≡ comparable_of wanted ++ primary
             → (own : Key) × AreFit own × (primary ≡ comparable_of own) × (get tuples own ≡ get (tuples_by_index def tuples) wanted)
             × (tuple : List ℕ) × (get tuples own ≡ Some tuple)
         first_is_of key primary found joined = by_first (first_at wanted (entries (kept_entries def tuples))) refl

@@ -128,7 +128,7 @@ module _ (def : IndexDef) (tuples : Tuples) (long : ℕ) (whole : AreLong long t
         (λ i. (key_is i, tuple_is i))
 
     -- of the entries in a range
-    rows_in : (range : Range) → HoldsItsKeys range → (some : List (Key × Key)) → AllByRecursion kept_there some → AllByRecursion fits some
+    pub rows_in : (range : Range) → HoldsItsKeys range → (some : List (Key × Key)) → AllByRecursion kept_there some → AllByRecursion fits some
         → map (indexed_row def.unique stored) (filter (λ (entry : IndexEntry). holds (edges_of range) entry.0) (map entry_bytes some))
         ≡ map stored_tuple (map (indexed_entry def tuples) (filter (λ (entry : Key × Key). lies_in range entry.0) some))
     rows_in range law [] there fit = refl
@@ -170,7 +170,7 @@ module _ (def : IndexDef) (tuples : Tuples) (long : ℕ) (whole : AreLong long t
       abbrev range : Range
       range = range_of iterator key
 
-      in_range : filter (λ (entry : Indexed). lies_in range entry.0) all ≡ map (indexed_entry def tuples) (filter (λ (entry : Key × Key). lies_in range entry.0) kept_all)
+      pub in_range : filter (λ (entry : Indexed). lies_in range entry.0) all ≡ map (indexed_entry def tuples) (filter (λ (entry : Key × Key). lies_in range entry.0) kept_all)
       in_range = by_unique def.unique refl
         where
           by_unique : (b : Bool) → def.unique ≡ b

@@ -15,7 +15,7 @@ use Rattle.mx_space.proofs.EntriesLaws.{tied_is, ties_itself}
 
 module _ {X : Type 0} where
   -- what is found above a key is greater
-  above : (key : Key) (value : X) (first : Key) (all : List (Key × X)) → find key_cmp key all ≡ Some value → T (below_all key_cmp first all) → key_cmp first key ≡ Less
+  pub above : (key : Key) (value : X) (first : Key) (all : List (Key × X)) → find key_cmp key all ≡ Some value → T (below_all key_cmp first all) → key_cmp first key ≡ Less
   above key value first [] found below = absurd cc
   above key value first (entry ∷ all) found below =
       let parts = both (is_lt (key_cmp first entry.0)) (below_all key_cmp first all) below in
@@ -26,7 +26,7 @@ module _ {X : Type 0} where
       by_test true tied here less later = ap (key_cmp first) (tied_is key entry.0 tied) ∙ lt_is (key_cmp first entry.0) less
       by_test false apart there less later = later there
 
-  not_first : (entry : Key × X) (key : Key) → key_cmp entry.0 key ≡ Less → eq_by_cmp key_cmp key entry.0 ≡ false
+  pub not_first : (entry : Key × X) (key : Key) → key_cmp entry.0 key ≡ Less → eq_by_cmp key_cmp key entry.0 ≡ false
   not_first entry key less = ap is_eq (key_cmp_total.antisymm key entry.0 ∙ ap ordering_reverse less)
 
   each_found_in : (all : List (Key × X)) → T (is_sorted key_cmp all) → AllByRecursion (λ (entry : Key × X). find key_cmp entry.0 all ≡ Some entry.1) all

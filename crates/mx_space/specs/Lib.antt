@@ -4,9 +4,11 @@ pub mod Changes
 pub mod Entries
 pub mod Kept
 pub mod KeptKeys
+pub mod Overlays
 pub mod Reserved
 pub mod Reserves
 pub mod Scans
 pub mod Selecting
+pub mod ShownRows
 pub mod Spaces
 pub mod Stored

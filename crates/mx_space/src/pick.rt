@@ -100,7 +100,7 @@ pub(crate) enum Source<'a> {
 
 impl<'a> Source<'a> {
     /// An entry's key, without the primary key that follows it in a unique index, and the entry's tuple.
-    fn row(self, key: &'a Bytes, value: &'a Bytes) -> (&'a [u8], &'a [u8])
+    pub(crate) fn row(self, key: &'a Bytes, value: &'a Bytes) -> (&'a [u8], &'a [u8])
         ensures { (result.0.now, result.1.now) ≡ row_of self.entry (key.now, value.now) }
     {
         match self {
@@ -134,7 +134,7 @@ fn tuple_stored<'a>(tuples: &'a BTreeMap<Bytes, Bytes>, primary: &Bytes) -> &'a 
     }
 }
 
-fn next_in<'a>(entries: &mut Range<'a, Bytes, Bytes>, down: bool) -> Option<(&'a Bytes, &'a Bytes)>
+pub(crate) fn next_in<'a>(entries: &mut Range<'a, Bytes, Bytes>, down: bool) -> Option<(&'a Bytes, &'a Bytes)>
     ensures { MatchOption result
         ((directed down entries.old ≡ []) × (directed down entries.new ≡ []))
         (λ entry. directed down entries.old ≡ (entry.0.now, entry.1.now) ∷ directed down entries.new) }
@@ -209,7 +209,7 @@ pub(crate) fn collect_one<'a>(
     Ok(Some(key.as_slice()))
 }
 
-fn result_size(bytes: usize, more: usize) -> Result<usize, SelectStop>
+pub(crate) fn result_size(bytes: usize, more: usize) -> Result<usize, SelectStop>
     requires { bytes ≤ max_result_size }
     ensures { MatchResult result
         (λ size. (size ≡ bytes + more) × (size ≤ max_result_size))

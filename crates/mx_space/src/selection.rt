@@ -170,7 +170,7 @@ pub(crate) fn select_entries(
 }
 
 /// The range of keys that was read: up to the key of the last tuple where the limit was reached.
-fn read_to(
+pub(crate) fn read_to(
     alloc: Global,
     mut range: KeyRange,
     wanted: &Pick<'_>,

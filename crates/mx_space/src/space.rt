@@ -342,7 +342,7 @@ impl Space {
     }
 
     /// The entries of the index of this number.
-    fn index(&self, id: IndexId) -> Option<&TreeIndex>
+    pub(crate) fn index(&self, id: IndexId) -> Option<&TreeIndex>
         ensures { option_copied result ≡ index_kept id.0 self.now.schema.indexes self.now.indexes.items }
     {
         find_index(self.schema.indexes.as_slice(), self.indexes.as_slice(), id)

@@ -1,0 +1,26 @@
+use Rattle.std.proofs.Common.{◌≡◌, Bool, true, false, not, None, refl, sym, ap, ◌∙◌, subst, true≢false}
+use Rattle.std.specs.BTreeSet.{contains}
+use Rattle.std.specs.Cmp.Lexicographic.{slice_cmp}
+use Rattle.std.specs.FinMap.{empty}
+use Rattle.std.specs.Ordering.{nat_cmp}
+use Rattle.mx_space.specs.declared.overlay.OverlaidSpace.{OverlaidSpace}
+use Rattle.mx_space.specs.Overlays.{under}
+use Rattle.mx_space.proofs.OverlayLaws.{IsSetTo, not_held, stores_again, stores_write}
+use Rattle.mx_space.proofs.overlay.OverlaidSpace.remove.Goals as goal
+
+pub returns-then-is_new-clause-err : goal.returns-then-is_new-clause-err
+returns-then-is_new-clause-err c = λ schema written stores.
+    let before = c.args.self.now in
+    let after : OverlaidSpace = record { own = c.remove.new.self; removed = c.remove-then-is_new.new.self } in
+    let copied : c.in_ok-copy.copy ≡ c.args.key.now = c.in_ok-copy.ensures ∙ c.as_slice.ensures in
+    let new : contains (slice_cmp nat_cmp) before.removed c.in_ok-copy.copy ≡ false = not_held _ (sym c.if-is_new.true ∙ c.in_ok-is_new.ensures.added) in
+    stores_again schema before after c.insert.new.self written c.args.key.now stores (c.in-Err.ensures.err schema (under written empty) stores.own)
+    (ap (contains (slice_cmp nat_cmp) before.removed) (sym copied) ∙ new)
+    (subst (λ bytes. IsSetTo before.removed c.insert.new.self bytes true) copied c.in_ok-is_new.ensures.updates.0)
+    c.remove-then-is_new.ensures.updates.0
+
+pub returns-clause-ok : goal.returns-clause-ok
+returns-clause-ok c = λ schema written primary wanted stores there fit is.
+    let after : OverlaidSpace = record { own = c.remove.new.self; removed = c.insert.new.self } in
+    stores_write schema c.args.self.now after written wanted c.in_ok-copy.copy None stores fit (c.in_ok-copy.ensures ∙ c.as_slice.ensures ∙ is)
+    (c.in_default.ensures.ok schema (under written empty) primary wanted stores.own there fit is) c.in_ok-is_new.ensures.updates.0

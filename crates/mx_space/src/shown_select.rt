@@ -1,0 +1,71 @@
+//! What a SELECT picks of the entries that a view shows.
+
+ghost use Rattle.std.specs.Prelude.{◌≡◌, ◌++◌, List, IfSome, [], drop, map, take, MatchResult};
+ghost use Rattle.std.specs.BTreeMap.Range.{IsLeBy, IsLtBy};
+ghost use Rattle.std.specs.Cmp.Lexicographic.{slice_cmp};
+ghost use Rattle.std.specs.List.{filter};
+ghost use Rattle.std.specs.Option.{option_map};
+ghost use Rattle.std.specs.Ordering.{nat_cmp};
+ghost use Rattle.std.specs.Range.Bound.{IsForward};
+ghost use Rattle.mx_key.specs.Comparable.{bound_of, edges_of, holds};
+ghost use Rattle.mx_key.specs.Keys.{Key, AreFit};
+ghost use Rattle.mx_key.specs.Ranges.{descends, range_of};
+ghost use Rattle.mx_schema.specs.Picks.{Indexed, directed};
+ghost use Rattle.mx_schema.specs.Stored.{stored_tuple};
+ghost use Rattle.mx_space.specs.Scans.{Selects};
+ghost use Rattle.mx_space.specs.Selecting.{AreFitEntries, IsCollected, IsStopped};
+ghost use Rattle.mx_space.specs.ShownRows.{rows_left};
+
+use crate::pick::{Pick, SelectStop, result_size};
+use crate::selection::read_to;
+use crate::shown_rows::ShownRows;
+use mx_key::KeyRange;
+use mx_msgpack::Tuples;
+use std::alloc::Global;
+
+/// As `Space::select`, of the rows in the range of a key.
+pub(crate) fn select_rows(
+    alloc: Global,
+    mut rows: ShownRows<'_>,
+    range: KeyRange,
+    wanted: &Pick<'_>,
+    found: &mut Tuples,
+) -> Result<Option<KeyRange>, SelectStop>
+    ensures { (all : List Indexed) (key : Key) → AreFitEntries all → AreFit key → range ≡ edges_of (range_of wanted.now.iterator key)
+        → rows_left rows.entry ≡ directed (descends wanted.now.iterator) (filter (λ entry. holds range entry.0) (map stored_tuple all))
+        → Selects all wanted.now key found.new result }
+{
+    found.clear();
+    if wanted.limit == 0 {
+        return Ok(None);
+    }
+    rows.pass_over(wanted.offset);
+    let last = collect_shown(&mut rows, wanted.limit, found)?;
+    Ok(Some(read_to(alloc, range, wanted, found, last)?))
+}
+
+/// Copies the tuples of at most so many rows, and gives the key of the last one.
+fn collect_shown<'a>(
+    rows: &mut ShownRows<'a>,
+    limit: u32,
+    tuples: &mut Tuples,
+) -> Result<Option<&'a [u8]>, SelectStop>
+    requires { tuples.old ≡ [] }
+    ensures { MatchResult result
+        (λ last. IsCollected tuples.new (take limit (rows_left rows.old)) (option_map (λ key. key.now) last))
+        (λ stop. IsStopped stop (take limit (rows_left rows.old))) }
+{
+    let mut last = None;
+    let mut bytes = 0;
+    let mut left = limit;
+    while left > 0 {
+        let Some((key, tuple)) = rows.next() else {
+            return Ok(last);
+        };
+        bytes = result_size(bytes, tuple.len())?;
+        tuples.push(tuple)?;
+        last = Some(key);
+        left -= 1;
+    }
+    Ok(last)
+}

@@ -1,0 +1,138 @@
+//! A space under a transaction's own writes.
+
+ghost use Rattle.std.specs.Prelude.{◌≡◌, ◌≢◌, ℕ, Option, Some, None, true, MatchOption};
+ghost use Rattle.std.specs.FinMap as finite;
+ghost use Rattle.std.specs.Option.{option_copied};
+ghost use Rattle.mx_msgpack.specs.Items.{IsArray};
+ghost use Rattle.mx_key.specs.Comparable.{comparable_of};
+ghost use Rattle.mx_key.specs.Keys.{Key, AreFit};
+ghost use Rattle.mx_schema.specs.declared.index_def.IndexDef as indexed;
+ghost use Rattle.mx_schema.specs.declared.schema.Schema as described;
+ghost use Rattle.mx_schema.specs.Catalogues.{index_with};
+ghost use Rattle.mx_schema.specs.Picks.{tuples_by_index};
+ghost use Rattle.mx_schema.specs.Sound.{AreUnique, HaveKeys};
+ghost use Rattle.mx_schema.specs.State as plain;
+ghost use Rattle.mx_space.specs.Built.{AreLong};
+ghost use Rattle.mx_space.specs.Kept.{HoldsOneEach, StoresIndexed};
+ghost use Rattle.mx_space.specs.Overlays.{IsHolder, Sees, StoresWritten, Written, under};
+ghost use Rattle.mx_space.specs.Scans.{SelectsByKey};
+
+use crate::entries::is_joined;
+use crate::index::Index;
+use crate::overlay::OverlaidSpace;
+use crate::pick::{Pick, SelectFault};
+use crate::space::Space;
+use crate::view_select::{select_shown, select_stored};
+use mx_key::KeyRange;
+use mx_msgpack::{Bytes, Tuples};
+use mx_schema::{IndexDef, Schema};
+use std::alloc::Global;
+
+/// A space under a transaction's own writes, where it has any.
+#[derive(Clone, Copy, Drop)]
+pub struct SpaceView<'a> {
+    pub space: &'a Space,
+    pub over: Option<&'a OverlaidSpace>,
+}
+
+impl<'a> SpaceView<'a> {
+    /// What describes the space.
+    pub fn schema(self) -> &'a Schema
+        ensures { result.now ≡ self.entry.space.now.schema }
+    {
+        self.space.schema()
+    }
+
+    /// The tuple whose primary key has these comparable bytes.
+    pub fn tuple(self, key: &Bytes) -> Option<&'a [u8]>
+        ensures { (schema : Option described.Schema) (all : plain.Tuples) (written : Written) (wanted : Key) → Sees schema self.entry all written
+            → AreFit wanted → key.now ≡ comparable_of wanted → option_copied result ≡ finite.get (under written all) wanted }
+    {
+        let Some(over) = self.over else {
+            return self.space.tuple(key);
+        };
+        if over.hides(key) {
+            return over.own().tuple(key);
+        }
+        self.space.tuple(key)
+    }
+
+    /// The tuple that has the key of these comparable bytes in a unique index, or in that of the number 0,
+    /// where each tuple has a key in the index and no two have one, both of the tuples that are seen and of
+    /// the space's.
+    pub fn holder(self, def: &IndexDef, key: &Bytes) -> Option<&'a [u8]>
+        ensures { (schema : Option described.Schema) (all : plain.Tuples) (written : Written) (primary : indexed.IndexDef) (wanted : Key) → Sees schema self.entry all written
+            → index_with 0 self.entry.space.now.schema.indexes ≡ Some primary → index_with def.now.id.0 self.entry.space.now.schema.indexes ≡ Some def.now
+            → HoldsOneEach def.now all → HoldsOneEach def.now (under written all) → AreFit wanted → key.now ≡ comparable_of wanted
+            → option_copied result ≡ finite.get (tuples_by_index def.now (under written all)) wanted }
+    {
+        let Some(over) = self.over else {
+            return self.space.holder(def, key);
+        };
+        if def.id.0 == 0 {
+            return self.tuple(key);
+        }
+        match over.own().holder(def, key) {
+            Some(tuple) => Some(tuple),
+            None => shown_holder(self.space, over, def, key),
+        }
+    }
+
+    /// Puts into `found`, in place of what it had, the tuples that an iterator picks of an index of those that
+    /// are seen. As `State::select`, of a space that shows no other's tuples.
+    pub fn select(
+        self,
+        alloc: Global,
+        def: &IndexDef,
+        wanted: &Pick<'_>,
+        found: &mut Tuples,
+    ) -> Result<Option<KeyRange>, SelectFault>
+        requires array { IsArray wanted.now.key.now }
+        ensures { (schema : Option described.Schema) (all : plain.Tuples) (written : Written) (long : ℕ) → Sees schema self.entry all written → AreLong long all
+            → AreLong long (under written all) → index_with def.now.id.0 self.entry.space.now.schema.indexes ≡ Some def.now
+            → HaveKeys def.now (under written all) → (def.now.unique ≡ true → AreUnique def.now (under written all))
+            → SelectsByKey (finite.entries (tuples_by_index def.now (under written all))) def.now wanted.now found.new result }
+    {
+        match self.over {
+            Some(over) => select_shown(alloc, self.space, over, def, wanted, found),
+            None => select_stored(alloc, self.space, def, wanted, found),
+        }
+    }
+}
+
+/// The tuple of a space that has a key in a unique index of another number than 0, unless the transaction
+/// wrote it. No tuple that the transaction put has the key.
+fn shown_holder<'a>(
+    space: &'a Space,
+    over: &OverlaidSpace,
+    def: &IndexDef,
+    key: &Bytes,
+) -> Option<&'a [u8]>
+    ensures { (schema : Option described.Schema) (all : plain.Tuples) (written : Written) (primary : indexed.IndexDef) (wanted : Key) → StoresIndexed schema space.now all
+        → StoresWritten schema over.now written → index_with 0 space.now.schema.indexes ≡ Some primary → index_with def.now.id.0 space.now.schema.indexes ≡ Some def.now
+        → HoldsOneEach def.now all → HoldsOneEach def.now (under written all) → def.now.id.0 ≢ 0 → AreFit wanted → key.now ≡ comparable_of wanted
+        → finite.get (tuples_by_index def.now (under written finite.empty)) wanted ≡ None
+        → option_copied result ≡ finite.get (tuples_by_index def.now (under written all)) wanted }
+{
+    let primary = holder_key(space, def, key)?;
+    if over.hides(primary) {
+        return None;
+    }
+    space.tuple(primary)
+}
+
+/// The primary key of the tuple that has a key in a unique index of another number than 0.
+fn holder_key<'a>(space: &'a Space, def: &IndexDef, key: &Bytes) -> Option<&'a Bytes>
+    ensures { (schema : Option described.Schema) (all : plain.Tuples) (primary : indexed.IndexDef) (wanted : Key) → StoresIndexed schema space.now all
+        → index_with 0 space.now.schema.indexes ≡ Some primary → index_with def.now.id.0 space.now.schema.indexes ≡ Some def.now
+        → HoldsOneEach def.now all → def.now.id.0 ≢ 0 → AreFit wanted → key.now ≡ comparable_of wanted → MatchOption result
+        (None ≡ finite.get (tuples_by_index def.now all) wanted)
+        (λ own. IsHolder def.now all wanted own.now) }
+{
+    let index = space.index(def.id)?;
+    let (entry, primary) = index.first_from(key)?;
+    if !is_joined(entry.as_slice(), key.as_slice(), primary.as_slice()) {
+        return None;
+    }
+    Some(primary)
+}

@@ -1,0 +1,165 @@
+//! What a SELECT picks of a space under a transaction's own writes.
+
+ghost use Rattle.std.specs.Prelude.{◌≡◌, ◌≢◌, ◌≤◌, ℕ, Option, Some, IfSome, length, map, true, false};
+ghost use Rattle.std.specs.BTreeMap.Range.{IsLeBy, IsLtBy};
+ghost use Rattle.std.specs.Cmp.Lexicographic.{slice_cmp};
+ghost use Rattle.std.specs.FinMap as finite;
+ghost use Rattle.std.specs.List.{filter};
+ghost use Rattle.std.specs.Ordering.{nat_cmp};
+ghost use Rattle.std.specs.Range.Bound.{IsForward};
+ghost use Rattle.mx_key.specs.declared.iterator.IterKind as kind;
+ghost use Rattle.mx_key.specs.Comparable.{bound_of, edges_of, holds};
+ghost use Rattle.mx_key.specs.Keys.{Key, AreFit};
+ghost use Rattle.mx_key.specs.Ranges.{range_of};
+ghost use Rattle.mx_msgpack.specs.Items.{IsArray};
+ghost use Rattle.mx_schema.specs.declared.schema.Schema as described;
+ghost use Rattle.mx_schema.specs.Catalogues.{index_with};
+ghost use Rattle.mx_schema.specs.Picks.{directed, tuples_by_index};
+ghost use Rattle.mx_schema.specs.Sound.{AreUnique, HaveKeys};
+ghost use Rattle.mx_schema.specs.State as plain;
+ghost use Rattle.mx_schema.specs.Stored.{stored_tuple};
+ghost use Rattle.mx_space.specs.declared.pick.Source.TheVariants as source;
+ghost use Rattle.mx_space.specs.Built.{AreLong};
+ghost use Rattle.mx_space.specs.Kept.{StoresIndexed};
+ghost use Rattle.mx_space.specs.Overlays.{StoresWritten, Written, under};
+ghost use Rattle.mx_space.specs.Scans.{SelectsByKey};
+ghost use Rattle.mx_space.specs.Selecting.{indexed_row, row_of};
+ghost use Rattle.mx_space.specs.ShownRows.{is_shown, merged, rows_left};
+
+use crate::index::Index;
+use crate::overlay::OverlaidSpace;
+use crate::pick::{Pick, SelectFault, Source};
+use crate::selection::{as_fault, select_from};
+use crate::shown_rows::ShownRows;
+use crate::shown_select::select_rows;
+use crate::space::Space;
+use crate::tree_index::TreeIndex;
+use mx_key::{KeyRange, range_of_key};
+use mx_msgpack::Tuples;
+use mx_schema::IndexDef;
+use std::alloc::Global;
+
+/// As `SpaceView::select`, without writes.
+pub(crate) fn select_stored(
+    alloc: Global,
+    space: &Space,
+    def: &IndexDef,
+    wanted: &Pick<'_>,
+    found: &mut Tuples,
+) -> Result<Option<KeyRange>, SelectFault>
+    requires array { IsArray wanted.now.key.now }
+    ensures { (schema : Option described.Schema) (all : plain.Tuples) (long : ℕ) → StoresIndexed schema space.now all → AreLong long all
+        → index_with def.now.id.0 space.now.schema.indexes ≡ Some def.now → HaveKeys def.now all → (def.now.unique ≡ true → AreUnique def.now all)
+        → SelectsByKey (finite.entries (tuples_by_index def.now all)) def.now wanted.now found.new result }
+{
+    if def.id.0 == 0 {
+        return select_from(alloc, space.tuples(), true, def, wanted, found);
+    }
+    space.select(alloc, def, wanted, found)
+}
+
+/// As `SpaceView::select`, under writes.
+pub(crate) fn select_shown(
+    alloc: Global,
+    space: &Space,
+    over: &OverlaidSpace,
+    def: &IndexDef,
+    wanted: &Pick<'_>,
+    found: &mut Tuples,
+) -> Result<Option<KeyRange>, SelectFault>
+    requires array { IsArray wanted.now.key.now }
+    ensures { (schema : Option described.Schema) (all : plain.Tuples) (written : Written) (long : ℕ) → StoresIndexed schema space.now all → StoresWritten schema over.now written
+        → AreLong long all → AreLong long (under written all) → index_with def.now.id.0 space.now.schema.indexes ≡ Some def.now
+        → HaveKeys def.now (under written all) → (def.now.unique ≡ true → AreUnique def.now (under written all))
+        → SelectsByKey (finite.entries (tuples_by_index def.now (under written all))) def.now wanted.now found.new result }
+{
+    let range = range_of_key(alloc, &def.key, wanted.iterator, wanted.key)?;
+    let Some(rows) = shown_rows(space, over, def, &range, wanted.iterator.descends()) else {
+        return Err(SelectFault::NoMemory);
+    };
+    as_fault(select_rows(alloc, rows, range, wanted, found))
+}
+
+/// The rows of an index in the range of a key. The space has the index.
+fn shown_rows<'a>(
+    space: &'a Space,
+    over: &'a OverlaidSpace,
+    def: &IndexDef,
+    range: &KeyRange,
+    down: bool,
+) -> Option<ShownRows<'a>>
+    requires forward { IsForward (IsLeBy (slice_cmp nat_cmp)) (IsLtBy (slice_cmp nat_cmp)) (bound_of range.now.low) (bound_of range.now.high) }
+    ensures { (schema : Option described.Schema) (all : plain.Tuples) (written : Written) (long : ℕ) (iterator : kind.IterKind) (key : Key) → StoresIndexed schema space.now all
+        → StoresWritten schema over.now written → AreLong long all → AreLong long (under written all) → index_with def.now.id.0 space.now.schema.indexes ≡ Some def.now
+        → HaveKeys def.now (under written all) → (def.now.unique ≡ true → AreUnique def.now (under written all))
+        → AreFit key → length key ≤ length def.now.key → range.now ≡ edges_of (range_of iterator key)
+        → IfSome result (λ rows. rows_left rows
+        ≡ directed down (filter (λ entry. holds range.now entry.0) (map stored_tuple (finite.entries (tuples_by_index def.now (under written all)))))) }
+{
+    if def.id.0 == 0 {
+        return Some(first_rows(space, over, range, down));
+    }
+    let stored = space.index(def.id)?;
+    let own = over.own().index(def.id)?;
+    Some(index_rows(space, over, def.unique, stored, own, range, down))
+}
+
+/// Those of the index of the number 0.
+fn first_rows<'a>(
+    space: &'a Space,
+    over: &'a OverlaidSpace,
+    range: &KeyRange,
+    down: bool,
+) -> ShownRows<'a>
+    requires forward { IsForward (IsLeBy (slice_cmp nat_cmp)) (IsLtBy (slice_cmp nat_cmp)) (bound_of range.now.low) (bound_of range.now.high) }
+    ensures { rows_left result ≡ merged down (row_of source.Entries) (row_of source.Entries)
+        (filter (is_shown over.now true) (directed down (filter (λ entry. holds range.now entry.0) space.now.tuples.entries)))
+        (directed down (filter (λ entry. holds range.now entry.0) over.now.own.tuples.entries)) }
+{
+    let own = over.own();
+    ShownRows {
+        over,
+        is_first: true,
+        down,
+        stored: space.tuples().range((range.low_bound(), range.high_bound())),
+        own: own.tuples().range((range.low_bound(), range.high_bound())),
+        held_stored: None,
+        held_own: None,
+        stored_source: Source::Entries,
+        own_source: Source::Entries,
+    }
+}
+
+/// Those of another index, of which these are the stored entries and the own ones.
+fn index_rows<'a>(
+    space: &'a Space,
+    over: &'a OverlaidSpace,
+    unique: bool,
+    stored: &'a TreeIndex,
+    own: &'a TreeIndex,
+    range: &KeyRange,
+    down: bool,
+) -> ShownRows<'a>
+    requires forward { IsForward (IsLeBy (slice_cmp nat_cmp)) (IsLtBy (slice_cmp nat_cmp)) (bound_of range.now.low) (bound_of range.now.high) }
+    ensures { rows_left result ≡ merged down (indexed_row unique space.now.tuples.entries) (indexed_row unique over.now.own.tuples.entries)
+        (filter (is_shown over.now false) (directed down (filter (λ entry. holds range.now entry.0) stored.now)))
+        (directed down (filter (λ entry. holds range.now entry.0) own.now)) }
+{
+    ShownRows {
+        over,
+        is_first: false,
+        down,
+        stored: stored.range(range.low_bound(), range.high_bound()),
+        own: own.range(range.low_bound(), range.high_bound()),
+        held_stored: None,
+        held_own: None,
+        stored_source: Source::Tuples {
+            tuples: space.tuples(),
+            unique,
+        },
+        own_source: Source::Tuples {
+            tuples: over.own().tuples(),
+            unique,
+        },
+    }
+}
