@@ -60,3 +60,12 @@ pub mod AloneStreams
 pub mod AloneRequests
 pub mod AloneCommits
 pub mod AloneSerial
+mod ConflictStages
+mod ConflictWrites
+mod ConflictAnswers
+mod CommitRows
+mod StreamPlaces
+mod StreamEnds
+mod StreamSteps
+mod StreamLaws
+mod DemandedReplies

@@ -13,7 +13,7 @@ use Rattle.mx_model.specs.Transactions.{state_after}
 use Rattle.mx_model.proofs.HistoryLaws.{state_after-append}
 
 -- the element behind a list
-get_behind : {X : Type 0} (front : List X) (x : X) (later : List X) → slice_get (front ++ x ∷ later) (length front) ≡ Some x
+pub get_behind : {X : Type 0} (front : List X) (x : X) (later : List X) → slice_get (front ++ x ∷ later) (length front) ≡ Some x
 get_behind [] x later = refl
 get_behind (y ∷ front) x later = get_behind front x later
 

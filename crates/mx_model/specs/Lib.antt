@@ -11,6 +11,7 @@ pub mod Gate
 pub mod Replies
 pub mod ReplyStream
 pub mod RunAlone
+pub mod StreamHistories
 pub mod Streams
 pub mod Survival
 pub mod SelectSteps

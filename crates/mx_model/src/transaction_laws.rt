@@ -1,27 +1,31 @@
 //! Theorems on transactions that are open beside others. Each is a function that does nothing when it is
 //! called.
 
-ghost use Rattle.std.specs.Prelude.{◌≡◌, ◌≢◌, ◌⊎◌, ℕ, ◌<◌, ◌≤◌, ◌++◌, suc, pred, Bool, true, false, List, [], ◌∷◌, length, map, Some, slice_get};
+ghost use Rattle.std.specs.Prelude.{◌≡◌, ◌≢◌, ◌⊎◌, ◌↔◌, ◌&&◌, ℕ, ◌<◌, ◌≤◌, ◌++◌, suc, pred, Bool, true, false, List, [], ◌∷◌, length, map, Some, slice_get};
 ghost use Rattle.std.specs.List.{AllByRecursion};
 ghost use Rattle.mx_base.specs.declared.ids.TxnName.{TxnName};
+ghost use Rattle.mx_base.specs.declared.refusal.Refusal.TheVariants.{Conflict};
 ghost use Rattle.mx_request.specs.declared.request.Request.{Request};
-ghost use Rattle.mx_request.specs.declared.request.Request.TheVariants.{Commit};
+ghost use Rattle.mx_request.specs.declared.request.Request.TheVariants as request;
+ghost use Rattle.mx_row.specs.declared.row.Row.{Row};
 ghost use Rattle.mx_row.specs.declared.tx.Tx.{Tx};
 ghost use Rattle.mx_schema.specs.Sound.{IsSound};
 ghost use Rattle.mx_schema.specs.State.{State};
+ghost use Rattle.mx_write.specs.Writable.{describes_schema};
 ghost use Rattle.mx_model.specs.declared.ids.Ids.{Ids};
-ghost use Rattle.mx_model.specs.declared.reply.Reply.TheVariants.{Empty};
+ghost use Rattle.mx_model.specs.declared.reply.Reply.TheVariants.{Empty, Refused};
 ghost use Rattle.mx_model.specs.Alone.{AllStandAlone, StandsAlone, answers_alone};
 ghost use Rattle.mx_model.specs.Answers.{state_after_rows};
 ghost use Rattle.mx_model.specs.Frame.{IsPlain};
-ghost use Rattle.mx_model.specs.Histories.{CanBeAsked};
+ghost use Rattle.mx_model.specs.Histories.{CanBeAsked, Base, is_out_of_memory};
 ghost use Rattle.mx_model.specs.Overlaps.{Active, Doomed, IsWithin, Step, Transaction, View, has_row, is_some_row, place_of, reads_before, standing, standing_after_commit, standing_after_step, state_at, statements_in};
 ghost use Rattle.mx_model.specs.RunAlone.{run_alone, writes};
 ghost use Rattle.mx_model.specs.Streams.{Streams, commit_with, outcome_of, streams_after, streams_left, transaction_named, transaction_with, transaction_with_all};
 ghost use Rattle.mx_model.specs.Touches.{rows_meet};
 ghost use Rattle.mx_model.specs.Transactions.{is_schema_commit, state_after};
 ghost use Rattle.mx_model.specs.statements.Answer.{Answer};
-ghost use Rattle.mx_model.specs.statements.Statement.{Statement};
+ghost use Rattle.mx_model.specs.statements.Statement.{Statement, statement_of};
+ghost use Rattle.mx_model.specs.StreamHistories.{IsLegalStreams, RanAlone, StreamHistory, ended_in, streams_of};
 
 /// A commit changes how an open transaction stands exactly as the table of `standing_after_commit` says: it
 /// overlaps one that wasn't overlapped where it touches what that one has read, and dooms one that has a
@@ -82,15 +86,15 @@ pub fn a_commit_makes_what_its_statements_did()
 /// whole journal, and the state after it is that of its run.
 pub fn committed_transactions_are_serializable()
     ensures replies { (streams : Streams) (name : TxnName) (transaction : Transaction) → AllStandAlone streams → transaction_named name streams.transactions ≡ Some transaction
-        → (outcome_of streams name Commit).reply ≡ Empty
+        → (outcome_of streams name request.Commit).reply ≡ Empty
         → map (λ (step : Step). step.reply) transaction.steps
         ≡ map (λ (answer : Answer). answer.reply) (answers_alone streams.base.ids streams.base.state streams.journal transaction) }
     ensures place { (streams : Streams) (name : TxnName) (transaction : Transaction) → AllStandAlone streams → transaction_named name streams.transactions ≡ Some transaction
         → (transaction.begun ≤ place_of streams.base.state streams.journal transaction) × (place_of streams.base.state streams.journal transaction ≤ length streams.journal) }
     ensures rows { (streams : Streams) (name : TxnName) (transaction : Transaction) → AllStandAlone streams → transaction_named name streams.transactions ≡ Some transaction
-        → is_some_row (outcome_of streams name Commit).rows ≡ true
+        → is_some_row (outcome_of streams name request.Commit).rows ≡ true
         → (place_of streams.base.state streams.journal transaction ≡ length streams.journal)
-        × (state_after streams.base.state (streams_after streams name (outcome_of streams name Commit)).journal
+        × (state_after streams.base.state (streams_after streams name (outcome_of streams name request.Commit)).journal
         ≡ (run_alone streams.base.ids (state_after streams.base.state streams.journal) (statements_in transaction.steps)).state) }
 {}
 
@@ -109,4 +113,42 @@ pub fn a_view_keeps_its_place()
         → standing ids base (journal ++ more) false (transaction_with_all further transaction) ≢ Doomed
         → map (λ (step : Step). step.reply) (further ++ transaction.steps)
         ≡ map (λ (answer : Answer). answer.reply) (run_alone ids (state_at base journal place) (statements_in (further ++ transaction.steps))).answers }
+{}
+
+/// COMMIT of an open transaction is told a conflict exactly where the transaction is doomed, and so is a
+/// statement of it, at that statement: no statement is told one by itself.
+pub fn conflict_is_told_where_a_transaction_is_doomed()
+    ensures commit { (streams : Streams) (name : TxnName) (transaction : Transaction) → transaction_named name streams.transactions ≡ Some transaction → name.stream.0 ≢ 0
+        → ((outcome_of streams name request.Commit).reply ≡ Refused Conflict) ↔ (standing streams.base.ids streams.base.state streams.journal false transaction ≡ Doomed) }
+    ensures statement { (streams : Streams) (name : TxnName) (transaction : Transaction) → transaction_named name streams.transactions ≡ Some transaction
+        → (asked : Request) (statement : Statement) → statement_of asked ≡ Some statement → (writes statement.operation && describes_schema statement.space) ≡ false
+        → ((outcome_of streams name asked).reply ≡ Refused Conflict) ↔ (standing streams.base.ids streams.base.state streams.journal (writes statement.operation) transaction ≡ Doomed) }
+{}
+
+/// Where COMMIT commits rows, the transaction isn't overlapped: it was answered as if it ran alone on the
+/// newest state, and the rows are those that it leaves there.
+pub fn committed_rows_are_those_of_running_alone()
+    ensures { (streams : Streams) (name : TxnName) (transaction : Transaction) → AllStandAlone streams → transaction_named name streams.transactions ≡ Some transaction
+        → (row : Row) (others : List Row) → (outcome_of streams name request.Commit).rows ≡ row ∷ others
+        → (standing streams.base.ids streams.base.state streams.journal false transaction ≡ Active)
+        × (map (λ (step : Step). step.reply) transaction.steps
+        ≡ map (λ (answer : Answer). answer.reply) (run_alone streams.base.ids (state_after streams.base.state streams.journal) (statements_in transaction.steps)).answers)
+        × (row ∷ others ≡ (run_alone streams.base.ids (state_after streams.base.state streams.journal) (statements_in transaction.steps)).rows) }
+{}
+
+/// The theorem of serializability: in a legal history each transaction that ended was answered as if it ran
+/// alone, on a prefix of the journal that has all that was committed before its BEGIN. One that committed rows
+/// did so right behind that prefix, and its replies and its rows are exactly those of running alone; a statement
+/// or a COMMIT is told a conflict only where a commit since its BEGIN touched what it had read before. All
+/// transactions that are still open were answered so too.
+pub fn every_transaction_ran_alone()
+    ensures ended { (base : Base) (history : StreamHistory) → IsLegalStreams base history
+        → AllByRecursion (RanAlone base (streams_of base history).journal) (ended_in base history) }
+    ensures still_there { (base : Base) (history : StreamHistory) → IsLegalStreams base history → AllStandAlone (streams_of base history) }
+{}
+
+/// No reply that is demanded is out of memory: a request is told so only where an allocation failed, and it
+/// then counts as not asked.
+pub fn out_of_memory_is_never_demanded()
+    ensures { (streams : Streams) (name : TxnName) (asked : Request) → is_out_of_memory (outcome_of streams name asked).reply ≡ false }
 {}

@@ -1,0 +1,137 @@
+-- A transaction that ends ran alone, and its commit, where it has one, stands right behind the prefix that it read.
+use Rattle.std.proofs.Common.{Bool, List, None, Option, Some, [], ap, arith, false, inl, inr, length, map, pred, refl, subst, sym, true, ℕ, ◌≡◌, ◌+◌, ◌∷◌, ◌++◌, ◌∙◌, ◌≤◌, ◌⊎◌}
+use Rattle.std.proofs.lemmas.List.{take_at}
+use Rattle.std.proofs.lemmas.List.Elements.{All-contains, All-from_recursion}
+use Rattle.std.specs.List.{AllByRecursion, Contains}
+use Rattle.std.specs.Prelude.{slice_get, slice_index, ◌≢◌}
+use Rattle.mx_base.specs.declared.refusal.Refusal.TheVariants.{Conflict}
+use Rattle.mx_model.specs.Alone.{StandsAlone, answers_alone}
+use Rattle.mx_model.specs.Overlaps.{Active, Doomed, Standing, Step, Transaction, View, overlap_of, place_by, place_of, standing, state_at, statements_in}
+use Rattle.mx_model.specs.RunAlone.{run_alone}
+use Rattle.mx_model.specs.StreamHistories.{HasCommitted, HasOverlap, RanAlone, ends_now}
+use Rattle.mx_model.specs.Streams.{Outcome, Streams, commit_with}
+use Rattle.mx_model.specs.Transactions.{state_after}
+use Rattle.mx_model.specs.declared.reply.Reply.TheVariants.{Refused}
+use Rattle.mx_model.specs.statements.Answer.{Answer}
+use Rattle.mx_row.specs.Clocks.{clock_after}
+use Rattle.mx_row.specs.declared.row.Row.{Row}
+use Rattle.mx_row.specs.declared.tx.Tx.{Tx}
+use Rattle.mx_schema.specs.State.{State}
+use Rattle.mx_model.proofs.CommitRows.{CommitsAlone}
+use Rattle.mx_model.proofs.ConflictAnswers.{TellsOther, run_other, tells_no_conflict}
+use Rattle.mx_model.proofs.EachLaws.{each_of_map}
+use Rattle.mx_model.proofs.OverlapFound.{doomed_overlap, get_behind, overlap_found}
+use Rattle.mx_model.proofs.StreamPlaces.{ran_stays}
+
+-- a transaction that an outcome ends: a conflict is told where it is doomed, and rows are committed as those of running alone
+pub record IsEnding (streams : Streams) (transaction : Transaction) (by_commit : Bool) (outcome : Outcome) : Type 0 where
+  pub doomed : outcome.reply ≡ Refused Conflict → standing streams.base.ids streams.base.state streams.journal false transaction ≡ Doomed
+  pub still : by_commit ≡ true → outcome.reply ≢ Refused Conflict → standing streams.base.ids streams.base.state streams.journal false transaction ≢ Doomed
+  pub commits : (row : Row) (others : List Row) → outcome.rows ≡ row ∷ others
+      → CommitsAlone streams.base.ids streams.base.state streams.journal transaction (row ∷ others)
+
+module _ (streams : Streams) (transaction : Transaction) (alone : StandsAlone streams.base.ids streams.base.state streams.journal transaction) where
+  abbrev base : State
+  base = streams.base.state
+
+  abbrev journal : List Tx
+  journal = streams.journal
+
+  abbrev how : Standing
+  how = standing streams.base.ids base journal false transaction
+
+  abbrev place : ℕ
+  place = place_of base journal transaction
+
+  -- its place lies between its BEGIN and the end of the journal
+  place_between : (transaction.begun ≤ place) × (place ≤ length journal)
+  place_between = by_overlap (overlap_of base journal transaction) refl
+    where
+      by_overlap : (overlap : Option ℕ) → overlap_of base journal transaction ≡ overlap
+          → (transaction.begun ≤ place_by (length journal) overlap) × (place_by (length journal) overlap ≤ length journal)
+      by_overlap None is = (alone.within.begun, omega arith)
+      by_overlap (Some number) is =
+          let found = overlap_found base journal transaction number is in
+          let low : transaction.begun ≤ pred number = omega (arith, found.after) in
+          let high : pred number ≤ length journal = omega (arith, found.within) in (low, high)
+
+  -- where a statement was told a conflict, it is doomed
+  step_doomed : Contains (map (λ (step : Step). step.reply) transaction.steps) (Refused Conflict) → how ≡ Doomed
+  step_doomed told = by_standing how refl
+    where
+      answers : List Answer
+      answers = answers_alone streams.base.ids base journal transaction
+
+      wrong : how ≢ Doomed → ⊥
+      wrong still =
+          tells_no_conflict (Refused Conflict)
+          (All-contains TellsOther (map (λ (step : Step). step.reply) transaction.steps) (Refused Conflict)
+          (All-from_recursion TellsOther (map (λ (step : Step). step.reply) transaction.steps)
+          (subst (AllByRecursion TellsOther) (sym (alone.exact still))
+          (each_of_map (λ (answer : Answer). answer.reply) TellsOther answers
+          (run_other streams.base.ids (state_at base journal place) (statements_in transaction.steps)))))
+          told)
+          refl
+
+      by_standing : (stands : Standing) → how ≡ stands → how ≡ Doomed
+      by_standing Active is = absurd (wrong (λ doomed. let both : Active ≡ Doomed = sym is ∙ doomed in absurd cc))
+      by_standing (View at) is = absurd (wrong (λ doomed. let both : View at ≡ Doomed = sym is ∙ doomed in absurd cc))
+      by_standing Doomed is = is
+
+  -- and then a commit overlaps it
+  overlap_there : how ≡ Doomed → HasOverlap streams.base journal transaction
+  overlap_there doomed =
+      let found = doomed_overlap streams.base.ids base journal false transaction doomed in
+      (found.0, found.1.commit, found.1.after, found.1.within, found.1.there, found.1.met)
+
+  -- without rows
+  pub ended_alone : (by_commit : Bool) (outcome : Outcome) → IsEnding streams transaction by_commit outcome
+      → RanAlone streams.base journal (ends_now streams by_commit outcome.reply [] transaction)
+  ended_alone by_commit outcome ending = record {
+    since = place_between.0;
+    within = place_between.1;
+    told = alone.told;
+    exact = λ commit still. alone.exact (ending.still commit still);
+    conflict = λ told. overlap_there (by_told told);
+    committed = tt;
+  }
+    where
+      by_told : (outcome.reply ≡ Refused Conflict) ⊎ Contains (map (λ (step : Step). step.reply) transaction.steps) (Refused Conflict) → how ≡ Doomed
+      by_told (inl told) = ending.doomed told
+      by_told (inr told) = step_doomed told
+
+  -- with rows: its commit is the newest
+  committed_alone : (by_commit : Bool) (outcome : Outcome) (row : Row) (others : List Row) → CommitsAlone streams.base.ids base journal transaction (row ∷ others)
+      → HasCommitted streams.base (journal ++ commit_with streams (row ∷ others)) (ends_now streams by_commit outcome.reply (row ∷ others) transaction)
+  committed_alone by_commit outcome row others by = record {
+    commit = commit;
+    there = ap (slice_get (journal ++ commit ∷ [])) by.newest ∙ get_behind journal commit [];
+    by_node = refl;
+    same_rows = refl;
+    rows_alone = by.same_rows ∙ ap (λ state. (run_alone streams.base.ids state (statements_in transaction.steps)).rows) (sym newest);
+    exact = by.replies ∙ ap (λ state. map (λ (answer : Answer). answer.reply) (run_alone streams.base.ids state (statements_in transaction.steps)).answers) (sym newest);
+  }
+    where
+      commit : Tx
+      commit = record { replica = record { 0 = streams.base.ids.me }; first = record { 0 = slice_index (clock_after streams.base.clock streams.journal) streams.base.ids.me + 1 }; rows = row ∷ others }
+
+      newest : state_at base (journal ++ commit ∷ []) place ≡ state_after base journal
+      newest = ap (state_at base (journal ++ commit ∷ [])) by.newest ∙ ap (state_after base) (take_at journal (commit ∷ []) (length journal) refl)
+
+  -- either way, in the journal that has its commit
+  pub ending_alone : (by_commit : Bool) (outcome : Outcome) → IsEnding streams transaction by_commit outcome
+      → RanAlone streams.base (journal ++ commit_with streams outcome.rows) (ends_now streams by_commit outcome.reply outcome.rows transaction)
+  ending_alone by_commit outcome ending = by_rows outcome.rows refl
+    where
+      by_rows : (rows : List Row) → outcome.rows ≡ rows → RanAlone streams.base (journal ++ commit_with streams rows) (ends_now streams by_commit outcome.reply rows transaction)
+      by_rows [] is = ran_stays streams.base journal [] _ (ended_alone by_commit outcome ending)
+      by_rows (row ∷ others) is =
+          let commits = commit_with streams (row ∷ others) in
+          let ran = ran_stays streams.base journal commits _ (ended_alone by_commit outcome ending) in record {
+            since = ran.since;
+            within = ran.within;
+            told = ran.told;
+            exact = ran.exact;
+            conflict = ran.conflict;
+            committed = committed_alone by_commit outcome row others (ending.commits row others is);
+          }
