@@ -12,7 +12,7 @@ use Rattle.mx_write.specs.Change.{state_after_changed}
 use Rattle.mx_model.specs.declared.ids.Ids.{Ids}
 use Rattle.mx_model.specs.Alone.{AllStandAlone, StandsAlone}
 use Rattle.mx_model.specs.Answers.{answer_in_space, state_after_row, state_after_rows}
-use Rattle.mx_model.specs.Frame.{IsPlain, OperationHasBytes}
+use Rattle.mx_model.specs.Frame.{IsDataStatement, OperationHasBytes}
 use Rattle.mx_model.specs.Histories.{writable_node}
 use Rattle.mx_model.specs.Overlaps.{Transaction, statements_in}
 use Rattle.mx_model.specs.RunAlone.{answer_in_run, has_room, run_alone, statement_answer, within_limits, writes}
@@ -72,10 +72,10 @@ makes ids before (statement ∷ earlier) sound bytes =
     ∙ ap (λ state. state_after_rows state (option_to_list (answer_in_run ids run statement).row)) same
     ∙ row_makes run.state still (answer_in_run ids run statement) (limited_agrees run.state run.rows answer answer.row (statement_agrees ids run.state statement))
 
-pub run_makes : (ids : Ids) (before : State) (statements : List Statement) → IsSound before → AllByRecursion IsPlain statements
+pub run_makes : (ids : Ids) (before : State) (statements : List Statement) → IsSound before → AllByRecursion IsDataStatement statements
     → state_after_rows before (run_alone ids before statements).rows ≡ (run_alone ids before statements).state
 run_makes ids before statements sound plain =
-    makes ids before statements sound (each_follows IsPlain _ (λ statement is. is.1) statements plain)
+    makes ids before statements sound (each_follows IsDataStatement _ (λ statement is. is.1) statements plain)
 
 -- ---- its commit
 

@@ -1,4 +1,4 @@
--- The frame of a transaction that runs alone: where nothing that rows touch meets what it read, it is answered the same after them.
+-- The frame of a transaction that runs alone: where nothing that rows touch are_met what it read, it is answered the same after them.
 use Rattle.std.proofs.Common.{◌≡◌, Bool, true, false, not, ◌&&◌, List, [], ◌∷◌, ◌++◌, Option, Some, None, refl, sym, ap, ◌∙◌, subst}
 use Rattle.std.specs.Prelude.{◌==◌, if◌then◌else◌}
 use Rattle.std.specs.List.{AllByRecursion}
@@ -10,10 +10,10 @@ use Rattle.mx_write.specs.Change.{state_after_changed}
 use Rattle.mx_write.specs.Judge.{row_change}
 use Rattle.mx_model.specs.declared.ids.Ids.{Ids}
 use Rattle.mx_model.specs.Answers.{state_after_row, state_after_rows}
-use Rattle.mx_model.specs.Frame.{IsPlain, StaysSound, answer_to_statement, reads_in}
+use Rattle.mx_model.specs.Frame.{IsDataStatement, StaysSound, answer_to_statement, reads_in}
 use Rattle.mx_model.specs.Histories.{writable_node}
 use Rattle.mx_model.specs.RunAlone.{Run, answer_in_run, has_room, run_alone, run_with, statement_answer, within_limits, writes}
-use Rattle.mx_model.specs.Touches.{Touched, meets, rows_meet, touched_by_change}
+use Rattle.mx_model.specs.Touches.{Touched, are_met, rows_meet, touched_by_change}
 use Rattle.mx_model.specs.statements.Answer.{Answer, refusal_after, refusal_alone}
 use Rattle.mx_model.specs.statements.Statement.{Statement}
 use Rattle.mx_model.proofs.FrameReads.{both_false, missed_parts}
@@ -39,12 +39,12 @@ module _ (ids : Ids) (base : State) (touched : List Touched) where
   abbrev by_node : Bool → State → Statement → Answer
   by_node refuses before statement = if refuses then refusal_alone (ReadOnly (record { 0 = writable_node })) else answer_to_statement before statement
 
-  stated_same : (one other : State) → AreFramed base touched one other → (statement : Statement) → IsPlain statement
-      → meets base touched (statement_answer ids one statement).reads ≡ false
+  stated_same : (one other : State) → AreFramed base touched one other → (statement : Statement) → IsDataStatement statement
+      → are_met base touched (statement_answer ids one statement).reads ≡ false
       → (statement_answer ids other statement ≡ statement_answer ids one statement) × FramedAfter one other (statement_answer ids one statement)
   stated_same one other framed statement plain = by_test (writes statement.operation && not (ids.me == writable_node))
     where
-      by_test : (refuses : Bool) → meets base touched (by_node refuses one statement).reads ≡ false
+      by_test : (refuses : Bool) → are_met base touched (by_node refuses one statement).reads ≡ false
           → (by_node refuses other statement ≡ by_node refuses one statement) × FramedAfter one other (by_node refuses one statement)
       by_test true missed = (refl, framed)
       by_test false missed =
@@ -70,12 +70,12 @@ module _ (ids : Ids) (base : State) (touched : List Touched) where
   abbrev IsSameRun : (one other : Run) → Type 0
   IsSameRun one other = (other.answers ≡ one.answers) × (other.rows ≡ one.rows) × AreFramed base touched one.state other.state
 
-  same_further : (one other : Run) → IsSameRun one other → (statement : Statement) → IsPlain statement → meets base touched (answer_in_run ids one statement).reads ≡ false
+  same_further : (one other : Run) → IsSameRun one other → (statement : Statement) → IsDataStatement statement → are_met base touched (answer_in_run ids one statement).reads ≡ false
       → IsSameRun (run_with one (answer_in_run ids one statement)) (run_with other (answer_in_run ids other statement))
   same_further one other same statement plain missed =
       let answer = statement_answer ids one.state statement in
       let reads = limited_reads one.rows answer answer.row in
-      let stated = stated_same one.state other.state same.2 statement plain (ap (meets base touched) (sym reads) ∙ missed) in
+      let stated = stated_same one.state other.state same.2 statement plain (ap (are_met base touched) (sym reads) ∙ missed) in
       let answered : answer_in_run ids other statement ≡ answer_in_run ids one statement = λ i. within_limits (same.1 i) (stated.0 i) (stated.0 i).row in (
         λ i. answered i ∷ same.0 i,
         λ i. same.1 i ++ option_to_list (answered i).row,
@@ -83,8 +83,8 @@ module _ (ids : Ids) (base : State) (touched : List Touched) where
             (sym answered) (limited_frame one.state other.state same.2 one.rows answer answer.row stated.1),
       )
 
-  runs_same : (one other : State) → AreFramed base touched one other → (statements : List Statement) → AllByRecursion IsPlain statements
-      → meets base touched (reads_in (run_alone ids one statements).answers) ≡ false → IsSameRun (run_alone ids one statements) (run_alone ids other statements)
+  runs_same : (one other : State) → AreFramed base touched one other → (statements : List Statement) → AllByRecursion IsDataStatement statements
+      → are_met base touched (reads_in (run_alone ids one statements).answers) ≡ false → IsSameRun (run_alone ids one statements) (run_alone ids other statements)
   unfolding run_alone
   runs_same one other framed [] plain missed = (refl, refl, framed)
   runs_same one other framed (statement ∷ earlier) plain missed =
@@ -99,7 +99,7 @@ abbrev pub IsAnsweredSame : (one other : Run) → Type 0
 IsAnsweredSame one other = (other.answers ≡ one.answers) × (other.rows ≡ one.rows)
 
 -- a run after rows that touch nothing which it read
-pub rows_leave_run : (ids : Ids) (before : State) (rows : List Row) (statements : List Statement) → StaysSound before rows → AllByRecursion IsPlain statements
+pub rows_leave_run : (ids : Ids) (before : State) (rows : List Row) (statements : List Statement) → StaysSound before rows → AllByRecursion IsDataStatement statements
     → rows_meet before rows (reads_in (run_alone ids before statements).answers) ≡ false
     → IsAnsweredSame (run_alone ids before statements) (run_alone ids (state_after_rows before rows) statements)
 rows_leave_run ids before [] statements sound plain missed = (refl, refl)
@@ -107,7 +107,7 @@ rows_leave_run ids before (row ∷ rows) statements sound plain missed =
     let after = state_after_row before row in
     let touched = touched_by_change before (row_change before row) in
     let reads = reads_in (run_alone ids before statements).answers in
-    let parts = both_false (meets before touched reads) (rows_meet after rows reads) missed in
+    let parts = both_false (are_met before touched reads) (rows_meet after rows reads) missed in
     let framed : AreFramed before touched before after = record { agree = row_agrees before sound.0 row; sound = sound.0; still = first_sound after rows sound.1; described = λ space. refl } in
     let same = runs_same ids before touched before after framed statements plain parts.0 in
     let rest = rows_leave_run ids after rows statements sound.1 plain (ap (λ (answers : List Answer). rows_meet after rows (reads_in answers)) same.0 ∙ parts.1) in

@@ -3,7 +3,7 @@ use Rattle.std.proofs.Common.{◌≡◌, Bool, true, false, List, [], ◌∷◌,
 use Rattle.std.specs.Prelude.{if◌then◌else◌}
 use Rattle.std.specs.List.{AllByRecursion}
 use Rattle.mx_base.specs.declared.ids.TxnName.{TxnName}
-use Rattle.mx_model.specs.Overlaps.{Step, Transaction}
+use Rattle.mx_model.specs.Overlaps.{TransactionStep, Transaction}
 use Rattle.mx_model.specs.Streams.{is_name, transaction_named, transaction_with, with_step}
 
 -- the one of a name has it
@@ -16,7 +16,7 @@ named_has P name (one ∷ others) transaction have is = by_test (is_name one.nam
     by_test false is rest = rest is
 
 -- also where that one has gone on
-pub each_with_step : (P : Transaction → Type 0) (name : TxnName) (step : Step) (all : List Transaction) → AllByRecursion P all
+pub each_with_step : (P : Transaction → Type 0) (name : TxnName) (step : TransactionStep) (all : List Transaction) → AllByRecursion P all
     → ((transaction : Transaction) → transaction_named name all ≡ Some transaction → P (transaction_with step transaction)) → AllByRecursion P (with_step name step all)
 each_with_step P name step [] have goes = tt
 each_with_step P name step (one ∷ others) have goes = by_test (is_name one.name name) goes (each_with_step P name step others have.1)

@@ -13,7 +13,7 @@ use Rattle.mx_model.specs.declared.ids.Ids.{Ids}
 use Rattle.mx_model.specs.Alone.{HaveBytes, IsToldAlone, StandsAlone, answers_alone}
 use Rattle.mx_model.specs.Answers.{state_after_rows}
 use Rattle.mx_model.specs.Frame.{reads_in}
-use Rattle.mx_model.specs.Overlaps.{Active, Doomed, Step, Transaction, doomed_or_view, has_row, overlap_of, place_by, place_of, reads_before, standing, standing_after_commit, standing_by, state_at, statements_in}
+use Rattle.mx_model.specs.Overlaps.{Active, Doomed, TransactionStep, Transaction, doomed_or_view, has_row, overlap_of, place_by, place_read, reads_before, standing, standing_after_commit, standing_by, state_after_first, statements_in}
 use Rattle.mx_model.specs.RunAlone.{Run, run_alone}
 use Rattle.mx_model.specs.Touches.{rows_meet}
 use Rattle.mx_model.specs.Transactions.{is_schema_commit, state_after}
@@ -26,7 +26,7 @@ use Rattle.mx_model.proofs.OverlapFound.{overlap_found}
 use Rattle.mx_model.proofs.OverlapStandings.{standing_moved}
 
 -- the whole journal is a prefix of it
-pub whole_state : (base : State) (journal : List Tx) → state_at base journal (length journal) ≡ state_after base journal
+pub whole_state : (base : State) (journal : List Tx) → state_after_first base journal (length journal) ≡ state_after base journal
 whole_state base journal = ap (state_after base) (take_all (length journal) journal (omega arith))
 
 -- ---- a transaction that isn't overlapped
@@ -47,24 +47,24 @@ never_overlapped ids base journal transaction = by_overlap (overlap_of base jour
 -- it was answered alone on the newest state
 pub active_alone : (ids : Ids) (base : State) (journal : List Tx) (transaction : Transaction) → StandsAlone ids base journal transaction
     → standing ids base journal false transaction ≡ Active
-    → map (λ (step : Step). step.reply) transaction.steps
+    → map (λ (step : TransactionStep). step.reply) transaction.steps
     ≡ map (λ (answer : Answer). answer.reply) (run_alone ids (state_after base journal) (statements_in transaction.steps)).answers
 active_alone ids base journal transaction alone active =
     alone.exact (λ doomed. let both : Active ≡ Doomed = sym active ∙ doomed in absurd cc)
     ∙ ap (λ state. map (λ (answer : Answer). answer.reply) (run_alone ids state (statements_in transaction.steps)).answers)
-    (ap (λ overlap. state_at base journal (place_by (length journal) overlap)) (never_overlapped ids base journal transaction active) ∙ whole_state base journal)
+    (ap (λ overlap. state_after_first base journal (place_by (length journal) overlap)) (never_overlapped ids base journal transaction active) ∙ whole_state base journal)
 
 -- ---- what statements have read
 
 -- the reads of statements made by now are all of theirs
-all_reads : (count : ℕ) (steps : List Step) (answers : List Answer) → AllByRecursion (λ (step : Step). step.after ≤ count) steps
-    → map (λ (step : Step). step.reads) steps ≡ map (λ (answer : Answer). answer.reads) answers → reads_before (suc count) steps ≡ reads_in answers
+all_reads : (count : ℕ) (steps : List TransactionStep) (answers : List Answer) → AllByRecursion (λ (step : TransactionStep). step.after ≤ count) steps
+    → map (λ (step : TransactionStep). step.reads) steps ≡ map (λ (answer : Answer). answer.reads) answers → reads_before (suc count) steps ≡ reads_in answers
 all_reads count [] [] made same = refl
 all_reads count [] (answer ∷ answers) made same = absurd cc
 all_reads count (step ∷ steps) [] made same = absurd cc
 all_reads count (step ∷ steps) (answer ∷ answers) made same =
     let first : step.reads ≡ answer.reads = cc in
-    let rest : map (λ (step : Step). step.reads) steps ≡ map (λ (answer : Answer). answer.reads) answers = cc in
+    let rest : map (λ (step : TransactionStep). step.reads) steps ≡ map (λ (answer : Answer). answer.reads) answers = cc in
     let before : nat_lt step.after (suc count) ≡ true = grind (arith, nat_tests, made.0) in
     λ i. (if before i then first i else []) ++ all_reads count steps answers made.1 rest i
 
@@ -77,14 +77,14 @@ module _ (ids : Ids) (base : State) (journal : List Tx) (commit : Tx) (transacti
   abbrev run_at : State → Run
   run_at state = run_alone ids state (statements_in transaction.steps)
 
-  newest_after : state_at base longer (length longer) ≡ state_after_rows (state_after base journal) commit.rows
+  newest_after : state_after_first base longer (length longer) ≡ state_after_rows (state_after base journal) commit.rows
   newest_after = whole_state base longer ∙ state_after-append base journal (commit ∷ [])
 
   module _ (sound : IsSound (state_after base journal)) (bytes : HaveBytes commit.rows) (alone : StandsAlone ids base journal transaction) where
     -- it is answered the same alone, at its place then, and leaves the same rows
-    pub run_kept : IsAnsweredSame (run_at (state_at base journal (place_of base journal transaction))) (run_at (state_at base longer (place_of base longer transaction)))
+    pub run_kept : IsAnsweredSame (run_at (state_after_first base journal (place_read base journal transaction))) (run_at (state_after_first base longer (place_read base longer transaction)))
     run_kept =
-        subst (λ overlap. IsAnsweredSame (run_at (state_at base journal (place_of base journal transaction))) (run_at (state_at base longer (place_by (length longer) overlap))))
+        subst (λ overlap. IsAnsweredSame (run_at (state_after_first base journal (place_read base journal transaction))) (run_at (state_after_first base longer (place_by (length longer) overlap))))
         (sym (overlap_later ids base journal commit transaction alone.within))
         (by_overlap (overlap_of base journal transaction) refl)
       where
@@ -97,22 +97,22 @@ module _ (ids : Ids) (base : State) (journal : List Tx) (commit : Tx) (transacti
             ap (λ reads. rows_meet (state_after base journal) commit.rows reads)
             (sym (all_reads (length journal) transaction.steps (run_at (state_after base journal)).answers alone.within.made
             (alone.reads ∙ ap (λ state. map (λ (answer : Answer). answer.reads) (run_at state).answers)
-            (ap (λ overlap. state_at base journal (place_by (length journal) overlap)) is ∙ whole_state base journal))))
+            (ap (λ overlap. state_after_first base journal (place_by (length journal) overlap)) is ∙ whole_state base journal))))
             ∙ none
 
         by_test : (meets : Bool) → overlap_of base journal transaction ≡ None → is_met base journal commit transaction.steps ≡ meets
-            → IsAnsweredSame (run_at (state_at base journal (length journal)))
-            (run_at (state_at base longer (place_by (length longer) (if meets then Some (suc (length journal)) else None))))
+            → IsAnsweredSame (run_at (state_after_first base journal (length journal)))
+            (run_at (state_after_first base longer (place_by (length longer) (if meets then Some (suc (length journal)) else None))))
         by_test true is met = same_state _ _ (prefix_kept base journal (commit ∷ []) (length journal) (omega arith))
         by_test false is met =
-            subst (λ one. IsAnsweredSame (run_at one) (run_at (state_at base longer (length longer)))) (sym (whole_state base journal))
+            subst (λ one. IsAnsweredSame (run_at one) (run_at (state_after_first base longer (length longer)))) (sym (whole_state base journal))
             (subst (λ other. IsAnsweredSame (run_at (state_after base journal)) (run_at other)) (sym newest_after)
             (rows_leave_run ids (state_after base journal) commit.rows (statements_in transaction.steps) (rows_stay_sound (state_after base journal) commit.rows sound bytes) alone.plain
             (missed is met)))
 
         by_overlap : (overlap : Option ℕ) → overlap_of base journal transaction ≡ overlap
-            → IsAnsweredSame (run_at (state_at base journal (place_by (length journal) overlap)))
-            (run_at (state_at base longer (place_by (length longer) (option_or overlap (if is_met base journal commit transaction.steps then Some (suc (length journal)) else None)))))
+            → IsAnsweredSame (run_at (state_after_first base journal (place_by (length journal) overlap)))
+            (run_at (state_after_first base longer (place_by (length longer) (option_or overlap (if is_met base journal commit transaction.steps then Some (suc (length journal)) else None)))))
         by_overlap None is = by_test (is_met base journal commit transaction.steps) is refl
         by_overlap (Some number) is =
             let found = overlap_found base journal transaction number is in
@@ -124,7 +124,7 @@ module _ (ids : Ids) (base : State) (journal : List Tx) (commit : Tx) (transacti
     more : length longer ≡ suc (length journal)
     more = let one = length-append journal (commit ∷ []) in omega (arith, one)
 
-    abbrev MadeBy : (count : ℕ) → Step → Type 0
+    abbrev MadeBy : (count : ℕ) → TransactionStep → Type 0
     MadeBy count step = step.after ≤ count
 
     pub commit_alone : StandsAlone ids base longer transaction

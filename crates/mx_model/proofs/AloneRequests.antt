@@ -19,11 +19,11 @@ use Rattle.mx_model.specs.declared.ids.Ids.{Ids}
 use Rattle.mx_model.specs.declared.reply.Reply.{Reply}
 use Rattle.mx_model.specs.declared.reply.Reply.TheVariants.{Empty, Refused}
 use Rattle.mx_model.specs.Alone.{AllStandAlone, HaveBytes}
-use Rattle.mx_model.specs.Frame.{IsNoSchemaWrite, IsPlain, OperationHasBytes}
+use Rattle.mx_model.specs.Frame.{IsNoSchemaWrite, IsDataStatement, OperationHasBytes}
 use Rattle.mx_model.specs.Histories.{CanBeAsked, writable_node}
 use Rattle.mx_model.specs.Overlaps.{Active, Doomed, Standing, Transaction, View, standing, statements_in}
 use Rattle.mx_model.specs.RunAlone.{run_alone, statement_answer, writes}
-use Rattle.mx_model.specs.Streams.{Ends, Goes, Opens, Outcome, Streams, begins_beside, commits, commits_rows, commits_standing, ends_with, in_stream, max_open, max_open_of_connection, of_connection, outcome_of, states, states_in, states_standing, tells_statement, told_alone, transaction_named, transaction_with}
+use Rattle.mx_model.specs.Streams.{Ends, Goes, Opens, Outcome, Streams, begins_beside, commits, commits_rows, commits_standing, ends_told, in_stream, max_transactions, max_transactions_of_connection, of_connection, outcome_of, states, states_in, states_standing, tells_statement, told_alone, transaction_named, transaction_with}
 use Rattle.mx_model.specs.Transactions.{state_after}
 use Rattle.mx_model.specs.statements.Answer.{Answer}
 use Rattle.mx_model.specs.statements.Statement.{Operation, Selects, Statement, Writes, statement_of, write_statement}
@@ -57,7 +57,7 @@ module _ (streams : Streams) (name : TxnName) (all : AllStandAlone streams) wher
   begins_kept : (present : Option Transaction) → Kept (begins_beside streams.transactions name.conn.0 present)
   begins_kept (Some transaction) = (tt, tt)
   begins_kept None =
-      by_tests (nat_le max_open_of_connection (length (of_connection name.conn.0 streams.transactions))) (nat_le max_open (length streams.transactions))
+      by_tests (nat_le max_transactions_of_connection (length (of_connection name.conn.0 streams.transactions))) (nat_le max_transactions (length streams.transactions))
     where
       by_tests : (of_this of_all : Bool)
           → Kept (if of_this then told_alone (Refused AllOfConnectionOpen) else if of_all then told_alone (Refused AllTransactionsOpen)
@@ -71,7 +71,7 @@ module _ (streams : Streams) (name : TxnName) (all : AllStandAlone streams) wher
   rows_kept (row ∷ rows) bytes = by_tests (not (ids.me == writable_node)) (nat_lt max_lsn _)
     where
       by_tests : (refuses above : Bool)
-          → Kept (if refuses then ends_with (Refused (ReadOnly (record { 0 = writable_node }))) else if above then ends_with (Refused LsnsUsedUp)
+          → Kept (if refuses then ends_told (Refused (ReadOnly (record { 0 = writable_node }))) else if above then ends_told (Refused LsnsUsedUp)
           else record { reply = Empty; rows = row ∷ rows; becomes = Ends })
       by_tests true above = (tt, tt)
       by_tests false true = (tt, tt)
@@ -87,7 +87,7 @@ module _ (streams : Streams) (name : TxnName) (all : AllStandAlone streams) wher
       rows : (place : State) → Kept (commits_rows streams (run_alone ids place (statements_in transaction.steps)).rows)
       rows place =
           let statements = statements_in transaction.steps in
-          rows_kept (run_alone ids place statements).rows (run_bytes ids place statements (each_follows IsPlain _ (λ statement plain. plain.1) statements alone.plain))
+          rows_kept (run_alone ids place statements).rows (run_bytes ids place statements (each_follows IsDataStatement _ (λ statement plain. plain.1) statements alone.plain))
 
       by_standing : (how : Standing) → Kept (commits_standing streams transaction how)
       by_standing Active = rows _
@@ -96,7 +96,7 @@ module _ (streams : Streams) (name : TxnName) (all : AllStandAlone streams) wher
 
   -- ---- statements
 
-  goes_on : (statement : Statement) (transaction : Transaction) → transaction_named name streams.transactions ≡ Some transaction → IsPlain statement
+  goes_on : (statement : Statement) (transaction : Transaction) → transaction_named name streams.transactions ≡ Some transaction → IsDataStatement statement
       → Kept (states_standing streams statement (answer_now ids base journal transaction statement) (standing ids base journal (writes statement.operation) transaction))
   goes_on statement transaction is plain = by_standing (standing ids base journal (writes statement.operation) transaction) refl
     where

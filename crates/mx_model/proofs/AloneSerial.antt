@@ -13,9 +13,9 @@ use Rattle.mx_model.specs.declared.ids.Ids.{Ids}
 use Rattle.mx_model.specs.declared.reply.Reply.TheVariants.{Empty, Refused}
 use Rattle.mx_model.specs.Alone.{AllStandAlone, answers_alone}
 use Rattle.mx_model.specs.Histories.{writable_node}
-use Rattle.mx_model.specs.Overlaps.{Active, Doomed, Standing, Step, Transaction, View, doomed_or_view, has_row, has_schema_commit_since, has_written_since, is_some_row, overlap_of, place_by, place_of, standing, standing_by, state_at, statements_in}
+use Rattle.mx_model.specs.Overlaps.{Active, Doomed, Standing, TransactionStep, Transaction, View, doomed_or_view, has_row, has_schema_commit_since, has_written_since, is_some_row, overlap_of, place_by, place_read, standing, standing_by, state_after_first, statements_in}
 use Rattle.mx_model.specs.RunAlone.{run_alone}
-use Rattle.mx_model.specs.Streams.{Ends, Outcome, Streams, commit_with, commits, commits_rows, commits_standing, ends_with, in_stream, outcome_of, streams_after, told_alone, transaction_named}
+use Rattle.mx_model.specs.Streams.{Ends, Outcome, Streams, commit_with, commits, commits_rows, commits_standing, ends_told, in_stream, outcome_of, streams_after, told_alone, transaction_named}
 use Rattle.mx_model.specs.Transactions.{state_after}
 use Rattle.mx_model.specs.statements.Answer.{Answer}
 use Rattle.mx_model.proofs.AloneCommits.{commit_makes}
@@ -39,7 +39,7 @@ module _ (streams : Streams) (name : TxnName) (transaction : Transaction) (all :
 
   -- the rows that its statements leave at its place
   abbrev rows_now : List Row
-  rows_now = (run_alone ids (state_at base journal (place_of base journal transaction)) (statements_in transaction.steps)).rows
+  rows_now = (run_alone ids (state_after_first base journal (place_read base journal transaction)) (statements_in transaction.steps)).rows
 
   alone : Stands streams transaction
   alone = named_has (Stands streams) name streams.transactions transaction all.each named
@@ -62,11 +62,11 @@ module _ (streams : Streams) (name : TxnName) (transaction : Transaction) (all :
       by_test false e = absurd cc
 
   pub serial_replies : (outcome_of streams name request.Commit).reply ≡ Empty
-      → map (λ (step : Step). step.reply) transaction.steps ≡ map (λ (answer : Answer). answer.reply) (answers_alone ids base journal transaction)
+      → map (λ (step : TransactionStep). step.reply) transaction.steps ≡ map (λ (answer : Answer). answer.reply) (answers_alone ids base journal transaction)
   serial_replies empty = alone.exact (accepted empty)
 
   -- its place is since its BEGIN
-  pub serial_place : (transaction.begun ≤ place_of base journal transaction) × (place_of base journal transaction ≤ length journal)
+  pub serial_place : (transaction.begun ≤ place_read base journal transaction) × (place_read base journal transaction ≤ length journal)
   serial_place = by_overlap (overlap_of base journal transaction) refl
     where
       by_overlap : (overlap : Option ℕ) → overlap_of base journal transaction ≡ overlap
@@ -81,7 +81,7 @@ module _ (streams : Streams) (name : TxnName) (transaction : Transaction) (all :
 
   abbrev commits_by : (refuses above : Bool) → List Row → Outcome
   commits_by refuses above rows =
-      if refuses then ends_with (Refused (ReadOnly (record { 0 = writable_node }))) else if above then ends_with (Refused LsnsUsedUp)
+      if refuses then ends_told (Refused (ReadOnly (record { 0 = writable_node }))) else if above then ends_told (Refused LsnsUsedUp)
       else record { reply = Empty; rows = rows; becomes = Ends }
 
   -- what commits rows commits these
@@ -107,7 +107,7 @@ module _ (streams : Streams) (name : TxnName) (transaction : Transaction) (all :
   no_row_in_view place = by_overlap (overlap_of base journal transaction)
     where
       by_overlap : (overlap : Option ℕ) → standing_by ids base journal false transaction.steps overlap ≡ View place
-          → is_some_row (run_alone ids (state_at base journal (place_by (length journal) overlap)) (statements_in transaction.steps)).rows ≡ false
+          → is_some_row (run_alone ids (state_after_first base journal (place_by (length journal) overlap)) (statements_in transaction.steps)).rows ≡ false
       by_overlap None view = absurd cc
       by_overlap (Some number) view =
           rowless_view (has_row ids base journal (pred number) transaction.steps) (has_written_since number transaction.steps) (has_schema_commit_since number journal) (pred number) place view
@@ -130,17 +130,17 @@ module _ (streams : Streams) (name : TxnName) (transaction : Transaction) (all :
       by_test false some = active_rows stands_now refl some
 
   -- its place is the whole journal
-  active_place : stands_now ≡ Active → place_of base journal transaction ≡ length journal
+  active_place : stands_now ≡ Active → place_read base journal transaction ≡ length journal
   active_place active = ap (place_by (length journal)) (never_overlapped ids base journal transaction active)
 
   pub serial_commit : is_some_row (outcome_of streams name request.Commit).rows ≡ true
-      → (place_of base journal transaction ≡ length journal)
+      → (place_read base journal transaction ≡ length journal)
       × (state_after base (streams_after streams name (outcome_of streams name request.Commit)).journal
       ≡ (run_alone ids (state_after base journal) (statements_in transaction.steps)).state)
   serial_commit some =
       let found = serial_rows some in
       let place = active_place found.0 in
-      let newest : state_at base journal (place_of base journal transaction) ≡ state_after base journal = ap (state_at base journal) place ∙ whole_state base journal in (
+      let newest : state_after_first base journal (place_read base journal transaction) ≡ state_after base journal = ap (state_after_first base journal) place ∙ whole_state base journal in (
         place,
         ap (λ rows. state_after base (journal ++ commit_with streams rows)) (found.1 ∙ ap (λ state. (run_alone ids state (statements_in transaction.steps)).rows) newest)
             ∙ commit_makes streams transaction all alone,

@@ -9,8 +9,8 @@ use Rattle.mx_model.specs.declared.ids.Ids.{Ids}
 use Rattle.mx_model.specs.declared.reply.Reply.{Reply}
 use Rattle.mx_model.specs.declared.reply.Reply.TheVariants.{Refused}
 use Rattle.mx_model.specs.Alone.{IsToldAlone, StandsAlone, answers_alone}
-use Rattle.mx_model.specs.Frame.{IsPlain}
-use Rattle.mx_model.specs.Overlaps.{Doomed, Step, Transaction, place_by, place_of, standing, standing_after_step, state_at, statements_in}
+use Rattle.mx_model.specs.Frame.{IsDataStatement}
+use Rattle.mx_model.specs.Overlaps.{Doomed, TransactionStep, Transaction, place_by, place_read, standing, standing_after_step, state_after_first, statements_in}
 use Rattle.mx_model.specs.RunAlone.{answer_alone, run_alone, writes}
 use Rattle.mx_model.specs.Streams.{transaction_with}
 use Rattle.mx_model.specs.statements.Answer.{Answer}
@@ -31,19 +31,19 @@ begins_alone ids base journal name = record {
 module _ (ids : Ids) (base : State) (journal : List Tx) (transaction : Transaction) (statement : Statement) where
   -- what the statement is answered alone, at the transaction's place
   abbrev pub answer_now : Answer
-  answer_now = answer_alone ids (state_at base journal (place_of base journal transaction)) statement (statements_in transaction.steps)
+  answer_now = answer_alone ids (state_after_first base journal (place_read base journal transaction)) statement (statements_in transaction.steps)
 
-  abbrev pub step_now : Reply → Step
+  abbrev pub step_now : Reply → TransactionStep
   step_now reply = record { statement = statement; after = length journal; reply = reply; reads = answer_now.reads }
 
   -- the transaction has it answered in front of its earlier ones
   answers_further : (reply : Reply) → answers_alone ids base journal (transaction_with (step_now reply) transaction) ≡ answer_now ∷ answers_alone ids base journal transaction
   unfolding run_alone
   answers_further reply =
-      ap (λ overlap. (run_alone ids (state_at base journal (place_by (length journal) overlap)) (statement ∷ statements_in transaction.steps)).answers)
+      ap (λ overlap. (run_alone ids (state_after_first base journal (place_by (length journal) overlap)) (statement ∷ statements_in transaction.steps)).answers)
       (overlap_stays base journal (step_now reply) transaction refl)
 
-  pub statement_alone : StandsAlone ids base journal transaction → IsPlain statement → (reply : Reply)
+  pub statement_alone : StandsAlone ids base journal transaction → IsDataStatement statement → (reply : Reply)
       → (reply ≡ answer_now.reply) ⊎ (reply ≡ Refused Conflict) → (standing ids base journal (writes statement.operation) transaction ≢ Doomed → reply ≡ answer_now.reply)
       → StandsAlone ids base journal (transaction_with (step_now reply) transaction)
   statement_alone alone plain reply told exact = record {

@@ -6,9 +6,9 @@ use Rattle.mx_base.specs.declared.ids.TxnName.{TxnName}
 use Rattle.mx_base.specs.declared.refusal.Refusal.TheVariants.{IllegalValue, LsnsUsedUp, ReadOnly}
 use Rattle.mx_model.specs.Alone.{StandsAlone}
 use Rattle.mx_model.specs.Histories.{writable_node}
-use Rattle.mx_model.specs.Overlaps.{Active, Doomed, Standing, Step, Transaction, View, doomed_or_view, has_row, has_schema_commit_since, has_written_since, is_some_row, overlap_of, place_by, place_of, standing, standing_by, state_at, statements_in}
+use Rattle.mx_model.specs.Overlaps.{Active, Doomed, Standing, TransactionStep, Transaction, View, doomed_or_view, has_row, has_schema_commit_since, has_written_since, is_some_row, overlap_of, place_by, place_read, standing, standing_by, state_after_first, statements_in}
 use Rattle.mx_model.specs.RunAlone.{run_alone}
-use Rattle.mx_model.specs.Streams.{Ends, Streams, commits, commits_rows, commits_standing, ends_with, outcome_of, state_read, told_alone, transaction_named}
+use Rattle.mx_model.specs.Streams.{Ends, Streams, commits, commits_rows, commits_standing, ends_told, outcome_of, state_read, told_alone, transaction_named}
 use Rattle.mx_model.specs.Transactions.{state_after}
 use Rattle.mx_model.specs.declared.ids.Ids.{Ids}
 use Rattle.mx_model.specs.declared.reply.Reply.TheVariants.{Empty, Refused}
@@ -23,8 +23,8 @@ use Rattle.mx_request.specs.declared.request.Request.TheVariants as request
 -- a transaction that committed these rows isn't overlapped: it was answered alone on the newest state, and these are its rows
 pub record CommitsAlone (ids : Ids) (base : State) (journal : List Tx) (transaction : Transaction) (rows : List Row) : Type 0 where
   pub active : standing ids base journal false transaction ≡ Active
-  pub newest : place_of base journal transaction ≡ length journal
-  pub replies : map (λ (step : Step). step.reply) transaction.steps
+  pub newest : place_read base journal transaction ≡ length journal
+  pub replies : map (λ (step : TransactionStep). step.reply) transaction.steps
       ≡ map (λ (answer : Answer). answer.reply) (run_alone ids (state_after base journal) (statements_in transaction.steps)).answers
   pub same_rows : rows ≡ (run_alone ids (state_after base journal) (statements_in transaction.steps)).rows
 
@@ -48,7 +48,7 @@ module _ (streams : Streams) (name : TxnName) (transaction : Transaction) (alone
   all_rows (first ∷ rest) row others is = by_tests (not (ids.me == writable_node)) (nat_lt max_lsn _) is
     where
       by_tests : (refuses above : Bool)
-          → (if refuses then ends_with (Refused (ReadOnly (record { 0 = writable_node }))) else if above then ends_with (Refused LsnsUsedUp)
+          → (if refuses then ends_told (Refused (ReadOnly (record { 0 = writable_node }))) else if above then ends_told (Refused LsnsUsedUp)
           else record { reply = Empty; rows = first ∷ rest; becomes = Ends }).rows ≡ row ∷ others → row ∷ others ≡ first ∷ rest
       by_tests true above is = absurd cc
       by_tests false true is = absurd cc
@@ -67,11 +67,11 @@ module _ (streams : Streams) (name : TxnName) (transaction : Transaction) (alone
   view_no_rows place = by_overlap (overlap_of base journal transaction)
     where
       by_overlap : (overlap : Option ℕ) → standing_by ids base journal false transaction.steps overlap ≡ View place
-          → (run_alone ids (state_at base journal (place_by (length journal) overlap)) (statements_in transaction.steps)).rows ≡ []
+          → (run_alone ids (state_after_first base journal (place_by (length journal) overlap)) (statements_in transaction.steps)).rows ≡ []
       by_overlap None is = absurd cc
       by_overlap (Some number) is = no_rows _ (by_doom (has_row ids base journal (pred number) transaction.steps) (has_written_since number transaction.steps) (has_schema_commit_since number journal) (pred number) place is)
 
-  active_newest : standing ids base journal false transaction ≡ Active → place_of base journal transaction ≡ length journal
+  active_newest : standing ids base journal false transaction ≡ Active → place_read base journal transaction ≡ length journal
   active_newest = by_overlap (overlap_of base journal transaction)
     where
       by_overlap : (overlap : Option ℕ) → standing_by ids base journal false transaction.steps overlap ≡ Active → place_by (length journal) overlap ≡ length journal
@@ -86,7 +86,7 @@ module _ (streams : Streams) (name : TxnName) (transaction : Transaction) (alone
         newest = place;
         replies = active_alone ids base journal transaction alone how;
         same_rows = all_rows _ row others is
-            ∙ ap (λ state. (run_alone ids state (statements_in transaction.steps)).rows) (ap (state_at base journal) place ∙ whole_state base journal);
+            ∙ ap (λ state. (run_alone ids state (statements_in transaction.steps)).rows) (ap (state_after_first base journal) place ∙ whole_state base journal);
       }
   rows_by row others (View place) how is =
       let none : (commits_rows streams []).rows ≡ row ∷ others = ap (λ (rows : List Row). (commits_rows streams rows).rows) (sym (view_no_rows place how)) ∙ is in absurd cc

@@ -17,7 +17,7 @@ use Rattle.mx_model.specs.Answers.{answer_in_space}
 use Rattle.mx_model.specs.Histories.{is_out_of_memory, writable_node}
 use Rattle.mx_model.specs.Overlaps.{Active, Doomed, Standing, Transaction, View, standing, statements_in}
 use Rattle.mx_model.specs.RunAlone.{Run, answer_in_run, has_room, run_alone, statement_answer, within_limits, writes}
-use Rattle.mx_model.specs.Streams.{Ends, Outcome, Streams, commits, commits_rows, commits_standing, ends_with, outcome_of, state_read, states, states_standing, tells_statement, told_alone, transaction_named}
+use Rattle.mx_model.specs.Streams.{Ends, Outcome, Streams, commits, commits_rows, commits_standing, ends_told, outcome_of, state_read, states, states_standing, tells_statement, told_alone, transaction_named}
 use Rattle.mx_model.specs.declared.ids.Ids.{Ids}
 use Rattle.mx_model.specs.declared.reply.Reply.{Reply}
 use Rattle.mx_model.specs.declared.reply.Reply.TheVariants.{Empty, Refused}
@@ -137,7 +137,7 @@ rows_other streams [] = tt
 rows_other streams (row ∷ rows) = by_tests (not (streams.base.ids.me == writable_node)) (nat_lt max_lsn _)
   where
     by_tests : (refuses above : Bool)
-        → TellsOther (if refuses then ends_with (Refused (ReadOnly (record { 0 = writable_node }))) else if above then ends_with (Refused LsnsUsedUp)
+        → TellsOther (if refuses then ends_told (Refused (ReadOnly (record { 0 = writable_node }))) else if above then ends_told (Refused LsnsUsedUp)
         else record { reply = Empty; rows = row ∷ rows; becomes = Ends }).reply
     by_tests true above = refl
     by_tests false true = refl

@@ -9,7 +9,7 @@ use Rattle.mx_model.specs.Answers.{answer_without_space}
 use Rattle.mx_model.specs.Histories.{is_out_of_memory, with_lsn}
 use Rattle.mx_model.specs.Overlaps.{Active, Doomed, Standing, Transaction, View, standing, statements_in}
 use Rattle.mx_model.specs.RunAlone.{Run, answer_in_run, run_alone, statement_answer, writes}
-use Rattle.mx_model.specs.Streams.{Opens, Outcome, Streams, begins_beside, commits, commits_rows, commits_standing, ends_with, in_stream, max_open, max_open_of_connection, of_connection, outcome_of, state_read, states, states_standing, tells_statement, told_alone, transaction_named}
+use Rattle.mx_model.specs.Streams.{Opens, Outcome, Streams, begins_beside, commits, commits_rows, commits_standing, ends_told, in_stream, max_transactions, max_transactions_of_connection, of_connection, outcome_of, state_read, states, states_standing, tells_statement, told_alone, transaction_named}
 use Rattle.mx_model.specs.Transactions.{state_after}
 use Rattle.mx_model.specs.declared.ids.Ids.{Ids}
 use Rattle.mx_model.specs.declared.reply.Reply.{Reply}
@@ -41,7 +41,7 @@ module _ (streams : Streams) (name : TxnName) where
   begins_tells : (present : Option Transaction) → HasMemoryFor (begins_beside streams.transactions name.conn.0 present).reply
   begins_tells (Some transaction) = refl
   begins_tells None =
-      by_tests (nat_le max_open_of_connection (length (of_connection name.conn.0 streams.transactions))) (nat_le max_open (length streams.transactions))
+      by_tests (nat_le max_transactions_of_connection (length (of_connection name.conn.0 streams.transactions))) (nat_le max_transactions (length streams.transactions))
     where
       by_tests : (of_this of_all : Bool)
           → HasMemoryFor (if of_this then told_alone (Refused AllOfConnectionOpen) else if of_all then told_alone (Refused AllTransactionsOpen)
@@ -109,5 +109,5 @@ module _ (streams : Streams) (name : TxnName) where
   pub demanded_memory : (asked : Request) → is_out_of_memory (outcome_of streams name asked).reply ≡ false
   demanded_memory request.Begin = in_stream_tells _ (begins_tells (transaction_named name streams.transactions))
   demanded_memory request.Commit = in_stream_tells _ (commits_tells (transaction_named name streams.transactions))
-  demanded_memory request.Rollback = in_stream_tells (ends_with Empty) refl
+  demanded_memory request.Rollback = in_stream_tells (ends_told Empty) refl
   demanded_memory other = tells_tells other (statement_of other)

@@ -21,7 +21,7 @@ use Rattle.mx_schema.specs.State.{State, Tuples, index_rows, space_rows, tuples_
 use Rattle.mx_schema.proofs.OrderLaws.{eq_is}
 use Rattle.mx_write.specs.Reads.{index_read, schema_reads, space_read}
 use Rattle.mx_model.specs.Frame.{AgreeAt, AgreeBut, IsIndexTouched}
-use Rattle.mx_model.specs.Touches.{Touched, index_in}
+use Rattle.mx_model.specs.Touches.{Touched, index_by_state}
 use Rattle.mx_model.proofs.FrameReads.{AreMissed, index_key, missed_key, missed_parts}
 use Rattle.mx_model.proofs.FrameSound.{indexes_first, spaces_first}
 use Rattle.mx_model.proofs.FrameTuples.{AreAlike, passing_same, same_option}
@@ -75,7 +75,7 @@ BothThere one other space =
 
 module _ (touched : List Touched) (one other : State) where
   -- they have the same in a range of an index that was read
-  pub alike_in : (space index : ℕ) (range : Range) (def : IndexDef) → ((key : Key) → AgreeAt touched one other space key) → index_in one space index ≡ Some def
+  pub alike_in : (space index : ℕ) (range : Range) (def : IndexDef) → ((key : Key) → AgreeAt touched one other space key) → index_by_state one space index ≡ Some def
       → AreMissed one touched (record { space = space; index = index; range = range } ∷ []) → AreAlike def range (tuples_in one space) (tuples_in other space)
   alike_in space index range def agree known missed = record {
     there = λ key tuple lies is. by_there key tuple lies is (agree key);

@@ -8,7 +8,7 @@ use Rattle.mx_schema.proofs.AloneLaws.{each_follows}
 use Rattle.mx_write.specs.Change.{Change, state_after_changed}
 use Rattle.mx_write.specs.Judge.{row_change}
 use Rattle.mx_model.specs.Answers.{answer_in_space, state_after_row, state_after_rows}
-use Rattle.mx_model.specs.Frame.{IsPlain, OperationHasBytes, StaysSound, answer_to_statement, answers_from, reads_in, rows_in, state_after_statement, state_after_statements, with_row}
+use Rattle.mx_model.specs.Frame.{IsDataStatement, OperationHasBytes, StaysSound, answer_to_statement, answers_from, reads_in, rows_in, state_after_statement, state_after_statements, with_row}
 use Rattle.mx_model.specs.Touches.{rows_meet}
 use Rattle.mx_model.specs.statements.Answer.{Answer}
 use Rattle.mx_model.specs.statements.Select.{iterator_of}
@@ -61,12 +61,12 @@ last_sound before [] sound = sound
 last_sound before (row ∷ rows) sound = last_sound (state_after_row before row) rows sound.1
 
 -- they do so after other rows, where these touch nothing which the statements read
-pub rows_again : (before : State) (others : List Row) (statements : List Statement) → StaysSound before others → AllByRecursion IsPlain statements
+pub rows_again : (before : State) (others : List Row) (statements : List Statement) → StaysSound before others → AllByRecursion IsDataStatement statements
     → rows_meet before others (reads_in (answers_from before statements)) ≡ false
     → (state_after_rows (state_after_rows before others) (rows_in (answers_from before statements)) ≡ state_after_statements (state_after_rows before others) statements)
     × StaysSound (state_after_rows before others) (rows_in (answers_from before statements))
 rows_again before others statements sound plain missed =
     let now = state_after_rows before others in
-    let bytes = each_follows IsPlain (λ (statement : Statement). OperationHasBytes statement.operation) (λ statement is. is.1) statements plain in
+    let bytes = each_follows IsDataStatement (λ (statement : Statement). OperationHasBytes statement.operation) (λ statement is. is.1) statements plain in
     subst (λ (answers : List Answer). (state_after_rows now (rows_in answers) ≡ state_after_statements now statements) × StaysSound now (rows_in answers))
     (rows_leave before others statements sound plain missed) (run_rows now statements (last_sound before others sound) bytes)

@@ -1,4 +1,4 @@
--- The frame of a statement: where what a change touched meets none of its reads, it is answered the same before and after.
+-- The frame of a statement: where what a change touched are_met none of its reads, it is answered the same before and after.
 use Rattle.std.proofs.Common.{◌≡◌, ℕ, false, List, Result, Ok, Err, refl, sym, ap, ◌∙◌}
 use Rattle.mx_base.specs.declared.refusal.Refusal.{Refusal}
 use Rattle.mx_schema.specs.Sound.{IsSound}
@@ -9,7 +9,7 @@ use Rattle.mx_write.specs.Judged.{Judged}
 use Rattle.mx_write.specs.Made.{Made}
 use Rattle.mx_model.specs.Answers.{answer_in_space}
 use Rattle.mx_model.specs.Frame.{AgreeBut, IsNoSchemaWrite}
-use Rattle.mx_model.specs.Touches.{Touched, meets}
+use Rattle.mx_model.specs.Touches.{Touched, are_met}
 use Rattle.mx_model.specs.statements.Select.{iterator_of}
 use Rattle.mx_model.specs.statements.Statement.{Operation, Selects, Writes}
 use Rattle.mx_model.specs.statements.Write.{answer_of, answer_of_outcome}
@@ -25,9 +25,9 @@ answer_reads judged = by_outcome judged.outcome
     by_outcome (Err why) = refl
 
 module _ (touched : List Touched) (one other : State) (agree : AgreeBut touched one other) (sound : IsSound one) (still : IsSound other) (space : ℕ) where
-  pub answered_same : (operation : Operation) → IsNoSchemaWrite space operation → meets one touched (answer_in_space one space operation).reads ≡ false
+  pub answered_same : (operation : Operation) → IsNoSchemaWrite space operation → are_met one touched (answer_in_space one space operation).reads ≡ false
       → answer_in_space other space operation ≡ answer_in_space one space operation
   answered_same (Selects index limit offset iterator key) plain missed = select_same touched one other agree sound still space index limit offset (iterator_of iterator) key missed
   answered_same (Writes write) plain missed =
       ap answer_of
-      (write_same touched one other agree sound still Client space plain write (ap (meets one touched) (sym (answer_reads (judged_write Client one space write))) ∙ missed))
+      (write_same touched one other agree sound still Client space plain write (ap (are_met one touched) (sym (answer_reads (judged_write Client one space write))) ∙ missed))

@@ -24,7 +24,7 @@ use Rattle.mx_write.specs.Reads.{key_read}
 use Rattle.mx_write.specs.Unique.{are_free, held_refusal, is_free, is_free_if_unique}
 use Rattle.mx_write.proofs.UniqueLaws.{number_is}
 use Rattle.mx_model.specs.Frame.{AgreeAt}
-use Rattle.mx_model.specs.Touches.{Touched, meets}
+use Rattle.mx_model.specs.Touches.{Touched, are_met}
 use Rattle.mx_model.proofs.FrameReads.{AreMissed, missed_parts}
 use Rattle.mx_model.proofs.FrameCatalogue.{alike_in, prefix_itself}
 use Rattle.mx_model.proofs.FrameSound.{are_apart, index_known}
@@ -67,7 +67,7 @@ module _ (touched : List Touched) (one other : State) (space : ℕ) (schema : Sc
 
   pub key_missed : (index : ℕ) (def : IndexDef) (key : Key) → index_with index schema.indexes ≡ Some def → AreMissed one touched (key_read space index key ∷ [])
       → AreMissed one touched (key_read space def.id.0 key ∷ [])
-  key_missed index def key there missed = ap (λ n. meets one touched (key_read space n key ∷ [])) (its_number index def there) ∙ missed
+  key_missed index def key there missed = ap (λ n. are_met one touched (key_read space n key ∷ [])) (its_number index def there) ∙ missed
 
   -- the tuple under a primary key that was read
   pub under_same : (primary : IndexDef) (key : Key) → index_with 0 schema.indexes ≡ Some primary → AreMissed one touched (key_read space 0 key ∷ [])

@@ -9,7 +9,7 @@ use Rattle.mx_schema.specs.declared.index_def.IndexDef.{IndexDef}
 use Rattle.mx_schema.specs.Picks.{entry_key}
 use Rattle.mx_schema.specs.State.{State}
 use Rattle.mx_write.specs.Reads.{Read}
-use Rattle.mx_model.specs.Touches.{Touched, index_in, is_met, lies_in_index, meets}
+use Rattle.mx_model.specs.Touches.{Touched, index_by_state, is_met, lies_in_index, are_met}
 
 -- neither of two tests holds
 pub both_false : (a b : Bool) → (a || b) ≡ false → (a ≡ false) × (b ≡ false)
@@ -27,24 +27,24 @@ abbrev pub index_key : IndexDef → Key → (tuple : List ℕ) → Key
 index_key def key tuple = if def.id.0 == 0 then key else entry_key def key tuple
 
 module _ (one : State) (touched : List Touched) where
-  -- nothing that was touched meets these reads
+  -- nothing that was touched are_met these reads
   abbrev pub AreMissed : List Read → Type 0
-  AreMissed reads = meets one touched reads ≡ false
+  AreMissed reads = are_met one touched reads ≡ false
 
   pub missed_parts : (reads more : List Read) → AreMissed (reads ++ more) → AreMissed reads × AreMissed more
   missed_parts reads more missed =
-      both_false (meets one touched reads) (meets one touched more) (sym (list_any-append (λ read. list_any (is_met one read) touched) reads more) ∙ missed)
+      both_false (are_met one touched reads) (are_met one touched more) (sym (list_any-append (λ read. list_any (is_met one read) touched) reads more) ∙ missed)
 
   pub missed_both : (reads more : List Read) → AreMissed reads → AreMissed more → AreMissed (reads ++ more)
   missed_both reads more first second =
-      list_any-append (λ read. list_any (is_met one read) touched) reads more ∙ ap (λ b. b || meets one touched more) first ∙ second
+      list_any-append (λ read. list_any (is_met one read) touched) reads more ∙ ap (λ b. b || are_met one touched more) first ∙ second
 
   -- the key of a tuple that was touched lies outside of a range that was read
   pub missed_key : (space index : ℕ) (range : Range) (def : IndexDef) (key : Key) (tuple : List ℕ) → AreMissed (record { space = space; index = index; range = range } ∷ [])
-      → index_in one space index ≡ Some def → Contains touched (record { space = space; key = key; tuple = tuple }) → lies_in range (index_key def key tuple) ≡ false
+      → index_by_state one space index ≡ Some def → Contains touched (record { space = space; key = key; tuple = tuple }) → lies_in range (index_key def key tuple) ≡ false
   missed_key space index range def key tuple missed is was =
       ap (λ o. lies_in_index o range at) (sym is)
-      ∙ ap (λ b. b && lies_in_index (index_in one space index) range at) (sym (eq-eqb space space refl))
+      ∙ ap (λ b. b && lies_in_index (index_by_state one space index) range at) (sym (eq-eqb space space refl))
       ∙ none_passes (is_met one read) touched at (both_false (list_any (is_met one read) touched) false missed).0 was
     where
       at : Touched

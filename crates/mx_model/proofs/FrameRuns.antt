@@ -1,4 +1,4 @@
--- Statements one after the other are answered the same where nothing that rows touch meets what they read.
+-- Statements one after the other are answered the same where nothing that rows touch are_met what they read.
 use Rattle.std.proofs.Common.{◌≡◌, ℕ, false, ◌&&◌, ◌||◌, List, [], ◌∷◌, ◌++◌, Option, refl, sym, ap, ◌∙◌, subst, append_assoc}
 use Rattle.std.specs.Prelude.{◌==◌}
 use Rattle.std.specs.List.{AllByRecursion, list_any}
@@ -14,8 +14,8 @@ use Rattle.mx_write.specs.Made.{write_of}
 use Rattle.mx_write.specs.Reads.{Read}
 use Rattle.mx_write.specs.Writes.{HasBytes}
 use Rattle.mx_model.specs.Answers.{state_after_row, state_after_rows}
-use Rattle.mx_model.specs.Frame.{AgreeBut, IsPlain, StaysSound, answer_to_statement, answers_from, reads_in, state_after_statement, state_after_statements}
-use Rattle.mx_model.specs.Touches.{Touched, index_in, is_met, lies_in_index, meets, rows_meet, touched_by_change}
+use Rattle.mx_model.specs.Frame.{AgreeBut, IsDataStatement, StaysSound, answer_to_statement, answers_from, reads_in, state_after_statement, state_after_statements}
+use Rattle.mx_model.specs.Touches.{Touched, index_by_state, is_met, lies_in_index, are_met, rows_meet, touched_by_change}
 use Rattle.mx_model.specs.statements.Answer.{Answer}
 use Rattle.mx_model.specs.statements.Statement.{Statement}
 use Rattle.mx_model.proofs.FrameLaws.{answered_same}
@@ -25,7 +25,7 @@ use Rattle.mx_model.proofs.FrameSteps.{IsPlainChange, answer_sound, changed_agre
 -- ---- where spaces are described the same, the same is met
 
 module _ (one other : State) (described : (space : ℕ) → schema_of one space ≡ schema_of other space) (touched : List Touched) where
-  index_same : (space index : ℕ) → index_in one space index ≡ index_in other space index
+  index_same : (space index : ℕ) → index_by_state one space index ≡ index_by_state other space index
   index_same space index = ap (λ (found : Option Schema). found >>= (λ schema. index_with index schema.indexes)) (described space)
 
   met_same : (read : Read) (some : List Touched) → list_any (is_met one read) some ≡ list_any (is_met other read) some
@@ -33,7 +33,7 @@ module _ (one other : State) (described : (space : ℕ) → schema_of one space 
   met_same read (first ∷ some) =
       λ i. ((first.space == read.space) && lies_in_index (index_same read.space read.index i) read.range first) || met_same read some i
 
-  pub meets_same : (reads : List Read) → meets one touched reads ≡ meets other touched reads
+  pub meets_same : (reads : List Read) → are_met one touched reads ≡ are_met other touched reads
   meets_same [] = refl
   meets_same (read ∷ reads) = λ i. met_same read touched i || meets_same reads i
 
@@ -48,14 +48,14 @@ module _ (base : State) (touched : List Touched) where
     pub described : (space : ℕ) → schema_of base space ≡ schema_of one space
 
   -- a statement is answered the same
-  pub statement_same : (one other : State) → AreFramed one other → (statement : Statement) → IsPlain statement → meets base touched (answer_to_statement one statement).reads ≡ false
+  pub statement_same : (one other : State) → AreFramed one other → (statement : Statement) → IsDataStatement statement → are_met base touched (answer_to_statement one statement).reads ≡ false
       → answer_to_statement other statement ≡ answer_to_statement one statement
   statement_same one other framed statement plain missed =
       answered_same touched one other framed.agree framed.sound framed.still statement.space statement.operation plain.0
       (sym (meets_same base one framed.described touched (answer_to_statement one statement).reads) ∙ missed)
 
   -- and so are those after it
-  pub framed_after : (one other : State) → AreFramed one other → (statement : Statement) → IsPlain statement → answer_to_statement other statement ≡ answer_to_statement one statement
+  pub framed_after : (one other : State) → AreFramed one other → (statement : Statement) → IsDataStatement statement → answer_to_statement other statement ≡ answer_to_statement one statement
       → AreFramed (state_after_statement one statement) (state_after_statement other statement)
   framed_after one other framed statement plain same = record {
     agree = subst (λ (answer : Answer). AgreeBut touched (state_after_statement one statement) (state_after_changed other answer.change)) (sym same)
@@ -68,8 +68,8 @@ module _ (base : State) (touched : List Touched) where
       changes : IsPlainChange (answer_to_statement one statement).change
       changes = plain_change one statement.space statement.operation plain.0
 
-  statements_same : (one other : State) → AreFramed one other → (statements : List Statement) → AllByRecursion IsPlain statements
-      → meets base touched (reads_in (answers_from one statements)) ≡ false
+  statements_same : (one other : State) → AreFramed one other → (statements : List Statement) → AllByRecursion IsDataStatement statements
+      → are_met base touched (reads_in (answers_from one statements)) ≡ false
       → (answers_from other statements ≡ answers_from one statements) × AgreeBut touched (state_after_statements one statements) (state_after_statements other statements)
   statements_same one other framed [] plain missed = (refl, framed.agree)
   statements_same one other framed (statement ∷ later) plain missed =
@@ -79,9 +79,9 @@ module _ (base : State) (touched : List Touched) where
       let rest = statements_same after (state_after_statement other statement) (framed_after one other framed statement plain.0 same) later plain.1 parts.1 in
       (λ i. same i ∷ rest.0 i, rest.1)
 
--- statements from two states that agree but for what was touched, where nothing of it meets what they read
-pub run_same : (touched : List Touched) (one other : State) (statements : List Statement) → AgreeBut touched one other → IsSound one → IsSound other → AllByRecursion IsPlain statements
-    → meets one touched (reads_in (answers_from one statements)) ≡ false
+-- statements from two states that agree but for what was touched, where nothing of it are_met what they read
+pub run_same : (touched : List Touched) (one other : State) (statements : List Statement) → AgreeBut touched one other → IsSound one → IsSound other → AllByRecursion IsDataStatement statements
+    → are_met one touched (reads_in (answers_from one statements)) ≡ false
     → (answers_from other statements ≡ answers_from one statements) × AgreeBut touched (state_after_statements one statements) (state_after_statements other statements)
 run_same touched one other statements agree sound still plain missed =
     statements_same one touched one other (record { agree = agree; sound = sound; still = still; described = λ space. refl }) statements plain missed
@@ -116,13 +116,13 @@ first_sound before [] sound = sound
 first_sound before (row ∷ rows) sound = sound.0
 
 -- statements are answered the same after rows that touch nothing which they read
-pub rows_leave : (before : State) (rows : List Row) (statements : List Statement) → StaysSound before rows → AllByRecursion IsPlain statements
+pub rows_leave : (before : State) (rows : List Row) (statements : List Statement) → StaysSound before rows → AllByRecursion IsDataStatement statements
     → rows_meet before rows (reads_in (answers_from before statements)) ≡ false → answers_from (state_after_rows before rows) statements ≡ answers_from before statements
 rows_leave before [] statements sound plain missed = refl
 rows_leave before (row ∷ rows) statements sound plain missed =
     let after = state_after_row before row in
     let touched = touched_by_change before (row_change before row) in
     let reads = reads_in (answers_from before statements) in
-    let parts = both_false (meets before touched reads) (rows_meet after rows reads) missed in
+    let parts = both_false (are_met before touched reads) (rows_meet after rows reads) missed in
     let same = (run_same touched before after statements (row_agrees before sound.0 row) sound.0 (first_sound after rows sound.1) plain parts.0).0 in
     rows_leave after rows statements sound.1 plain (ap (λ (answers : List Answer). rows_meet after rows (reads_in answers)) same ∙ parts.1) ∙ same

@@ -26,7 +26,7 @@ use Rattle.mx_space.proofs.HolderLaws.{unique_apart}
 use Rattle.mx_space.proofs.IndexedLaws.{AreApart}
 use Rattle.mx_space.proofs.ScanLaws.{many_apart}
 use Rattle.mx_write.proofs.UniqueLaws.{number_is}
-use Rattle.mx_model.specs.Touches.{index_in}
+use Rattle.mx_model.specs.Touches.{index_by_state}
 
 -- what each index has, that of a number has
 pub index_has : (P : IndexDef → Type 0) (id : ℕ) (defs : List IndexDef) (def : IndexDef) → index_with id defs ≡ Some def → AllByRecursion P defs → P def
@@ -60,7 +60,7 @@ module _ (schema : Schema) (tuples : Tuples) (keyed : AreKeyed (Some schema) tup
 
 -- an index of a space as a state describes it
 pub index_known : (state : State) (space id : ℕ) (schema : Schema) (def : IndexDef) → schema_of state space ≡ Some schema → index_with id schema.indexes ≡ Some def
-    → index_in state space id ≡ Some def
+    → index_by_state state space id ≡ Some def
 index_known state space id schema def described there = ap (λ (o : Option Schema). o >>= (λ schema. index_with id schema.indexes)) described ∙ there
 
 -- ---- the database's own spaces
@@ -68,7 +68,7 @@ index_known state space id schema def described there = ap (λ (o : Option Schem
 -- one of them has a primary index
 pub record HasFirst (state : State) (space : ℕ) : Type 0 where
   pub def : IndexDef
-  pub known : index_in state space 0 ≡ Some def
+  pub known : index_by_state state space 0 ≡ Some def
   pub first : (def.id.0 == 0) ≡ true
 
 module _ (state : State) (sound : IsSound state) where

@@ -10,14 +10,14 @@ use Rattle.mx_row.specs.declared.tx.Tx.{Tx}
 use Rattle.mx_schema.specs.State.{State}
 use Rattle.mx_model.specs.declared.ids.Ids.{Ids}
 use Rattle.mx_model.specs.Answers.{state_after_rows}
-use Rattle.mx_model.specs.Overlaps.{IsWithin, Step, Transaction, first_overlap, has_row, has_schema_commit_since, has_written_since, is_some_row, overlap_of, reads_before, state_at, statements_in}
+use Rattle.mx_model.specs.Overlaps.{IsWithin, TransactionStep, Transaction, first_overlap, has_row, has_schema_commit_since, has_written_since, is_some_row, overlap_of, reads_before, state_after_first, statements_in}
 use Rattle.mx_model.specs.RunAlone.{run_alone, writes}
 use Rattle.mx_model.specs.Touches.{rows_meet}
 use Rattle.mx_model.specs.Transactions.{is_schema_commit, state_after}
 use Rattle.mx_model.proofs.HistoryLaws.{state_after-append}
 
 -- a commit behind others overlaps, where it touches what was read and none of these does
-first_more : (before : State) (count : ℕ) (later : List Tx) (commit : Tx) (steps : List Step) (last : ℕ) → count + length later ≡ last
+first_more : (before : State) (count : ℕ) (later : List Tx) (commit : Tx) (steps : List TransactionStep) (last : ℕ) → count + length later ≡ last
     → first_overlap before count (later ++ commit ∷ []) steps
     ≡ option_or (first_overlap before count later steps) (if rows_meet (state_after before later) commit.rows (reads_before (suc last) steps) then Some (suc last) else None)
 first_more before count [] commit steps last is =
@@ -32,20 +32,20 @@ first_more before count (one ∷ later) commit steps last is =
     by_test false found rest further same = same
 
 -- a commit behind a journal touches what statements have read
-abbrev pub is_met : State → List Tx → Tx → List Step → Bool
+abbrev pub is_met : State → List Tx → Tx → List TransactionStep → Bool
 is_met base journal commit steps = rows_meet (state_after base journal) commit.rows (reads_before (suc (length journal)) steps)
 
 -- ---- what a further commit leaves
 
 -- prefixes of a journal are those of a longer one
-pub prefix_kept : (base : State) (journal more : List Tx) (place : ℕ) → place ≤ length journal → state_at base (journal ++ more) place ≡ state_at base journal place
+pub prefix_kept : (base : State) (journal more : List Tx) (place : ℕ) → place ≤ length journal → state_after_first base (journal ++ more) place ≡ state_after_first base journal place
 prefix_kept base journal more place within = ap (state_after base) (take-append-le place journal more within)
 
 module _ (ids : Ids) (base : State) (journal : List Tx) (commit : Tx) where
   abbrev longer : List Tx
   longer = journal ++ commit ∷ []
 
-  pub row_kept : (place : ℕ) (steps : List Step) → place ≤ length journal → has_row ids base longer place steps ≡ has_row ids base journal place steps
+  pub row_kept : (place : ℕ) (steps : List TransactionStep) → place ≤ length journal → has_row ids base longer place steps ≡ has_row ids base journal place steps
   row_kept place steps within = ap (λ state. is_some_row (run_alone ids state (statements_in steps)).rows) (prefix_kept base journal (commit ∷ []) place within)
 
   -- the commits since an overlap are one more
@@ -59,7 +59,7 @@ module _ (ids : Ids) (base : State) (journal : List Tx) (commit : Tx) where
   schema_last = ap (list_any is_schema_commit) (drop_at journal (commit ∷ []) (length journal) refl)
 
   -- statements that were made before it have written nothing since
-  pub written_before : (steps : List Step) → AllByRecursion (λ (step : Step). step.after ≤ length journal) steps → has_written_since (suc (length journal)) steps ≡ false
+  pub written_before : (steps : List TransactionStep) → AllByRecursion (λ (step : TransactionStep). step.after ≤ length journal) steps → has_written_since (suc (length journal)) steps ≡ false
   written_before [] made = refl
   written_before (step ∷ steps) made =
       let before : nat_le (suc (length journal)) step.after ≡ false = grind (arith, nat_tests, made.0) in
@@ -72,8 +72,8 @@ module _ (ids : Ids) (base : State) (journal : List Tx) (commit : Tx) where
     unfolding overlap_of
     overlap_later =
         (λ i. first_overlap (prefix_kept base journal (commit ∷ []) begun within.begun i) begun (drop-append-le begun journal (commit ∷ []) within.begun i) transaction.steps)
-        ∙ first_more (state_at base journal begun) begun (drop begun journal) commit transaction.steps (length journal) all
-        ∙ ap (λ state. option_or (first_overlap (state_at base journal begun) begun (drop begun journal) transaction.steps)
+        ∙ first_more (state_after_first base journal begun) begun (drop begun journal) commit transaction.steps (length journal) all
+        ∙ ap (λ state. option_or (first_overlap (state_after_first base journal begun) begun (drop begun journal) transaction.steps)
         (if rows_meet state commit.rows (reads_before (suc (length journal)) transaction.steps) then Some (suc (length journal)) else None)) newest
       where
         begun : ℕ
@@ -82,5 +82,5 @@ module _ (ids : Ids) (base : State) (journal : List Tx) (commit : Tx) where
         all : begun + length (drop begun journal) ≡ length journal
         all = let long = length-drop begun journal in omega (arith, long, within.begun)
 
-        newest : state_after (state_at base journal begun) (drop begun journal) ≡ state_after base journal
+        newest : state_after (state_after_first base journal begun) (drop begun journal) ≡ state_after base journal
         newest = sym (state_after-append base (take begun journal) (drop begun journal)) ∙ ap (state_after base) (take-append-drop begun journal)

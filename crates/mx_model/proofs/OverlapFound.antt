@@ -7,7 +7,7 @@ use Rattle.mx_row.specs.declared.tx.Tx.{Tx}
 use Rattle.mx_schema.specs.State.{State}
 use Rattle.mx_model.specs.Answers.{state_after_rows}
 use Rattle.mx_model.specs.declared.ids.Ids.{Ids}
-use Rattle.mx_model.specs.Overlaps.{Doomed, Step, Transaction, first_overlap, overlap_of, reads_before, standing, standing_by, state_at}
+use Rattle.mx_model.specs.Overlaps.{Doomed, TransactionStep, Transaction, first_overlap, overlap_of, reads_before, standing, standing_by, state_after_first}
 use Rattle.mx_model.specs.Touches.{rows_meet}
 use Rattle.mx_model.specs.Transactions.{state_after}
 use Rattle.mx_model.proofs.HistoryLaws.{state_after-append}
@@ -17,14 +17,14 @@ pub get_behind : {X : Type 0} (front : List X) (x : X) (later : List X) → slic
 get_behind [] x later = refl
 get_behind (y ∷ front) x later = get_behind front x later
 
-module _ (base : State) (steps : List Step) where
+module _ (base : State) (steps : List TransactionStep) where
   -- a commit of this number overlaps statements, after so many
   pub record IsOverlap (journal : List Tx) (count number : ℕ) : Type 0 where
     pub commit : Tx
     pub after : count < number
     pub within : number ≤ length journal
     pub there : slice_get journal (pred number) ≡ Some commit
-    pub met : rows_meet (state_at base journal (pred number)) commit.rows (reads_before number steps) ≡ true
+    pub met : rows_meet (state_after_first base journal (pred number)) commit.rows (reads_before number steps) ≡ true
 
   earlier_overlap : (journal : List Tx) (more count number : ℕ) → count ≤ more → IsOverlap journal more number → IsOverlap journal count number
   earlier_overlap journal more count number less is = record {
@@ -86,10 +86,10 @@ overlap_found base journal transaction number is = by_test (nat_le begun (length
         subst (λ all. IsOverlap base transaction.steps all begun number) (take-append-drop begun journal)
         (subst (λ count. IsOverlap base transaction.steps (take begun journal ++ drop begun journal) count number) long
         (walked base transaction.steps (take begun journal) (drop begun journal) number
-        (ap (λ count. first_overlap (state_at base journal begun) count (drop begun journal) transaction.steps) long ∙ is)))
+        (ap (λ count. first_overlap (state_after_first base journal begun) count (drop begun journal) transaction.steps) long ∙ is)))
     by_test false test =
         let nothing : drop begun journal ≡ [] = drop_all begun journal (omega (arith, leb-false _ _ test)) in
-        let none : ◌≡◌ {A = Option ℕ} None (Some number) = ap (λ later. first_overlap (state_at base journal begun) begun later transaction.steps) (sym nothing) ∙ is in
+        let none : ◌≡◌ {A = Option ℕ} None (Some number) = ap (λ later. first_overlap (state_after_first base journal begun) begun later transaction.steps) (sym nothing) ∙ is in
         absurd cc
 
 -- a transaction is doomed only where a commit overlaps it

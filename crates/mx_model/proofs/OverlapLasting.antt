@@ -9,7 +9,7 @@ use Rattle.mx_schema.specs.State.{State}
 use Rattle.mx_model.specs.declared.ids.Ids.{Ids}
 use Rattle.mx_model.specs.Alone.{StandsAlone}
 use Rattle.mx_model.specs.Answers.{state_after_rows}
-use Rattle.mx_model.specs.Overlaps.{Doomed, Standing, Step, Transaction, View, doomed_or_view, first_overlap, overlap_of, place_by, place_of, reads_before, standing, standing_by, state_at, statements_in}
+use Rattle.mx_model.specs.Overlaps.{Doomed, Standing, TransactionStep, Transaction, View, doomed_or_view, first_overlap, overlap_of, place_by, place_read, reads_before, standing, standing_by, state_after_first, statements_in}
 use Rattle.mx_model.specs.RunAlone.{run_alone}
 use Rattle.mx_model.specs.Streams.{transaction_with_all}
 use Rattle.mx_model.specs.Touches.{rows_meet}
@@ -18,17 +18,17 @@ use Rattle.mx_model.proofs.OverlapCommits.{prefix_kept}
 use Rattle.mx_model.proofs.OverlapFound.{overlap_found}
 
 -- statements are made while the journal has so many transactions at least
-abbrev pub AreSince : (count : ℕ) → List Step → Type 0
-AreSince count further = AllByRecursion (λ (step : Step). count ≤ step.after) further
+abbrev pub AreSince : (count : ℕ) → List TransactionStep → Type 0
+AreSince count further = AllByRecursion (λ (step : TransactionStep). count ≤ step.after) further
 
 -- reads made since are none of those before
-reads_last : (count number : ℕ) → number ≤ count → (further steps : List Step) → AreSince count further → reads_before number (further ++ steps) ≡ reads_before number steps
+reads_last : (count number : ℕ) → number ≤ count → (further steps : List TransactionStep) → AreSince count further → reads_before number (further ++ steps) ≡ reads_before number steps
 reads_last count number less [] steps since = refl
 reads_last count number less (step ∷ further) steps since =
     let later : nat_lt step.after number ≡ false = grind (arith, nat_tests, since.0) in
     ap (λ (b : Bool). (if b then step.reads else []) ++ reads_before number (further ++ steps)) later ∙ reads_last count number less further steps since.1
 
-module _ (last : ℕ) (more : List Tx) (further steps : List Step) (since : AreSince last further) where
+module _ (last : ℕ) (more : List Tx) (further steps : List TransactionStep) (since : AreSince last further) where
   first_lasts : (before : State) (count : ℕ) (later : List Tx) (number : ℕ) → count + length later ≤ last → first_overlap before count later steps ≡ Some number
       → first_overlap before count (later ++ more) (further ++ steps) ≡ Some number
   first_lasts before count [] number less is = absurd cc
@@ -45,12 +45,12 @@ module _ (last : ℕ) (more : List Tx) (further steps : List Step) (since : AreS
       by_test false is rest = rest is
 
 -- the commit that overlaps a transaction stays that one
-overlap_lasts : (base : State) (journal more : List Tx) (further : List Step) (transaction : Transaction) (number : ℕ) → AreSince (length journal) further
+overlap_lasts : (base : State) (journal more : List Tx) (further : List TransactionStep) (transaction : Transaction) (number : ℕ) → AreSince (length journal) further
     → overlap_of base journal transaction ≡ Some number → overlap_of base (journal ++ more) (transaction_with_all further transaction) ≡ Some number
 unfolding overlap_of
 overlap_lasts base journal more further transaction number since is =
     (λ i. first_overlap (prefix_kept base journal more begun within i) begun (drop-append-le begun journal more within i) (further ++ transaction.steps))
-    ∙ first_lasts (length journal) more further transaction.steps since (state_at base journal begun) begun (drop begun journal) number (omega (arith, long, within)) is
+    ∙ first_lasts (length journal) more further transaction.steps since (state_after_first base journal begun) begun (drop begun journal) number (omega (arith, long, within)) is
   where
     begun : ℕ
     begun = transaction.begun
@@ -82,7 +82,7 @@ view_by ids base journal transaction place = by_overlap (overlap_of base journal
     by_overlap None is e = absurd cc
     by_overlap (Some number) is e = record { number = number; is = is; before = by_doom _ (pred number) e }
 
-module _ (ids : Ids) (base : State) (journal more : List Tx) (further : List Step) (transaction : Transaction) (place : ℕ)
+module _ (ids : Ids) (base : State) (journal more : List Tx) (further : List TransactionStep) (transaction : Transaction) (place : ℕ)
     (view : standing ids base journal false transaction ≡ View place) (since : AreSince (length journal) further) where
   abbrev longer : List Tx
   longer = journal ++ more
@@ -99,10 +99,10 @@ module _ (ids : Ids) (base : State) (journal more : List Tx) (further : List Ste
   within : place < length journal
   within = let found = overlap_found base journal transaction by.number by.is in omega (arith, found.after, found.within, by.before)
 
-  place_stays : place_of base longer later ≡ place
+  place_stays : place_read base longer later ≡ place
   place_stays = ap (place_by (length longer)) overlapped ∙ by.before
 
-  state_stays : state_at base longer place ≡ state_at base journal place
+  state_stays : state_after_first base longer place ≡ state_after_first base journal place
   state_stays = prefix_kept base journal more place (omega (arith, within))
 
   abbrev IsViewOrDoomed : Standing → Type 0
@@ -117,14 +117,14 @@ module _ (ids : Ids) (base : State) (journal more : List Tx) (further : List Ste
       by_doom true = inr refl
       by_doom false = inl (ap View by.before)
 
-  pub view_kept : (place < length journal) × (state_at base longer place ≡ state_at base journal place) × (place_of base longer later ≡ place)
+  pub view_kept : (place < length journal) × (state_after_first base longer place ≡ state_after_first base journal place) × (place_read base longer later ≡ place)
       × ((standing ids base longer false later ≡ View place) ⊎ (standing ids base longer false later ≡ Doomed))
   view_kept = (within, state_stays, place_stays, stands)
 
   pub view_alone : StandsAlone ids base longer later → standing ids base longer false later ≢ Doomed
-      → map (λ (step : Step). step.reply) (further ++ transaction.steps)
-      ≡ map (λ (answer : Answer). answer.reply) (run_alone ids (state_at base journal place) (statements_in (further ++ transaction.steps))).answers
+      → map (λ (step : TransactionStep). step.reply) (further ++ transaction.steps)
+      ≡ map (λ (answer : Answer). answer.reply) (run_alone ids (state_after_first base journal place) (statements_in (further ++ transaction.steps))).answers
   view_alone alone still =
       alone.exact still
       ∙ ap (λ state. map (λ (answer : Answer). answer.reply) (run_alone ids state (statements_in (further ++ transaction.steps))).answers)
-      (ap (state_at base longer) place_stays ∙ state_stays)
+      (ap (state_after_first base longer) place_stays ∙ state_stays)

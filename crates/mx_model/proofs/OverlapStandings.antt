@@ -5,7 +5,7 @@ use Rattle.std.specs.Option.{option_or}
 use Rattle.mx_row.specs.declared.tx.Tx.{Tx}
 use Rattle.mx_schema.specs.State.{State}
 use Rattle.mx_model.specs.declared.ids.Ids.{Ids}
-use Rattle.mx_model.specs.Overlaps.{IsWithin, Step, Transaction, doomed_or_view, has_row, has_schema_commit_since, has_written_since, overlap_of, standing, standing_after_commit, standing_by}
+use Rattle.mx_model.specs.Overlaps.{IsWithin, TransactionStep, Transaction, doomed_or_view, has_row, has_schema_commit_since, has_written_since, overlap_of, standing, standing_after_commit, standing_by}
 use Rattle.mx_model.specs.Transactions.{is_schema_commit}
 use Rattle.mx_model.proofs.OverlapCommits.{is_met, overlap_later, row_kept, schema_last, schema_more, written_before}
 use Rattle.mx_model.proofs.OverlapFound.{overlap_found}
@@ -27,7 +27,7 @@ later_doom false false false true row meets count place = refl
 later_doom false false false false row meets count place = refl
 
 module _ (ids : Ids) (base : State) (journal : List Tx) (commit : Tx) (transaction : Transaction) (within : IsWithin (length journal) transaction) where
-  abbrev steps : List Step
+  abbrev steps : List TransactionStep
   steps = transaction.steps
 
   abbrev count : ℕ

@@ -9,7 +9,7 @@ use Rattle.mx_row.specs.declared.tx.Tx.{Tx}
 use Rattle.mx_schema.specs.State.{State}
 use Rattle.mx_model.specs.declared.ids.Ids.{Ids}
 use Rattle.mx_model.specs.Answers.{answer_in_space, state_after_rows}
-use Rattle.mx_model.specs.Overlaps.{Step, Transaction, doomed_or_view, first_overlap, has_row, has_schema_commit_since, has_written_since, is_some_row, overlap_of, reads_before, standing, standing_after_step, standing_by, state_at, statements_in}
+use Rattle.mx_model.specs.Overlaps.{TransactionStep, Transaction, doomed_or_view, first_overlap, has_row, has_schema_commit_since, has_written_since, is_some_row, overlap_of, reads_before, standing, standing_after_step, standing_by, state_after_first, statements_in}
 use Rattle.mx_model.specs.RunAlone.{Run, answer_in_run, run_alone, within_limits, writes}
 use Rattle.mx_model.specs.Streams.{transaction_with}
 use Rattle.mx_model.specs.Touches.{rows_meet}
@@ -44,7 +44,7 @@ pub standing_at : (ids : Ids) (base : State) (journal : List Tx) (is_write : Boo
     → standing ids base journal is_write transaction ≡ standing_after_step is_write (standing ids base journal false transaction)
 standing_at ids base journal is_write transaction = by_overlap (overlap_of base journal transaction)
   where
-    steps : List Step
+    steps : List TransactionStep
     steps = transaction.steps
 
     by_overlap : (overlap : Option ℕ)
@@ -56,7 +56,7 @@ standing_at ids base journal is_write transaction = by_overlap (overlap_of base 
 -- ---- after it
 
 -- reads made behind commits aren't met by these
-first_stays : (before : State) (count : ℕ) (later : List Tx) (step : Step) (steps : List Step) → (0 < length later → count + length later ≤ step.after)
+first_stays : (before : State) (count : ℕ) (later : List Tx) (step : TransactionStep) (steps : List TransactionStep) → (0 < length later → count + length later ≤ step.after)
     → first_overlap before count later (step ∷ steps) ≡ first_overlap before count later steps
 first_stays before count [] step steps behind = refl
 first_stays before count (commit ∷ later) step steps behind =
@@ -73,11 +73,11 @@ first_stays before count (commit ∷ later) step steps behind =
     reads = ap (λ (b : Bool). (if b then step.reads else []) ++ reads_before (suc count) steps) made
 
 -- a statement made now leaves the commit that overlaps its transaction
-pub overlap_stays : (base : State) (journal : List Tx) (step : Step) (transaction : Transaction) → step.after ≡ length journal
+pub overlap_stays : (base : State) (journal : List Tx) (step : TransactionStep) (transaction : Transaction) → step.after ≡ length journal
     → overlap_of base journal (transaction_with step transaction) ≡ overlap_of base journal transaction
 unfolding overlap_of
 overlap_stays base journal step transaction now =
-    first_stays (state_at base journal transaction.begun) transaction.begun (drop transaction.begun journal) step transaction.steps
+    first_stays (state_after_first base journal transaction.begun) transaction.begun (drop transaction.begun journal) step transaction.steps
     (λ some. let long = length-drop transaction.begun journal in omega (arith, some, long, now))
 
 -- what is no write leaves no row
@@ -106,14 +106,14 @@ doomed_after false false true has_written has_schema place read = sym (write_doo
 doomed_after false false false has_written has_schema place read = sym (read_leaves (has_written || false || has_schema) place)
 
 -- how a transaction stands after a statement of its own
-pub standing_after : (ids : Ids) (base : State) (journal : List Tx) (step : Step) (transaction : Transaction) → step.after ≡ length journal
+pub standing_after : (ids : Ids) (base : State) (journal : List Tx) (step : TransactionStep) (transaction : Transaction) → step.after ≡ length journal
     → standing ids base journal false (transaction_with step transaction)
     ≡ standing_after_step (writes step.statement.operation) (standing ids base journal false transaction)
 unfolding run_alone
 standing_after ids base journal step transaction now =
     ap (standing_by ids base journal false (step ∷ steps)) (overlap_stays base journal step transaction now) ∙ by_overlap (overlap_of base journal transaction) refl
   where
-    steps : List Step
+    steps : List TransactionStep
     steps = transaction.steps
 
     is_write : Bool
@@ -129,7 +129,7 @@ standing_after ids base journal step transaction now =
         (λ read. ap (λ (row : Option Row). is_some_row (option_to_list row)) (read_no_row ids run step.statement read))
       where
         run : Run
-        run = run_alone ids (state_at base journal (pred number)) (statements_in steps)
+        run = run_alone ids (state_after_first base journal (pred number)) (statements_in steps)
 
         leaves : List Row
         leaves = option_to_list (answer_in_run ids run step.statement).row

@@ -6,7 +6,7 @@ use Rattle.std.specs.List.{AllByRecursion, Contains}
 use Rattle.std.specs.Prelude.{slice_get, slice_index, ◌≢◌}
 use Rattle.mx_base.specs.declared.refusal.Refusal.TheVariants.{Conflict}
 use Rattle.mx_model.specs.Alone.{StandsAlone, answers_alone}
-use Rattle.mx_model.specs.Overlaps.{Active, Doomed, Standing, Step, Transaction, View, overlap_of, place_by, place_of, standing, state_at, statements_in}
+use Rattle.mx_model.specs.Overlaps.{Active, Doomed, Standing, TransactionStep, Transaction, View, overlap_of, place_by, place_read, standing, state_after_first, statements_in}
 use Rattle.mx_model.specs.RunAlone.{run_alone}
 use Rattle.mx_model.specs.StreamHistories.{HasCommitted, HasOverlap, RanAlone, ends_now}
 use Rattle.mx_model.specs.Streams.{Outcome, Streams, commit_with}
@@ -41,7 +41,7 @@ module _ (streams : Streams) (transaction : Transaction) (alone : StandsAlone st
   how = standing streams.base.ids base journal false transaction
 
   abbrev place : ℕ
-  place = place_of base journal transaction
+  place = place_read base journal transaction
 
   -- its place lies between its BEGIN and the end of the journal
   place_between : (transaction.begun ≤ place) × (place ≤ length journal)
@@ -56,7 +56,7 @@ module _ (streams : Streams) (transaction : Transaction) (alone : StandsAlone st
           let high : pred number ≤ length journal = omega (arith, found.within) in (low, high)
 
   -- where a statement was told a conflict, it is doomed
-  step_doomed : Contains (map (λ (step : Step). step.reply) transaction.steps) (Refused Conflict) → how ≡ Doomed
+  step_doomed : Contains (map (λ (step : TransactionStep). step.reply) transaction.steps) (Refused Conflict) → how ≡ Doomed
   step_doomed told = by_standing how refl
     where
       answers : List Answer
@@ -65,11 +65,11 @@ module _ (streams : Streams) (transaction : Transaction) (alone : StandsAlone st
       wrong : how ≢ Doomed → ⊥
       wrong still =
           tells_no_conflict (Refused Conflict)
-          (All-contains TellsOther (map (λ (step : Step). step.reply) transaction.steps) (Refused Conflict)
-          (All-from_recursion TellsOther (map (λ (step : Step). step.reply) transaction.steps)
+          (All-contains TellsOther (map (λ (step : TransactionStep). step.reply) transaction.steps) (Refused Conflict)
+          (All-from_recursion TellsOther (map (λ (step : TransactionStep). step.reply) transaction.steps)
           (subst (AllByRecursion TellsOther) (sym (alone.exact still))
           (each_of_map (λ (answer : Answer). answer.reply) TellsOther answers
-          (run_other streams.base.ids (state_at base journal place) (statements_in transaction.steps)))))
+          (run_other streams.base.ids (state_after_first base journal place) (statements_in transaction.steps)))))
           told)
           refl
 
@@ -96,7 +96,7 @@ module _ (streams : Streams) (transaction : Transaction) (alone : StandsAlone st
     committed = tt;
   }
     where
-      by_told : (outcome.reply ≡ Refused Conflict) ⊎ Contains (map (λ (step : Step). step.reply) transaction.steps) (Refused Conflict) → how ≡ Doomed
+      by_told : (outcome.reply ≡ Refused Conflict) ⊎ Contains (map (λ (step : TransactionStep). step.reply) transaction.steps) (Refused Conflict) → how ≡ Doomed
       by_told (inl told) = ending.doomed told
       by_told (inr told) = step_doomed told
 
@@ -115,8 +115,8 @@ module _ (streams : Streams) (transaction : Transaction) (alone : StandsAlone st
       commit : Tx
       commit = record { replica = record { 0 = streams.base.ids.me }; first = record { 0 = slice_index (clock_after streams.base.clock streams.journal) streams.base.ids.me + 1 }; rows = row ∷ others }
 
-      newest : state_at base (journal ++ commit ∷ []) place ≡ state_after base journal
-      newest = ap (state_at base (journal ++ commit ∷ [])) by.newest ∙ ap (state_after base) (take_at journal (commit ∷ []) (length journal) refl)
+      newest : state_after_first base (journal ++ commit ∷ []) place ≡ state_after base journal
+      newest = ap (state_after_first base (journal ++ commit ∷ [])) by.newest ∙ ap (state_after base) (take_at journal (commit ∷ []) (length journal) refl)
 
   -- either way, in the journal that has its commit
   pub ending_alone : (by_commit : Bool) (outcome : Outcome) → IsEnding streams transaction by_commit outcome

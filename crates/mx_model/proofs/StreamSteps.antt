@@ -10,7 +10,7 @@ use Rattle.mx_model.specs.Alone.{AllStandAlone}
 use Rattle.mx_model.specs.Overlaps.{Active, Doomed, Standing, Transaction, View, standing}
 use Rattle.mx_model.specs.RunAlone.{writes}
 use Rattle.mx_model.specs.StreamHistories.{Ended, RanAlone, ended_as, ended_where, ends_now, is_commit}
-use Rattle.mx_model.specs.Streams.{Becomes, Ends, Goes, Opens, Outcome, Stays, Streams, begins_beside, commit_with, commits, commits_standing, ends_with, in_stream, max_open, max_open_of_connection, of_connection, outcome_of, states, states_standing, streams_after, tells_statement, told_alone, transaction_named}
+use Rattle.mx_model.specs.Streams.{Becomes, Ends, Goes, Opens, Outcome, Stays, Streams, begins_beside, commit_with, commits, commits_standing, ends_told, in_stream, max_transactions, max_transactions_of_connection, of_connection, outcome_of, states, states_standing, streams_after, tells_statement, told_alone, transaction_named}
 use Rattle.mx_model.specs.declared.reply.Reply.TheVariants.{Empty, Refused}
 use Rattle.mx_model.specs.statements.Answer.{Answer}
 use Rattle.mx_model.specs.statements.Statement.{Statement, statement_of}
@@ -59,7 +59,7 @@ module _ (streams : Streams) (name : TxnName) (all : AllStandAlone streams) wher
   begins_well : (present : Option Transaction) → IsWell false (begins_beside streams.transactions name.conn.0 present)
   begins_well (Some transaction) = tt
   begins_well None =
-      by_tests (nat_le max_open_of_connection (length (of_connection name.conn.0 streams.transactions))) (nat_le max_open (length streams.transactions))
+      by_tests (nat_le max_transactions_of_connection (length (of_connection name.conn.0 streams.transactions))) (nat_le max_transactions (length streams.transactions))
     where
       by_tests : (of_this of_all : Bool)
           → IsWell false (if of_this then told_alone (Refused AllOfConnectionOpen) else if of_all then told_alone (Refused AllTransactionsOpen)
@@ -91,7 +91,7 @@ module _ (streams : Streams) (name : TxnName) (all : AllStandAlone streams) wher
         commits = λ row others some. rows_by streams name transaction alone row others how refl some;
       }
 
-  rollback_well : IsWell false (ends_with Empty)
+  rollback_well : IsWell false (ends_told Empty)
   rollback_well = λ transaction named. record {
     doomed = λ told. absurd cc;
     still = λ commit other. absurd cc;
@@ -122,7 +122,7 @@ module _ (streams : Streams) (name : TxnName) (all : AllStandAlone streams) wher
   outcome_well : (asked : Request) → IsWell (is_commit asked) (outcome_of streams name asked)
   outcome_well request.Begin = in_stream_well false _ (begins_well (transaction_named name streams.transactions))
   outcome_well request.Commit = in_stream_well true _ (commits_well (transaction_named name streams.transactions) refl)
-  outcome_well request.Rollback = in_stream_well false (ends_with Empty) rollback_well
+  outcome_well request.Rollback = in_stream_well false (ends_told Empty) rollback_well
   outcome_well other = tells_well (is_commit other) other (statement_of other)
 
   -- what it ends ran alone

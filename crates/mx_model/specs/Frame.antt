@@ -49,8 +49,8 @@ OperationHasBytes (Selects index limit offset iterator key) = ⊤
 OperationHasBytes (Writes write) = HasBytes write
 
 -- a statement of bytes that doesn't write the rows that describe spaces and indexes
-abbrev pub IsPlain : Statement → Type 0
-IsPlain statement = IsNoSchemaWrite statement.space statement.operation × OperationHasBytes statement.operation
+abbrev pub IsDataStatement : Statement → Type 0
+IsDataStatement statement = IsNoSchemaWrite statement.space statement.operation × OperationHasBytes statement.operation
 
 abbrev pub answer_to_statement : State → Statement → Answer
 answer_to_statement before statement = answer_in_space before statement.space statement.operation

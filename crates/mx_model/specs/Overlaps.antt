@@ -15,7 +15,7 @@ use Rattle.mx_model.specs.Transactions.{is_schema_commit, state_after}
 use Rattle.mx_model.specs.statements.Statement.{Statement}
 
 -- a statement of a transaction: how many transactions the journal had when it was made, what it was told, and what it has read at its place
-pub record Step : Type 0 where
+pub record TransactionStep : Type 0 where
   pub statement : Statement
   pub after : ℕ
   pub reply : Reply
@@ -25,24 +25,24 @@ pub record Step : Type 0 where
 pub record Transaction : Type 0 where
   pub name : TxnName
   pub begun : ℕ
-  pub steps : List Step
+  pub steps : List TransactionStep
 
-abbrev pub statements_in : List Step → List Statement
+abbrev pub statements_in : List TransactionStep → List Statement
 statements_in steps = map (λ step. step.statement) steps
 
 -- the state after so many transactions of a journal
-abbrev pub state_at : State → List Tx → (count : ℕ) → State
-state_at base journal count = state_after base (take count journal)
+abbrev pub state_after_first : State → List Tx → (count : ℕ) → State
+state_after_first base journal count = state_after base (take count journal)
 
 -- ---- overlaps
 
 -- what statements have read that were made before this transaction of the journal, counted from 1
-abbrev pub reads_before : (number : ℕ) → List Step → List Read
+abbrev pub reads_before : (number : ℕ) → List TransactionStep → List Read
 reads_before number [] = []
 reads_before number (step ∷ earlier) = (if nat_lt step.after number then step.reads else []) ++ reads_before number earlier
 
 -- the number of the first of further commits that touches what statements had read before it; so many were made before them
-abbrev pub first_overlap : State → (count : ℕ) → List Tx → List Step → Option ℕ
+abbrev pub first_overlap : State → (count : ℕ) → List Tx → List TransactionStep → Option ℕ
 first_overlap before count [] steps = None
 first_overlap before count (commit ∷ later) steps =
     if rows_meet before commit.rows (reads_before (suc count) steps) then Some (suc count)
@@ -51,15 +51,15 @@ first_overlap before count (commit ∷ later) steps =
 -- the first commit since its BEGIN that overlaps a transaction
 unfoldable pub overlap_of : State → List Tx → Transaction → Option ℕ
 overlap_of base journal transaction =
-    first_overlap (state_at base journal transaction.begun) transaction.begun (drop transaction.begun journal) transaction.steps
+    first_overlap (state_after_first base journal transaction.begun) transaction.begun (drop transaction.begun journal) transaction.steps
 
 -- the prefix of the journal that it reads: all, or that before the commit that overlaps it
 abbrev pub place_by : (whole : ℕ) → (overlap : Option ℕ) → ℕ
 place_by whole None = whole
 place_by whole (Some number) = pred number
 
-abbrev pub place_of : State → List Tx → Transaction → ℕ
-place_of base journal transaction = place_by (length journal) (overlap_of base journal transaction)
+abbrev pub place_read : State → List Tx → Transaction → ℕ
+place_read base journal transaction = place_by (length journal) (overlap_of base journal transaction)
 
 -- ---- doom
 
@@ -68,11 +68,11 @@ is_some_row [] = false
 is_some_row (row ∷ rows) = true
 
 -- its statements, run alone on a prefix of the journal, leave a row
-abbrev pub has_row : Ids → State → List Tx → (place : ℕ) → List Step → Bool
-has_row ids base journal place steps = is_some_row (run_alone ids (state_at base journal place) (statements_in steps)).rows
+abbrev pub has_row : Ids → State → List Tx → (place : ℕ) → List TransactionStep → Bool
+has_row ids base journal place steps = is_some_row (run_alone ids (state_after_first base journal place) (statements_in steps)).rows
 
 -- a statement that was made since this commit writes
-abbrev pub has_written_since : (number : ℕ) → List Step → Bool
+abbrev pub has_written_since : (number : ℕ) → List TransactionStep → Bool
 has_written_since number steps = list_any (λ step. if nat_le number step.after then writes step.statement.operation else false) steps
 
 -- this commit or a later one changes a space or an index
@@ -89,7 +89,7 @@ abbrev pub doomed_or_view : (doomed : Bool) → (place : ℕ) → Standing
 doomed_or_view true place = Doomed
 doomed_or_view false place = View place
 
-abbrev pub standing_by : Ids → State → List Tx → (is_write : Bool) → List Step → (overlap : Option ℕ) → Standing
+abbrev pub standing_by : Ids → State → List Tx → (is_write : Bool) → List TransactionStep → (overlap : Option ℕ) → Standing
 standing_by ids base journal is_write steps None = Active
 standing_by ids base journal is_write steps (Some number) =
     doomed_or_view
@@ -118,4 +118,4 @@ standing_after_step is_write Doomed = Doomed
 -- a transaction was begun, and its statements were made, while the journal had so many transactions at most
 pub record IsWithin (count : ℕ) (transaction : Transaction) : Type 0 where
   pub begun : transaction.begun ≤ count
-  pub made : AllByRecursion (λ (step : Step). step.after ≤ count) transaction.steps
+  pub made : AllByRecursion (λ (step : TransactionStep). step.after ≤ count) transaction.steps

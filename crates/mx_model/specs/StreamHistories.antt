@@ -13,7 +13,7 @@ use Rattle.mx_model.specs.declared.reply.Reply.{Reply}
 use Rattle.mx_model.specs.declared.reply.Reply.TheVariants.{Empty, Refused}
 use Rattle.mx_model.specs.Alone.{IsToldAlone}
 use Rattle.mx_model.specs.Histories.{Base, CanBeAsked, is_out_of_memory}
-use Rattle.mx_model.specs.Overlaps.{Step, Transaction, place_of, reads_before, state_at, statements_in}
+use Rattle.mx_model.specs.Overlaps.{TransactionStep, Transaction, place_read, reads_before, state_after_first, statements_in}
 use Rattle.mx_model.specs.RunAlone.{Run, run_alone}
 use Rattle.mx_model.specs.Streams.{Becomes, Ends, IsTold, Outcome, Streams, may_lack_memory, of_connection, outcome_of, streams_after, streams_left, transaction_named}
 use Rattle.mx_model.specs.Touches.{rows_meet}
@@ -68,7 +68,7 @@ pub record Ended : Type 0 where
 abbrev pub ends_now : Streams → (by_commit : Bool) → Reply → List Row → Transaction → Ended
 ends_now streams by_commit reply rows transaction = record {
   transaction = transaction;
-  place = place_of streams.base.state streams.journal transaction;
+  place = place_read streams.base.state streams.journal transaction;
   by_commit = by_commit;
   reply = reply;
   rows = rows;
@@ -101,22 +101,22 @@ ended_in base (entry ∷ earlier) = ended_by (streams_of base earlier) entry ++ 
 
 -- its statements, run alone on the prefix of the journal that it read
 abbrev pub run_of : Base → List Tx → Ended → Run
-run_of base journal ended = run_alone base.ids (state_at base.state journal ended.place) (statements_in ended.transaction.steps)
+run_of base journal ended = run_alone base.ids (state_after_first base.state journal ended.place) (statements_in ended.transaction.steps)
 
 -- its statements were told exactly what they are told alone
 abbrev pub WasToldAlone : Base → List Tx → Ended → Type 0
 WasToldAlone base journal ended =
-    map (λ (step : Step). step.reply) ended.transaction.steps ≡ map (λ (answer : Answer). answer.reply) (run_of base journal ended).answers
+    map (λ (step : TransactionStep). step.reply) ended.transaction.steps ≡ map (λ (answer : Answer). answer.reply) (run_of base journal ended).answers
 
 -- a statement of it was told a conflict, or its COMMIT
 abbrev pub WasToldConflict : Ended → Type 0
-WasToldConflict ended = (ended.reply ≡ Refused Conflict) ⊎ Contains (map (λ (step : Step). step.reply) ended.transaction.steps) (Refused Conflict)
+WasToldConflict ended = (ended.reply ≡ Refused Conflict) ⊎ Contains (map (λ (step : TransactionStep). step.reply) ended.transaction.steps) (Refused Conflict)
 
 -- a commit since its BEGIN touched what a statement of it had read before that commit
 abbrev pub HasOverlap : Base → List Tx → Transaction → Type 0
 HasOverlap base journal transaction =
     (number : ℕ) × (commit : Tx) × (transaction.begun < number) × (number ≤ length journal) × (slice_get journal (pred number) ≡ Some commit)
-    × (rows_meet (state_at base.state journal (pred number)) commit.rows (reads_before number transaction.steps) ≡ true)
+    × (rows_meet (state_after_first base.state journal (pred number)) commit.rows (reads_before number transaction.steps) ≡ true)
 
 -- the journal has its commit right behind the prefix that it read, made by this node, with the rows that it leaves alone
 pub record HasCommitted (base : Base) (journal : List Tx) (ended : Ended) : Type 0 where

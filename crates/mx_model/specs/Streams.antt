@@ -19,18 +19,18 @@ use Rattle.mx_model.specs.declared.reply.Reply.{Reply}
 use Rattle.mx_model.specs.declared.reply.Reply.TheVariants.{Empty, Refused}
 use Rattle.mx_model.specs.Answers.{answer_without_space}
 use Rattle.mx_model.specs.Histories.{Base, with_lsn, writable_node}
-use Rattle.mx_model.specs.Overlaps.{Doomed, Standing, Step, Transaction, place_of, standing, state_at, statements_in}
+use Rattle.mx_model.specs.Overlaps.{Doomed, Standing, TransactionStep, Transaction, place_read, standing, state_after_first, statements_in}
 use Rattle.mx_model.specs.RunAlone.{answer_alone, run_alone, statement_answer, writes}
 use Rattle.mx_model.specs.Transactions.{state_after}
 use Rattle.mx_model.specs.statements.Answer.{Answer}
 use Rattle.mx_model.specs.statements.Statement.{Statement, statement_of}
 
 -- how many transactions may be open, and on one connection
-abbrev pub max_open : ℕ
-max_open = 1024
+abbrev pub max_transactions : ℕ
+max_transactions = 1024
 
-abbrev pub max_open_of_connection : ℕ
-max_open_of_connection = 64
+abbrev pub max_transactions_of_connection : ℕ
+max_transactions_of_connection = 64
 
 -- what steps have come to: the base that they began with, the journal, and the open transactions
 pub record Streams : Type 0 where
@@ -65,7 +65,7 @@ of_others connection all = filter (λ one. not (one.name.conn.0 == connection)) 
 pub data Becomes : Type 0 where
   Stays : Becomes
   Opens : Becomes
-  Goes : Step → Becomes
+  Goes : TransactionStep → Becomes
   Ends : Becomes
 
 -- a reply, the rows that are committed, and what becomes of the stream's transaction
@@ -77,8 +77,8 @@ pub record Outcome : Type 0 where
 abbrev pub told_alone : Reply → Outcome
 told_alone reply = record { reply = reply; rows = []; becomes = Stays }
 
-abbrev pub ends_with : Reply → Outcome
-ends_with reply = record { reply = reply; rows = []; becomes = Ends }
+abbrev pub ends_told : Reply → Outcome
+ends_told reply = record { reply = reply; rows = []; becomes = Ends }
 
 -- BEGIN, COMMIT and ROLLBACK need a stream
 abbrev pub in_stream : TxnName → Outcome → Outcome
@@ -88,8 +88,8 @@ in_stream name outcome = if name.stream.0 == 0 then told_alone (Refused (Illegal
 abbrev pub begins_beside : List Transaction → (connection : ℕ) → (present : Option Transaction) → Outcome
 begins_beside all connection (Some transaction) = told_alone (Refused TransactionOpen)
 begins_beside all connection None =
-    if nat_le max_open_of_connection (length (of_connection connection all)) then told_alone (Refused AllOfConnectionOpen)
-    else if nat_le max_open (length all) then told_alone (Refused AllTransactionsOpen)
+    if nat_le max_transactions_of_connection (length (of_connection connection all)) then told_alone (Refused AllOfConnectionOpen)
+    else if nat_le max_transactions (length all) then told_alone (Refused AllTransactionsOpen)
     else record { reply = Empty; rows = []; becomes = Opens }
 
 module _ (streams : Streams) where
@@ -106,22 +106,22 @@ module _ (streams : Streams) where
 
   -- a COMMIT of these rows
   abbrev pub commits_rows : List Row → Outcome
-  commits_rows [] = ends_with Empty
+  commits_rows [] = ends_told Empty
   commits_rows (row ∷ rows) =
-      if not (ids.me == writable_node) then ends_with (Refused (ReadOnly (record { 0 = writable_node })))
-      else if nat_lt max_lsn (last_of (length (row ∷ rows))) then ends_with (Refused LsnsUsedUp)
+      if not (ids.me == writable_node) then ends_told (Refused (ReadOnly (record { 0 = writable_node })))
+      else if nat_lt max_lsn (last_of (length (row ∷ rows))) then ends_told (Refused LsnsUsedUp)
       else record { reply = Empty; rows = row ∷ rows; becomes = Ends }
 
   -- the state that a transaction reads, under its own writes
   abbrev pub state_read : Transaction → State
-  state_read transaction = state_at streams.base.state streams.journal (place_of streams.base.state streams.journal transaction)
+  state_read transaction = state_after_first streams.base.state streams.journal (place_read streams.base.state streams.journal transaction)
 
   abbrev pub standing_now : (is_write : Bool) → Transaction → Standing
   standing_now is_write transaction = standing ids streams.base.state streams.journal is_write transaction
 
   -- COMMIT of an open transaction: all that it has written, or a conflict
   abbrev pub commits_standing : Transaction → Standing → Outcome
-  commits_standing transaction Doomed = ends_with (Refused Conflict)
+  commits_standing transaction Doomed = ends_told (Refused Conflict)
   commits_standing transaction other = commits_rows (run_alone ids (state_read transaction) (statements_in transaction.steps)).rows
 
   abbrev pub commits : Option Transaction → Outcome
@@ -129,10 +129,10 @@ module _ (streams : Streams) where
   commits (Some transaction) = commits_standing transaction (standing_now false transaction)
 
   -- a statement of an open transaction: as it is answered alone, behind its earlier ones, or a conflict
-  abbrev pub step_of : Statement → Answer → Reply → Step
+  abbrev pub step_of : Statement → Answer → Reply → TransactionStep
   step_of statement answer reply = record { statement = statement; after = length streams.journal; reply = reply; reads = answer.reads }
 
-  abbrev pub goes_on_with : Step → Outcome
+  abbrev pub goes_on_with : TransactionStep → Outcome
   goes_on_with step = record { reply = step.reply; rows = []; becomes = Goes step }
 
   abbrev pub states_standing : Statement → Answer → Standing → Outcome
@@ -164,7 +164,7 @@ module _ (streams : Streams) where
   abbrev pub outcome_of : TxnName → Request → Outcome
   outcome_of name request.Begin = in_stream name (begins_beside streams.transactions name.conn.0 (transaction_named name streams.transactions))
   outcome_of name request.Commit = in_stream name (commits (transaction_named name streams.transactions))
-  outcome_of name request.Rollback = in_stream name (ends_with Empty)
+  outcome_of name request.Rollback = in_stream name (ends_told Empty)
   outcome_of name asked = tells_statement name asked (statement_of asked)
 
 -- a request that may be told that memory ran out; such a step counts as not asked
@@ -180,15 +180,15 @@ IsTold streams name asked reply =
 
 -- ---- what comes of it
 
-abbrev pub transaction_with : Step → Transaction → Transaction
+abbrev pub transaction_with : TransactionStep → Transaction → Transaction
 transaction_with step transaction = record transaction { steps = step ∷ transaction.steps }
 
 -- with further statements, the newest first
-abbrev pub transaction_with_all : List Step → Transaction → Transaction
+abbrev pub transaction_with_all : List TransactionStep → Transaction → Transaction
 transaction_with_all further transaction = record transaction { steps = further ++ transaction.steps }
 
 -- the open transactions, where a step is added to the one of this name
-abbrev pub with_step : TxnName → Step → List Transaction → List Transaction
+abbrev pub with_step : TxnName → TransactionStep → List Transaction → List Transaction
 with_step name step [] = []
 with_step name step (one ∷ others) = if is_name one.name name then transaction_with step one ∷ others else one ∷ with_step name step others
 

@@ -1,4 +1,4 @@
--- What a commit touches, and whether that meets what a statement has read.
+-- What a commit touches, and whether that are_met what a statement has read.
 use Rattle.std.specs.Prelude.{ℕ, Bool, false, ◌&&◌, ◌||◌, List, [], ◌∷◌, ◌++◌, Option, Some, None, ◌==◌, if◌then◌else◌}
 use Rattle.std.specs.FinMap.{get}
 use Rattle.std.specs.List.{list_any}
@@ -39,8 +39,8 @@ abbrev pub touched_key : IndexDef → Touched → Key
 touched_key def touched = if def.id.0 == 0 then touched.key else entry_key def touched.key touched.tuple
 
 -- the index of a space, as a state describes it
-abbrev pub index_in : State → (space index : ℕ) → Option IndexDef
-index_in before space index = schema_of before space >>= (λ schema. index_with index schema.indexes)
+abbrev pub index_by_state : State → (space index : ℕ) → Option IndexDef
+index_by_state before space index = schema_of before space >>= (λ schema. index_with index schema.indexes)
 
 abbrev pub lies_in_index : Option IndexDef → Range → Touched → Bool
 lies_in_index None range touched = false
@@ -48,14 +48,14 @@ lies_in_index (Some def) range touched = lies_in range (touched_key def touched)
 
 -- a tuple's key in the index that was read lies in the range that was read
 abbrev pub is_met : State → Read → Touched → Bool
-is_met before read touched = (touched.space == read.space) && lies_in_index (index_in before read.space read.index) read.range touched
+is_met before read touched = (touched.space == read.space) && lies_in_index (index_by_state before read.space read.index) read.range touched
 
--- one of these tuples meets one of these reads
-abbrev pub meets : State → List Touched → List Read → Bool
-meets before touched reads = list_any (λ read. list_any (is_met before read) touched) reads
+-- one of these tuples are_met one of these reads
+abbrev pub are_met : State → List Touched → List Read → Bool
+are_met before touched reads = list_any (λ read. list_any (is_met before read) touched) reads
 
--- a commit of these rows touches a tuple that meets one of these reads; what each row touches is judged in the state before it
+-- a commit of these rows touches a tuple that are_met one of these reads; what each row touches is judged in the state before it
 abbrev pub rows_meet : State → List Row → List Read → Bool
 rows_meet before [] reads = false
 rows_meet before (row ∷ rows) reads =
-    meets before (touched_by_change before (row_change before row)) reads || rows_meet (state_after_row before row) rows reads
+    are_met before (touched_by_change before (row_change before row)) reads || rows_meet (state_after_row before row) rows reads

@@ -10,9 +10,9 @@ ghost use Rattle.mx_outside.specs.Disks.{Files};
 ghost use Rattle.mx_model.specs.declared.damage.Damage.{Damage};
 ghost use Rattle.mx_model.specs.Answers.{answer_in_space, answer_to, state_after_row, state_after_rows};
 ghost use Rattle.mx_model.specs.Directories.{AllFollow, IsDirectoryState, Reached, SameOutcome};
-ghost use Rattle.mx_model.specs.Frame.{AgreeBut, IsNoSchemaWrite, IsPlain, OperationHasBytes, StaysSound, answers_from, reads_in, rows_in, state_after_statements};
+ghost use Rattle.mx_model.specs.Frame.{AgreeBut, IsNoSchemaWrite, IsDataStatement, OperationHasBytes, StaysSound, answers_from, reads_in, rows_in, state_after_statements};
 ghost use Rattle.mx_model.specs.Histories.{Base, History, IsLegal, asks_in, asking, history_from, journal_of, remembered, state_of};
-ghost use Rattle.mx_model.specs.Touches.{Touched, meets, rows_meet, touched_by_change};
+ghost use Rattle.mx_model.specs.Touches.{Touched, are_met, rows_meet, touched_by_change};
 ghost use Rattle.mx_model.specs.statements.Statement.{Operation, Statement};
 ghost use Rattle.mx_write.specs.Change.{state_after_changed};
 ghost use Rattle.mx_write.specs.Judge.{row_change};
@@ -63,7 +63,7 @@ pub fn a_change_touches_all_that_it_changes()
 /// leaves two states that agree so too.
 pub fn untouched_statements_are_answered_the_same()
     ensures answer { (touched : List Touched) (one other : State) (space : ℕ) (operation : Operation) → AgreeBut touched one other → IsSound one → IsSound other
-        → IsNoSchemaWrite space operation → meets one touched (answer_in_space one space operation).reads ≡ false
+        → IsNoSchemaWrite space operation → are_met one touched (answer_in_space one space operation).reads ≡ false
         → answer_in_space other space operation ≡ answer_in_space one space operation }
     ensures after { (touched : List Touched) (one other : State) (space : ℕ) (operation : Operation) → AgreeBut touched one other → IsNoSchemaWrite space operation
         → AgreeBut touched (state_after_changed one (answer_in_space one space operation).change)
@@ -74,10 +74,10 @@ pub fn untouched_statements_are_answered_the_same()
 /// with statements before and after rows that touch nothing which they read.
 pub fn untouched_runs_are_answered_the_same()
     ensures answers { (touched : List Touched) (one other : State) (statements : List Statement) → AgreeBut touched one other → IsSound one → IsSound other
-        → AllByRecursion IsPlain statements → meets one touched (reads_in (answers_from one statements)) ≡ false
+        → AllByRecursion IsDataStatement statements → are_met one touched (reads_in (answers_from one statements)) ≡ false
         → (answers_from other statements ≡ answers_from one statements)
         × AgreeBut touched (state_after_statements one statements) (state_after_statements other statements) }
-    ensures rows { (before : State) (rows : List Row) (statements : List Statement) → StaysSound before rows → AllByRecursion IsPlain statements
+    ensures rows { (before : State) (rows : List Row) (statements : List Statement) → StaysSound before rows → AllByRecursion IsDataStatement statements
         → rows_meet before rows (reads_in (answers_from before statements)) ≡ false
         → answers_from (state_after_rows before rows) statements ≡ answers_from before statements }
     ensures sound { (before : State) (rows : List Row) → IsSound before → AllByRecursion (λ (row : Row). HasBytes (write_of row)) rows → StaysSound before rows }
@@ -90,7 +90,7 @@ pub fn a_commit_is_its_statements()
     ensures alone { (before : State) (statements : List Statement) → IsSound before → AllByRecursion (λ (statement : Statement). OperationHasBytes statement.operation) statements
         → (state_after_rows before (rows_in (answers_from before statements)) ≡ state_after_statements before statements)
         × StaysSound before (rows_in (answers_from before statements)) }
-    ensures later { (before : State) (others : List Row) (statements : List Statement) → StaysSound before others → AllByRecursion IsPlain statements
+    ensures later { (before : State) (others : List Row) (statements : List Statement) → StaysSound before others → AllByRecursion IsDataStatement statements
         → rows_meet before others (reads_in (answers_from before statements)) ≡ false
         → (state_after_rows (state_after_rows before others) (rows_in (answers_from before statements))
         ≡ state_after_statements (state_after_rows before others) statements)

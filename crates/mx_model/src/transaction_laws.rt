@@ -16,9 +16,9 @@ ghost use Rattle.mx_model.specs.declared.ids.Ids.{Ids};
 ghost use Rattle.mx_model.specs.declared.reply.Reply.TheVariants.{Empty, Refused};
 ghost use Rattle.mx_model.specs.Alone.{AllStandAlone, StandsAlone, answers_alone};
 ghost use Rattle.mx_model.specs.Answers.{state_after_rows};
-ghost use Rattle.mx_model.specs.Frame.{IsPlain};
+ghost use Rattle.mx_model.specs.Frame.{IsDataStatement};
 ghost use Rattle.mx_model.specs.Histories.{CanBeAsked, Base, is_out_of_memory};
-ghost use Rattle.mx_model.specs.Overlaps.{Active, Doomed, IsWithin, Step, Transaction, View, has_row, is_some_row, place_of, reads_before, standing, standing_after_commit, standing_after_step, state_at, statements_in};
+ghost use Rattle.mx_model.specs.Overlaps.{Active, Doomed, IsWithin, TransactionStep, Transaction, View, has_row, is_some_row, place_read, reads_before, standing, standing_after_commit, standing_after_step, state_after_first, statements_in};
 ghost use Rattle.mx_model.specs.RunAlone.{run_alone, writes};
 ghost use Rattle.mx_model.specs.Streams.{Streams, commit_with, outcome_of, streams_after, streams_left, transaction_named, transaction_with, transaction_with_all};
 ghost use Rattle.mx_model.specs.Touches.{rows_meet};
@@ -43,7 +43,7 @@ pub fn a_commit_moves_what_it_overlaps()
 pub fn a_write_dooms_what_is_overlapped()
     ensures at { (ids : Ids) (base : State) (journal : List Tx) (is_write : Bool) (transaction : Transaction)
         → standing ids base journal is_write transaction ≡ standing_after_step is_write (standing ids base journal false transaction) }
-    ensures after { (ids : Ids) (base : State) (journal : List Tx) (step : Step) (transaction : Transaction) → step.after ≡ length journal
+    ensures after { (ids : Ids) (base : State) (journal : List Tx) (step : TransactionStep) (transaction : Transaction) → step.after ≡ length journal
         → standing ids base journal false (transaction_with step transaction)
         ≡ standing_after_step (writes step.statement.operation) (standing ids base journal false transaction) }
 {}
@@ -52,7 +52,7 @@ pub fn a_write_dooms_what_is_overlapped()
 pub fn a_conflict_has_its_commit()
     ensures { (ids : Ids) (base : State) (journal : List Tx) (is_write : Bool) (transaction : Transaction) → standing ids base journal is_write transaction ≡ Doomed
         → (number : ℕ) × (commit : Tx) × (transaction.begun < number) × (number ≤ length journal) × (slice_get journal (pred number) ≡ Some commit)
-        × (rows_meet (state_at base journal (pred number)) commit.rows (reads_before number transaction.steps) ≡ true) }
+        × (rows_meet (state_after_first base journal (pred number)) commit.rows (reads_before number transaction.steps) ≡ true) }
 {}
 
 /// Whatever is asked, all open transactions were answered as if each ran alone on the prefix of the journal
@@ -67,13 +67,13 @@ pub fn open_transactions_stand_alone()
 /// its commit.
 pub fn a_commit_was_answered_alone()
     ensures { (ids : Ids) (base : State) (journal : List Tx) (transaction : Transaction) → StandsAlone ids base journal transaction → standing ids base journal false transaction ≡ Active
-        → map (λ (step : Step). step.reply) transaction.steps
+        → map (λ (step : TransactionStep). step.reply) transaction.steps
         ≡ map (λ (answer : Answer). answer.reply) (run_alone ids (state_after base journal) (statements_in transaction.steps)).answers }
 {}
 
 /// And what it commits makes of that state what its statements did when they ran alone.
 pub fn a_commit_makes_what_its_statements_did()
-    ensures rows { (ids : Ids) (before : State) (statements : List Statement) → IsSound before → AllByRecursion IsPlain statements
+    ensures rows { (ids : Ids) (before : State) (statements : List Statement) → IsSound before → AllByRecursion IsDataStatement statements
         → state_after_rows before (run_alone ids before statements).rows ≡ (run_alone ids before statements).state }
     ensures journal { (streams : Streams) (transaction : Transaction) → AllStandAlone streams
         → StandsAlone streams.base.ids streams.base.state streams.journal transaction
@@ -87,13 +87,13 @@ pub fn a_commit_makes_what_its_statements_did()
 pub fn committed_transactions_are_serializable()
     ensures replies { (streams : Streams) (name : TxnName) (transaction : Transaction) → AllStandAlone streams → transaction_named name streams.transactions ≡ Some transaction
         → (outcome_of streams name request.Commit).reply ≡ Empty
-        → map (λ (step : Step). step.reply) transaction.steps
+        → map (λ (step : TransactionStep). step.reply) transaction.steps
         ≡ map (λ (answer : Answer). answer.reply) (answers_alone streams.base.ids streams.base.state streams.journal transaction) }
     ensures place { (streams : Streams) (name : TxnName) (transaction : Transaction) → AllStandAlone streams → transaction_named name streams.transactions ≡ Some transaction
-        → (transaction.begun ≤ place_of streams.base.state streams.journal transaction) × (place_of streams.base.state streams.journal transaction ≤ length streams.journal) }
+        → (transaction.begun ≤ place_read streams.base.state streams.journal transaction) × (place_read streams.base.state streams.journal transaction ≤ length streams.journal) }
     ensures rows { (streams : Streams) (name : TxnName) (transaction : Transaction) → AllStandAlone streams → transaction_named name streams.transactions ≡ Some transaction
         → is_some_row (outcome_of streams name request.Commit).rows ≡ true
-        → (place_of streams.base.state streams.journal transaction ≡ length streams.journal)
+        → (place_read streams.base.state streams.journal transaction ≡ length streams.journal)
         × (state_after streams.base.state (streams_after streams name (outcome_of streams name request.Commit)).journal
         ≡ (run_alone streams.base.ids (state_after streams.base.state streams.journal) (statements_in transaction.steps)).state) }
 {}
@@ -101,18 +101,18 @@ pub fn committed_transactions_are_serializable()
 /// A transaction that a commit has overlapped, and that isn't doomed, reads the prefix before that commit for
 /// the rest of its life, whatever is committed and whatever it states: it is answered as if it ran alone there.
 pub fn a_view_keeps_its_place()
-    ensures place { (ids : Ids) (base : State) (journal more : List Tx) (further : List Step) (transaction : Transaction) (place : ℕ)
-        → standing ids base journal false transaction ≡ View place → AllByRecursion (λ (step : Step). length journal ≤ step.after) further
-        → (place < length journal) × (state_at base (journal ++ more) place ≡ state_at base journal place)
-        × (place_of base (journal ++ more) (transaction_with_all further transaction) ≡ place)
+    ensures place { (ids : Ids) (base : State) (journal more : List Tx) (further : List TransactionStep) (transaction : Transaction) (place : ℕ)
+        → standing ids base journal false transaction ≡ View place → AllByRecursion (λ (step : TransactionStep). length journal ≤ step.after) further
+        → (place < length journal) × (state_after_first base (journal ++ more) place ≡ state_after_first base journal place)
+        × (place_read base (journal ++ more) (transaction_with_all further transaction) ≡ place)
         × ((standing ids base (journal ++ more) false (transaction_with_all further transaction) ≡ View place)
         ⊎ (standing ids base (journal ++ more) false (transaction_with_all further transaction) ≡ Doomed)) }
-    ensures replies { (ids : Ids) (base : State) (journal more : List Tx) (further : List Step) (transaction : Transaction) (place : ℕ)
-        → standing ids base journal false transaction ≡ View place → AllByRecursion (λ (step : Step). length journal ≤ step.after) further
+    ensures replies { (ids : Ids) (base : State) (journal more : List Tx) (further : List TransactionStep) (transaction : Transaction) (place : ℕ)
+        → standing ids base journal false transaction ≡ View place → AllByRecursion (λ (step : TransactionStep). length journal ≤ step.after) further
         → StandsAlone ids base (journal ++ more) (transaction_with_all further transaction)
         → standing ids base (journal ++ more) false (transaction_with_all further transaction) ≢ Doomed
-        → map (λ (step : Step). step.reply) (further ++ transaction.steps)
-        ≡ map (λ (answer : Answer). answer.reply) (run_alone ids (state_at base journal place) (statements_in (further ++ transaction.steps))).answers }
+        → map (λ (step : TransactionStep). step.reply) (further ++ transaction.steps)
+        ≡ map (λ (answer : Answer). answer.reply) (run_alone ids (state_after_first base journal place) (statements_in (further ++ transaction.steps))).answers }
 {}
 
 /// COMMIT of an open transaction is told a conflict exactly where the transaction is doomed, and so is a
@@ -131,7 +131,7 @@ pub fn committed_rows_are_those_of_running_alone()
     ensures { (streams : Streams) (name : TxnName) (transaction : Transaction) → AllStandAlone streams → transaction_named name streams.transactions ≡ Some transaction
         → (row : Row) (others : List Row) → (outcome_of streams name request.Commit).rows ≡ row ∷ others
         → (standing streams.base.ids streams.base.state streams.journal false transaction ≡ Active)
-        × (map (λ (step : Step). step.reply) transaction.steps
+        × (map (λ (step : TransactionStep). step.reply) transaction.steps
         ≡ map (λ (answer : Answer). answer.reply) (run_alone streams.base.ids (state_after streams.base.state streams.journal) (statements_in transaction.steps)).answers)
         × (row ∷ others ≡ (run_alone streams.base.ids (state_after streams.base.state streams.journal) (statements_in transaction.steps)).rows) }
 {}
