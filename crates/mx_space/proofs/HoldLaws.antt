@@ -1,5 +1,5 @@
 -- A place that is held among the tuples of a space, as bytes.
-use Rattle.std.proofs.Common.{◌≡◌, ℕ, Bool, true, false, cond, T, List, [], ◌∷◌, map, Option, Some, None, refl, sym, ap, ◌∙◌, subst}
+use Rattle.std.proofs.Common.{◌≡◌, ℕ, Bool, true, false, cond, T, List, [], ◌∷◌, map, Option, Some, None, refl, sym, ap, ◌∙◌, subst, true≢false}
 use Rattle.std.specs.Prelude.{is_some, if◌then◌else◌}
 use Rattle.std.specs.declared.cmp.Ordering.{Ordering}
 use Rattle.std.specs.declared.cmp.Ordering.TheVariants.{Less, Equal, Greater}
@@ -78,36 +78,33 @@ none_above key entry (next ∷ all) less below =
     ap (λ (o : Ordering). cond (is_eq o) (Some next.1) (find key_cmp key all)) also ∙ none_above key entry all less above.1
 
 module _ (key : Key) (fit : AreFit key) (tuple : List ℕ) where
-  -- what is there is set as it is put
-  set_is_put : (all : List Indexed) → AllByRecursion (λ (entry : Indexed). AreFit entry.0) all → T (is_sorted key_cmp all) → is_some (find key_cmp key all) ≡ true
-      → set_value (is_at (slice_cmp nat_cmp (comparable_of key))) (map stored_tuple all) tuple ≡ insert_entry (slice_cmp nat_cmp) (map stored_tuple all) (comparable_of key) tuple
+  -- the tuples with this one in its place
+  abbrev set_in : List Indexed → List StoredTuple
+  set_in all = set_value (is_at (slice_cmp nat_cmp (comparable_of key))) (map stored_tuple all) tuple
+
+  -- or put among them
+  abbrev put_in : List Indexed → List StoredTuple
+  put_in all = insert_entry (slice_cmp nat_cmp) (map stored_tuple all) (comparable_of key) tuple
+
+  -- which is the same where one is there
+  set_is_put : (all : List Indexed) → AllByRecursion (λ (entry : Indexed). AreFit entry.0) all → T (is_sorted key_cmp all) → is_some (find key_cmp key all) ≡ true → set_in all ≡ put_in all
   set_is_put [] fits sorted there = absurd cc
   set_is_put (entry ∷ all) fits sorted there =
       let rises = both (below_all key_cmp entry.0 all) (is_sorted key_cmp all) sorted in
-      by_order_of (slice_cmp nat_cmp (comparable_of key) (comparable_of entry.0)) (key_cmp key entry.0) refl (bytes_order key entry.0 fit fits.0) refl there (set_is_put all fits.1 rises.1)
-      (subst T (sym rises.0) tt)
+      let order = bytes_order key entry.0 fit fits.0 in
+      ap set_by order ∙ by_order_of (key_cmp key entry.0) refl there (set_is_put all fits.1 rises.1) (subst T (sym rises.0) tt) ∙ sym (ap put_by order)
     where
-      by_order_of : (o p : Ordering) → slice_cmp nat_cmp (comparable_of key) (comparable_of entry.0) ≡ o → o ≡ p → key_cmp key entry.0 ≡ p
-          → is_some (cond (is_eq p) (Some entry.1) (find key_cmp key all)) ≡ true
-          → (is_some (find key_cmp key all) ≡ true
-          → set_value (is_at (slice_cmp nat_cmp (comparable_of key))) (map stored_tuple all) tuple ≡ insert_entry (slice_cmp nat_cmp) (map stored_tuple all) (comparable_of key) tuple)
-          → T (below_all key_cmp entry.0 all)
-          → cond (is_eq o) ((comparable_of entry.0, tuple) ∷ map stored_tuple all) (stored_tuple entry ∷ set_value (is_at (slice_cmp nat_cmp (comparable_of key))) (map stored_tuple all) tuple)
-          ≡ match_ordering o ((comparable_of key, tuple) ∷ stored_tuple entry ∷ map stored_tuple all) ((comparable_of entry.0, tuple) ∷ map stored_tuple all)
-          (stored_tuple entry ∷ insert_entry (slice_cmp nat_cmp) (map stored_tuple all) (comparable_of key) tuple)
-      by_order_of o Less bytes same is there later below = absurd (true_none (none_above key entry all is below) there)
-        where
-          true_none : find key_cmp key all ≡ None → is_some (find key_cmp key all) ≡ true → ⊥
-          true_none none some = absurd cc
-      by_order_of o Equal bytes same is there later below =
-          ap (λ (o : Ordering). cond (is_eq o) ((comparable_of entry.0, tuple) ∷ map stored_tuple all) (stored_tuple entry ∷ set_value (is_at (slice_cmp nat_cmp (comparable_of key))) (map stored_tuple all) tuple)) same
-          ∙ sym (ap (λ (o : Ordering). match_ordering o ((comparable_of key, tuple) ∷ stored_tuple entry ∷ map stored_tuple all) ((comparable_of entry.0, tuple) ∷ map stored_tuple all)
-          (stored_tuple entry ∷ insert_entry (slice_cmp nat_cmp) (map stored_tuple all) (comparable_of key) tuple)) same)
-      by_order_of o Greater bytes same is there later below =
-          ap (λ (o : Ordering). cond (is_eq o) ((comparable_of entry.0, tuple) ∷ map stored_tuple all) (stored_tuple entry ∷ set_value (is_at (slice_cmp nat_cmp (comparable_of key))) (map stored_tuple all) tuple)) same
-          ∙ ap (λ l. stored_tuple entry ∷ l) (later there)
-          ∙ sym (ap (λ (o : Ordering). match_ordering o ((comparable_of key, tuple) ∷ stored_tuple entry ∷ map stored_tuple all) ((comparable_of entry.0, tuple) ∷ map stored_tuple all)
-          (stored_tuple entry ∷ insert_entry (slice_cmp nat_cmp) (map stored_tuple all) (comparable_of key) tuple)) same)
+      set_by : Ordering → List StoredTuple
+      set_by o = cond (is_eq o) ((comparable_of entry.0, tuple) ∷ map stored_tuple all) (stored_tuple entry ∷ set_in all)
+
+      put_by : Ordering → List StoredTuple
+      put_by o = match_ordering o ((comparable_of key, tuple) ∷ map stored_tuple (entry ∷ all)) ((comparable_of entry.0, tuple) ∷ map stored_tuple all) (stored_tuple entry ∷ put_in all)
+
+      by_order_of : (o : Ordering) → key_cmp key entry.0 ≡ o → is_some (cond (is_eq o) (Some entry.1) (find key_cmp key all)) ≡ true
+          → (is_some (find key_cmp key all) ≡ true → set_in all ≡ put_in all) → T (below_all key_cmp entry.0 all) → set_by o ≡ put_by o
+      by_order_of Less is there later below = absurd (true≢false (sym there ∙ ap is_some (none_above key entry all is below)))
+      by_order_of Equal is there later below = refl
+      by_order_of Greater is there later below = ap (λ l. stored_tuple entry ∷ l) (later there)
 
   -- a tuple is set in its place
   pub set_stored : (kept : List StoredTuple) (all : Tuples) (bytes : List ℕ) → StoresTuples kept all → bytes ≡ comparable_of key → is_some (get all key) ≡ true

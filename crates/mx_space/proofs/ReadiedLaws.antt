@@ -26,7 +26,8 @@ use Rattle.mx_space.specs.Changes.{AddsEntry, PutsByNumber, RemovesByNumber, all
 use Rattle.mx_space.specs.Entries.{IndexEntry}
 use Rattle.mx_space.specs.Kept.{StoresEntries, kept_entries}
 use Rattle.mx_space.specs.KeptKeys.{kept_key}
-use Rattle.mx_space.specs.Reserved.{Coming, Content, Edits, EditsAll, IsFree, StoresComing, StoresComingByNumber, StoresReserved, all_added, coming_entries, content_installed, content_readied, removed_keys, tuples_with, with_held, with_place, with_places, with_set}
+use Rattle.mx_space.specs.Reserved.{Coming, Content, Edits, EditsAll, IsFree, StoresComing, StoresComingByNumber, StoresReserved}
+use Rattle.mx_space.specs.Reserved.{all_added, coming_entries, content_installed, content_readied, removed_keys, tuples_with, with_held, with_place, with_places, with_set}
 use Rattle.mx_space.proofs.BytesLaws.{one_by_bytes, stores_added, stores_less}
 use Rattle.mx_space.proofs.ComingLaws.{AreComingLong, entries_left, entries_put, entry_found, place_filled, places_left, places_put}
 use Rattle.mx_space.proofs.EntriesLaws.{entry_is_new, entry_there, without_entry}

@@ -22,7 +22,8 @@ use Rattle.mx_space.specs.declared.state.State as coded
 use Rattle.mx_space.specs.declared.tuple_changes.TupleChange.{TupleChange}
 use Rattle.mx_space.specs.Entries.{IndexEntry}
 use Rattle.mx_space.specs.Kept.{StoresByNumber, StoresIndex}
-use Rattle.mx_space.specs.Reserved.{Coming, Content, EditsAll, HoldsReserved, IsFree, StoresComing, StoresComingByNumber, StoresReserved, all_released, changed_at, content_of, content_under, content_installed, content_readied, tuples_with, with_places}
+use Rattle.mx_space.specs.Reserved.{Coming, Content, EditsAll, HoldsReserved, IsFree, StoresComing, StoresComingByNumber, StoresReserved}
+use Rattle.mx_space.specs.Reserved.{all_released, changed_at, content_of, content_under, content_installed, content_readied, tuples_with, with_places}
 use Rattle.mx_space.specs.Reserves.{AreApart, AreReady, PlainChange, IsApart, IsReadied, IsReserved, MayStand, SpellsChange, own_changes, state_with, state_with_all}
 use Rattle.mx_space.specs.Spaces.{space_under}
 use Rattle.mx_space.specs.Stored.{HoldsBy, HoldsSpace, SpacesHold}

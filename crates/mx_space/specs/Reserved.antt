@@ -148,6 +148,7 @@ abbrev pub StoresComingByNumber : (is_first : Bool) → IndexDef → Tuples → 
 StoresComingByNumber true def tuples coming kept = kept ≡ []
 StoresComingByNumber false def tuples coming kept = StoresEntries kept (coming_entries def tuples coming)
 
+-- the entries of an index, with those to come
 abbrev pub StoresComing : Tuples → List Coming → IndexDef → List IndexEntry → Type 0
 StoresComing tuples coming def kept = StoresComingByNumber (def.id.0 == 0) def tuples coming kept
 
