@@ -1,8 +1,6 @@
 -- The entries of an index of what is seen: those of tuples that weren't written, and those of own tuples.
-use Rattle.std.proofs.Common.{◌≡◌, ℕ, Bool, true, false, cond, not, T, List, [], ◌∷◌, ◌++◌, map, filter, length, Option, Some, None, refl, sym, ap, ◌∙◌, subst}
-use Rattle.std.specs.Prelude.{is_some, ◌==◌, if◌then◌else◌}
-use Rattle.std.specs.declared.cmp.Ordering.{Ordering}
-use Rattle.std.specs.declared.cmp.Ordering.TheVariants.{Less, Equal, Greater}
+use Rattle.std.proofs.Common.{◌≡◌, ℕ, Bool, true, false, cond, not, T, List, [], ◌∷◌, map, filter, length, Option, Some, None, refl, sym, ap, ◌∙◌, subst}
+use Rattle.std.specs.Prelude.{is_some}
 use Rattle.std.specs.FinMap.{FinMap, empty, entries, entries_sorted, get, get-empty}
 use Rattle.std.specs.FinMap.Entries.{below_all, is_sorted}
 use Rattle.std.specs.List.{AllByRecursion}
@@ -19,14 +17,14 @@ use Rattle.mx_space.specs.Built.{AreLong}
 use Rattle.mx_space.specs.Entries.{IndexEntry}
 use Rattle.mx_space.specs.Kept.{kept_entries}
 use Rattle.mx_space.specs.KeptKeys.{kept_key}
-use Rattle.mx_space.specs.Overlays.{Written, under}
+use Rattle.mx_space.specs.Overlays.{OwnWrites, under}
 use Rattle.mx_space.proofs.EntriesLaws.{by_tuple, kept_found, primary_in}
 use Rattle.mx_space.proofs.MergedLaws.{IsBelow, IsOrdered}
 use Rattle.mx_space.proofs.OverlayLaws.{get-under}
 use Rattle.mx_space.proofs.PartLaws.{part_is, passing, same_part}
 use Rattle.mx_space.proofs.ViewLaws.{each_own, no_tuple}
 
-module _ (written : Written) (all : Tuples) where
+module _ (written : OwnWrites) (all : Tuples) where
   abbrev seen : Tuples
   seen = under written all
 

@@ -1,5 +1,5 @@
 -- The rows that a view shows of an index are those of the tuples that are seen.
-use Rattle.std.proofs.Common.{◌≡◌, ◌≢◌, ◌≤◌, ℕ, Bool, true, false, cond, not, List, [], ◌∷◌, map, filter, length, Option, Some, None, refl, sym, ap, ◌∙◌, subst}
+use Rattle.std.proofs.Common.{◌≡◌, ◌≢◌, ◌≤◌, ℕ, Bool, true, false, cond, not, List, [], ◌∷◌, map, filter, length, Option, Some, refl, sym, ap, ◌∙◌, subst}
 use Rattle.std.specs.Prelude.{is_some, ◌==◌, if◌then◌else◌}
 use Rattle.std.specs.FinMap.{empty, entries, get}
 use Rattle.std.specs.List.{AllByRecursion}
@@ -28,7 +28,7 @@ use Rattle.mx_space.specs.Built.{AreLong}
 use Rattle.mx_space.specs.Changes.{index_kept}
 use Rattle.mx_space.specs.Entries.{IndexEntry}
 use Rattle.mx_space.specs.Kept.{StoresByNumber, StoresEntries, StoresIndexed, entry_bytes, kept_entries}
-use Rattle.mx_space.specs.Overlays.{StoresWritten, Written, hides, under}
+use Rattle.mx_space.specs.Overlays.{StoresWritten, OwnWrites, hides, under}
 use Rattle.mx_space.specs.Selecting.{AreFitEntries, key_in_index, indexed_row, row_of, tuple_stored}
 use Rattle.mx_space.specs.ShownRows.{is_shown, merged}
 use Rattle.mx_space.proofs.EntriesLaws.{entry_is_of}
@@ -39,14 +39,14 @@ use Rattle.mx_space.proofs.MergedLaws.{all-filter, merged_in_range, row_by_side}
 use Rattle.mx_space.proofs.PartLaws.{all_parts}
 use Rattle.mx_space.proofs.PickLaws.{HoldsItsKeys, fit_ends, kept_in_range}
 use Rattle.mx_space.proofs.ShownLaws.{entries_own, entries_shown, filter_as, map_ordered, tuples_own, tuples_shown, unwritten}
-use Rattle.mx_space.proofs.SpaceLaws.{index_there}
+use Rattle.mx_space.proofs.SpaceLaws.{index_there, space_long}
 use Rattle.mx_space.proofs.ViewLaws.{hides_written, index_of_own, not_some, not_written, was_written}
 
 all_so : {X : Type 0} (P Q : X → Type 0) → ((x : X) → P x → Q x) → (xs : List X) → AllByRecursion P xs → AllByRecursion Q xs
 all_so P Q so [] all = tt
 all_so P Q so (x ∷ xs) all = (so x all.0, all_so P Q so xs all.1)
 
-module _ (schema : Option Schema) (over : OverlaidSpace) (written : Written) (writes : StoresWritten schema over written) (all : Tuples) (stored : List StoredTuple) (stores : StoresTuples stored all) where
+module _ (schema : Option Schema) (over : OverlaidSpace) (written : OwnWrites) (writes : StoresWritten schema over written) (all : Tuples) (stored : List StoredTuple) (stores : StoresTuples stored all) where
   abbrev seen : Tuples
   seen = under written all
 
@@ -229,7 +229,7 @@ entries_kept schema space all def stores there apart kept is =
     (subst (λ b. StoresByNumber b def all index.0) (ne_eqb def.id.0 0 apart) index.2)
 
 -- the keys of what is seen by an index
-pub seen_fits : (schema : Option Schema) (space : Space) (over : OverlaidSpace) (all : Tuples) (written : Written) (def : IndexDef) (long : ℕ) → StoresIndexed schema space all
+pub seen_fits : (schema : Option Schema) (space : Space) (over : OverlaidSpace) (all : Tuples) (written : OwnWrites) (def : IndexDef) (long : ℕ) → StoresIndexed schema space all
     → StoresWritten schema over written → AreLong long all → AreLong long (under written all) → index_with def.id.0 space.schema.indexes ≡ Some def
     → HaveKeys def (under written all) → (def.unique ≡ true → AreUnique def (under written all)) → AreFitEntries (entries (tuples_by_index def (under written all)))
 seen_fits schema space over all written def long stores writes whole whole_seen there have one_each = by_number (def.id.0 == 0) refl
@@ -246,3 +246,13 @@ seen_fits schema space over all written def long stores writes whole whole_seen 
         let keeps_own : StoresEntries own_index.0 (kept_entries def (under written empty)) = subst (λ b. StoresByNumber b def (under written empty) own_index.0) other own_index.2 in
         index_fits def (under written all) long whole_seen other have one_each (map entry_bytes (entries (kept_entries def (under written all))))
         (keeps_seen schema over written writes all space.tuples.entries stores.holds.keeps def other long whole whole_seen have one_each index.0 own_index.0 keeps keeps_own)
+
+-- the primary keys of what is seen have as many parts as the primary index
+pub seen_long : (schema : Option Schema) (space : Space) (over : OverlaidSpace) (all : Tuples) (written : OwnWrites) (primary : IndexDef) → StoresIndexed schema space all
+    → StoresWritten schema over written → index_with 0 space.schema.indexes ≡ Some primary → AreLong (length primary.key) (under written all)
+seen_long schema space over all written primary stores writes there =
+    let is_long : Indexed → Type 0 = λ entry. length entry.0 ≡ length primary.key in
+    let own_there = index_of_own schema space over all written 0 primary over.own stores writes refl there in
+    all_parts is_long (λ entry. unwritten written all entry.0) (entries (under written all))
+    (subst (AllByRecursion is_long) (sym (tuples_shown written all)) (all-filter is_long (λ entry. unwritten written all entry.0) (entries all) (space_long schema space all primary stores there)))
+    (subst (AllByRecursion is_long) (sym (tuples_own written all)) (space_long schema over.own (under written empty) primary writes.own own_there))

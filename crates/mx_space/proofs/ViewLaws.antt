@@ -1,14 +1,9 @@
 -- The tuples that a view shows, and the one that has a key in a unique index.
-use Rattle.std.proofs.Common.{◌≡◌, ◌≢◌, ◌||◌, ℕ, Bool, true, false, cond, List, [], ◌∷◌, ◌++◌, length, Option, Some, None, Ok, inl, inr, refl, sym, ap, ◌∙◌, subst, true≢false}
-use Rattle.std.specs.Prelude.{◌⊎◌, ◌==◌, is_some}
-use Rattle.std.specs.BTreeMap.{is_at}
-use Rattle.std.specs.BTreeSet.{contains}
-use Rattle.std.specs.Cmp.Lexicographic.{slice_cmp}
+use Rattle.std.proofs.Common.{◌≡◌, ◌≢◌, ℕ, true, false, List, [], ◌∷◌, ◌++◌, length, Option, Some, None, Ok, inl, inr, refl, sym, ap, ◌∙◌, subst, true≢false}
+use Rattle.std.specs.Prelude.{◌⊎◌, is_some}
 use Rattle.std.specs.FinMap.{empty, entries, get, get-empty}
 use Rattle.std.specs.List.{AllByRecursion}
-use Rattle.std.specs.Map.{lookup}
 use Rattle.std.specs.Option.{unwrap_or}
-use Rattle.std.specs.Ordering.{nat_cmp}
 use Rattle.std.proofs.lemmas.Bool.{ne_eqb}
 use Rattle.mx_msgpack.proofs.Options.{same_some}
 use Rattle.mx_key.specs.Keys.{Key, AreFit, key_cmp}
@@ -16,19 +11,19 @@ use Rattle.mx_key.specs.Comparable.{comparable_of}
 use Rattle.mx_schema.specs.declared.index_def.IndexDef.{IndexDef}
 use Rattle.mx_schema.specs.declared.schema.Schema.{Schema}
 use Rattle.mx_schema.specs.Catalogues.{index_with}
-use Rattle.mx_schema.specs.Picks.{Indexed, entry_key, indexed_with, tuples_by_index}
+use Rattle.mx_schema.specs.Picks.{Indexed, entry_key, tuples_by_index}
 use Rattle.mx_schema.specs.Sound.{AreUnique, HaveKeys}
 use Rattle.mx_schema.specs.State.{Tuples, key_in}
 use Rattle.mx_schema.proofs.StoredLaws.{other_index}
-use Rattle.mx_schema.proofs.TakenLaws.{each_found, stored_get}
+use Rattle.mx_schema.proofs.TakenLaws.{each_found}
 use Rattle.mx_space.specs.declared.overlay.OverlaidSpace.{OverlaidSpace}
 use Rattle.mx_space.specs.declared.space.Space.{Space}
 use Rattle.mx_space.specs.Changes.{index_kept}
 use Rattle.mx_space.specs.Entries.{IndexEntry, first_from}
 use Rattle.mx_space.specs.Kept.{HoldsOneEach, StoresEntries, StoresIndexed, kept_entries}
-use Rattle.mx_space.specs.Overlays.{IsHolder, StoresOver, StoresWritten, Written, hides, is_removal, under}
+use Rattle.mx_space.specs.Overlays.{IsHolder, StoresOver, StoresWritten, OwnWrites, hides, under}
 use Rattle.mx_space.proofs.HolderLaws.{first_is_of, index_found, one_holder, unique_apart}
-use Rattle.mx_space.proofs.IndexedLaws.{held_is, held_there, not_none}
+use Rattle.mx_space.proofs.IndexedLaws.{held_is, held_there}
 use Rattle.mx_space.proofs.MemberLaws.{each_is_found}
 use Rattle.mx_space.proofs.OverlayLaws.{get-under, under_none}
 use Rattle.mx_space.proofs.SpaceLaws.{space_long}
@@ -43,7 +38,7 @@ not_some (Some x) e = absurd (true≢false e)
 abbrev pub no_tuple : Key → Option (List ℕ)
 no_tuple key = get (empty {X = List ℕ} {R = key_cmp}) key
 
-module _ (written : Written) (all : Tuples) (key : Key) where
+module _ (written : OwnWrites) (all : Tuples) (key : Key) where
   -- a key that wasn't written has its tuple
   pub not_written : get written key ≡ None → get (under written all) key ≡ get all key
   not_written none = get-under written all key ∙ ap (λ o. unwrap_or o (get all key)) none
@@ -75,38 +70,27 @@ module _ (written : Written) (all : Tuples) (key : Key) where
       by_write (Some write) some is = inl (get-under written empty key ∙ ap (λ o. unwrap_or o (no_tuple key)) some ∙ is)
 
 -- a key is hidden where it was written
-pub hides_written : (schema : Option Schema) (over : OverlaidSpace) (written : Written) (key : Key) (bytes : List ℕ) → StoresWritten schema over written → AreFit key → bytes ≡ comparable_of key
+pub hides_written : (schema : Option Schema) (over : OverlaidSpace) (written : OwnWrites) (key : Key) (bytes : List ℕ) → StoresWritten schema over written → AreFit key → bytes ≡ comparable_of key
     → hides over bytes ≡ is_some (get written key)
-hides_written schema over written key bytes stores fit is =
-    (λ i. is_some (stored_get over.own.tuples.entries (under written empty) key bytes stores.own.holds.keeps fit is i) || held i)
-    ∙ ap (λ o. is_some o || is_removal (get written key)) (get-under written empty key)
-    ∙ by_write (get written key)
-  where
-    held : contains (slice_cmp nat_cmp) over.removed bytes ≡ is_removal (get written key)
-    held = ap (contains (slice_cmp nat_cmp) over.removed) is ∙ stores.removed key fit
-
-    by_write : (o : Option (Option (List ℕ))) → (is_some (unwrap_or o (no_tuple key)) || is_removal o) ≡ is_some o
-    by_write None = ap (λ o. is_some o || false) (get-empty key_cmp key)
-    by_write (Some None) = refl
-    by_write (Some (Some tuple)) = refl
+hides_written schema over written key bytes stores fit is = ap (hides over) is ∙ stores.keys key fit
 
 -- what is written is of the same space
-pub same_schema : (schema : Option Schema) (space : Space) (over : OverlaidSpace) (all : Tuples) (written : Written) → StoresIndexed schema space all → StoresWritten schema over written
+pub same_schema : (schema : Option Schema) (space : Space) (over : OverlaidSpace) (all : Tuples) (written : OwnWrites) → StoresIndexed schema space all → StoresWritten schema over written
     → space.schema ≡ over.own.schema
 same_schema schema space over all written stores own = same_some space.schema over.own.schema (sym stores.holds.is ∙ own.own.holds.is)
 
 -- so it has the same indexes, and its own tuples
-pub index_of_own : (schema : Option Schema) (space : Space) (over : OverlaidSpace) (all : Tuples) (written : Written) (id : ℕ) (def : IndexDef) (own : Space)
+pub index_of_own : (schema : Option Schema) (space : Space) (over : OverlaidSpace) (all : Tuples) (written : OwnWrites) (id : ℕ) (def : IndexDef) (own : Space)
     → StoresIndexed schema space all → StoresWritten schema over written → own ≡ over.own → index_with id space.schema.indexes ≡ Some def → index_with id own.schema.indexes ≡ Some def
 index_of_own schema space over all written id def own stores writes same there =
     subst (λ (s : Schema). index_with id s.indexes ≡ Some def) (same_schema schema space over all written stores writes ∙ ap (λ (s : Space). s.schema) (sym same)) there
 
-pub stores_own : (schema : Option Schema) (over : OverlaidSpace) (written : Written) (own : Space) → StoresWritten schema over written → own ≡ over.own
+pub stores_own : (schema : Option Schema) (over : OverlaidSpace) (written : OwnWrites) (own : Space) → StoresWritten schema over written → own ≡ over.own
     → StoresIndexed schema own (under written empty)
 stores_own schema over written own writes same = subst (λ s. StoresIndexed schema s (under written empty)) (sym same) writes.own
 
 -- what each tuple that is seen has, each own one has
-pub each_own : (P : Indexed → Type 0) (written : Written) (all : Tuples) → AllByRecursion P (entries (under written all)) → AllByRecursion P (entries (under written empty))
+pub each_own : (P : Indexed → Type 0) (written : OwnWrites) (all : Tuples) → AllByRecursion P (entries (under written all)) → AllByRecursion P (entries (under written empty))
 each_own P written all have = through (entries (under written empty)) (each_is_found (under written empty))
   where
     through : (some : List Indexed) → AllByRecursion (λ (entry : Indexed). get (under written empty) entry.0 ≡ Some entry.1) some → AllByRecursion P some
@@ -117,7 +101,7 @@ each_own P written all have = through (entries (under written empty)) (each_is_f
 -- ---- the tuple that has a key in a unique index
 
 -- own tuples are unique and have keys where all that are seen do
-pub own_one_each : (def : IndexDef) (written : Written) (all : Tuples) → HoldsOneEach def (under written all) → HoldsOneEach def (under written empty)
+pub own_one_each : (def : IndexDef) (written : OwnWrites) (all : Tuples) → HoldsOneEach def (under written all) → HoldsOneEach def (under written empty)
 own_one_each def written all (inl first) = inl first
 own_one_each def written all (inr (unique, one_each, have)) = inr (
   unique,
@@ -158,7 +142,7 @@ holder_is schema space all primary def wanted stores first there each apart fit 
     (ap (λ k. first_from k kept) (sym key_is) ∙ begins) (joined ∙ ap (λ k. k ++ own) key_is) in
     record { own = found.0; fit = found.1; is = found.2; holds = found.3 }
 
-module _ (def : IndexDef) (apart : def.id.0 ≢ 0) (written : Written) (all : Tuples) (each : HoldsOneEach def all) (each_seen : HoldsOneEach def (under written all)) (wanted : Key) where
+module _ (def : IndexDef) (apart : def.id.0 ≢ 0) (written : OwnWrites) (all : Tuples) (each : HoldsOneEach def all) (each_seen : HoldsOneEach def (under written all)) (wanted : Key) where
   -- an own tuple has it
   pub own_holds : (tuple : List ℕ) → get (tuples_by_index def (under written empty)) wanted ≡ Some tuple → Some tuple ≡ get (tuples_by_index def (under written all)) wanted
   own_holds tuple is =
@@ -216,7 +200,7 @@ module _ (def : IndexDef) (apart : def.id.0 ≢ 0) (written : Written) (all : Tu
 
 -- ---- the tuple that a view shows
 
-pub no_writes : (all : Tuples) (written : Written) (shown : Option OverlaidSpace) (schema : Option Schema) → StoresOver schema shown written → shown ≡ None → under written all ≡ all
+pub no_writes : (all : Tuples) (written : OwnWrites) (shown : Option OverlaidSpace) (schema : Option Schema) → StoresOver schema shown written → shown ≡ None → under written all ≡ all
 no_writes all written shown schema over none =
     let nothing : written ≡ empty = subst (λ o. StoresOver schema o written) none over in
     ap (λ w. under w all) nothing ∙ under_none all

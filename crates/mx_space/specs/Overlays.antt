@@ -1,5 +1,5 @@
 -- What a transaction sees of a space: its tuples under the transaction's own writes.
-use Rattle.std.specs.Prelude.{◌≡◌, ◌||◌, ℕ, Bool, true, false, List, [], ◌∷◌, Option, Some, None, is_some}
+use Rattle.std.specs.Prelude.{◌≡◌, ◌||◌, ℕ, Bool, List, [], ◌∷◌, Option, Some, None, is_some}
 use Rattle.std.specs.BTreeMap.{is_at}
 use Rattle.std.specs.BTreeSet.{contains}
 use Rattle.std.specs.Cmp.Lexicographic.{slice_cmp}
@@ -18,8 +18,8 @@ use Rattle.mx_space.specs.declared.view.SpaceView.{SpaceView}
 use Rattle.mx_space.specs.Kept.{StoresIndexed}
 
 -- a transaction's writes in a space: under each primary key that it wrote the tuple that it put, or none where it took the tuple out
-abbrev pub Written : Type 0
-Written = FinMap key_cmp (Option (List ℕ))
+abbrev pub OwnWrites : Type 0
+OwnWrites = FinMap key_cmp (Option (List ℕ))
 
 -- tuples after one write
 abbrev pub with_write : Tuples → Key → Option (List ℕ) → Tuples
@@ -31,35 +31,29 @@ with_writes [] all = all
 with_writes (write ∷ others) all = with_write (with_writes others all) write.0 write.1
 
 -- what is seen of tuples under writes
-abbrev pub under : Written → Tuples → Tuples
+abbrev pub under : OwnWrites → Tuples → Tuples
 under written all = with_writes (entries written) all
 
--- what was written under a key is that it has no tuple
-abbrev pub is_removal : Option (Option (List ℕ)) → Bool
-is_removal None = false
-is_removal (Some None) = true
-is_removal (Some (Some tuple)) = false
+-- the key of a tuple that was put or taken out, as its bytes tell
+abbrev pub hides : OverlaidSpace → (key : List ℕ) → Bool
+hides over key = is_some (lookup (is_at (slice_cmp nat_cmp key)) over.own.tuples.entries) || contains (slice_cmp nat_cmp) over.removed key
 
--- memory has these writes in a space that is described so: the tuples that were put, with their entries, and the keys that were taken out
-pub record StoresWritten (schema : Option Schema) (over : OverlaidSpace) (written : Written) : Type 0 where
+-- memory has these writes in a space that is described so: the tuples that were put, with their entries, and the keys that were written
+pub record StoresWritten (schema : Option Schema) (over : OverlaidSpace) (written : OwnWrites) : Type 0 where
   pub own : StoresIndexed schema over.own (under written empty)
-  pub removed : (key : Key) → AreFit key → contains (slice_cmp nat_cmp) over.removed (comparable_of key) ≡ is_removal (get written key)
+  pub keys : (key : Key) → AreFit key → hides over (comparable_of key) ≡ is_some (get written key)
 
 -- the writes of an overlay, where there is one; none where there isn't
-abbrev pub StoresOver : (schema : Option Schema) → Option OverlaidSpace → Written → Type 0
+abbrev pub StoresOver : (schema : Option Schema) → Option OverlaidSpace → OwnWrites → Type 0
 StoresOver schema None written = written ≡ empty
 StoresOver schema (Some over) written = StoresWritten schema over written
 
 -- a view of a space that is described so, which has these tuples, under these writes: it shows `under written all`
-pub record Sees (schema : Option Schema) (view : SpaceView) (all : Tuples) (written : Written) : Type 0 where
+pub record Sees (schema : Option Schema) (view : SpaceView) (all : Tuples) (written : OwnWrites) : Type 0 where
   pub state : StoresIndexed schema view.space.now all
   pub over : StoresOver schema (option_copied view.over) written
 
 -- ---- only private functions and proofs need these
-
--- the key of a tuple that was written, as its bytes tell
-abbrev pub hides : OverlaidSpace → (key : List ℕ) → Bool
-hides over key = is_some (lookup (is_at (slice_cmp nat_cmp key)) over.own.tuples.entries) || contains (slice_cmp nat_cmp) over.removed key
 
 -- the tuple of this primary key has a key in an index
 pub record IsHolder (def : IndexDef) (all : Tuples) (wanted : Key) (bytes : List ℕ) : Type 0 where

@@ -8,7 +8,7 @@ ghost use Rattle.mx_schema.specs.declared.index_def.IndexDef as indexed;
 ghost use Rattle.mx_schema.specs.declared.schema.Schema as described;
 ghost use Rattle.mx_schema.specs.Catalogues.{index_with};
 ghost use Rattle.mx_schema.specs.State.{key_in};
-ghost use Rattle.mx_space.specs.Overlays.{StoresWritten, Written, hides};
+ghost use Rattle.mx_space.specs.Overlays.{StoresWritten, OwnWrites, hides};
 
 use crate::space::Space;
 use mx_msgpack::Bytes;
@@ -17,7 +17,7 @@ use std::alloc::{AllocError, Global};
 use std::collections::BTreeSet;
 
 /// A transaction's own writes in a space: the tuples that it put, with their entries in each index, and the
-/// primary keys whose tuples it took out.
+/// primary keys whose tuples it took out, where it may have put others since.
 #[derive(Drop)]
 pub struct OverlaidSpace {
     own: Space,
@@ -41,16 +41,12 @@ impl OverlaidSpace {
     /// # Errors
     /// Out of memory. Nothing changed then.
     pub fn put(&mut self, alloc: Global, keyed: Keyed) -> Result<(), AllocError>
-        ensures schema { self.new.own.schema ≡ self.old.own.schema }
-        ensures ok { (schema : Option described.Schema) (written : Written) (primary : indexed.IndexDef) (key : Key) → StoresWritten schema self.old written
-            → index_with 0 self.old.own.schema.indexes ≡ Some primary → key_in primary.key keyed.tuple ≡ Ok key → AreFit key → keyed.key ≡ comparable_of key
-            → OnOk result (StoresWritten schema self.new (finite.insert written key (Some keyed.tuple))) }
-        ensures err { (schema : Option described.Schema) (written : Written) → StoresWritten schema self.old written → OnErr result (StoresWritten schema self.new written) }
+        ensures ok { (schema : described.Schema) (written : OwnWrites) (primary : indexed.IndexDef) (key : Key) → StoresWritten (Some schema) self.old written
+            → index_with 0 schema.indexes ≡ Some primary → key_in primary.key keyed.tuple ≡ Ok key → AreFit key → keyed.key ≡ comparable_of key
+            → OnOk result (StoresWritten (Some schema) self.new (finite.insert written key (Some keyed.tuple))) }
+        ensures err { (schema : Option described.Schema) (written : OwnWrites) → StoresWritten schema self.old written → OnErr result (StoresWritten schema self.new written) }
     {
-        let key = Bytes::from_slice(alloc, keyed.key.as_slice())?;
-        self.own.put(alloc, keyed)?;
-        self.removed.remove(&key);
-        Ok(())
+        self.own.put(alloc, keyed)
     }
 
     /// Takes the tuple of a primary key out, whether the transaction put it or the state has it.
@@ -58,11 +54,10 @@ impl OverlaidSpace {
     /// # Errors
     /// Out of memory. Nothing changed then.
     pub fn remove(&mut self, alloc: Global, key: &Bytes) -> Result<(), AllocError>
-        ensures schema { self.new.own.schema ≡ self.old.own.schema }
-        ensures ok { (schema : Option described.Schema) (written : Written) (primary : indexed.IndexDef) (wanted : Key) → StoresWritten schema self.old written
-            → index_with 0 self.old.own.schema.indexes ≡ Some primary → AreFit wanted → key.now ≡ comparable_of wanted
-            → OnOk result (StoresWritten schema self.new (finite.insert written wanted None)) }
-        ensures err { (schema : Option described.Schema) (written : Written) → StoresWritten schema self.old written → OnErr result (StoresWritten schema self.new written) }
+        ensures ok { (schema : described.Schema) (written : OwnWrites) (primary : indexed.IndexDef) (wanted : Key) → StoresWritten (Some schema) self.old written
+            → index_with 0 schema.indexes ≡ Some primary → AreFit wanted → key.now ≡ comparable_of wanted
+            → OnOk result (StoresWritten (Some schema) self.new (finite.insert written wanted None)) }
+        ensures err { (schema : Option described.Schema) (written : OwnWrites) → StoresWritten schema self.old written → OnErr result (StoresWritten schema self.new written) }
     {
         let copy = Bytes::from_slice(alloc, key.as_slice())?;
         let is_new = self.removed.insert(copy)?;

@@ -134,7 +134,10 @@ fn tuple_stored<'a>(tuples: &'a BTreeMap<Bytes, Bytes>, primary: &Bytes) -> &'a 
     }
 }
 
-pub(crate) fn next_in<'a>(entries: &mut Range<'a, Bytes, Bytes>, down: bool) -> Option<(&'a Bytes, &'a Bytes)>
+pub(crate) fn next_in<'a>(
+    entries: &mut Range<'a, Bytes, Bytes>,
+    down: bool,
+) -> Option<(&'a Bytes, &'a Bytes)>
     ensures { MatchOption result
         ((directed down entries.old ≡ []) × (directed down entries.new ≡ []))
         (λ entry. directed down entries.old ≡ (entry.0.now, entry.1.now) ∷ directed down entries.new) }

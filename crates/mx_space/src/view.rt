@@ -14,7 +14,7 @@ ghost use Rattle.mx_schema.specs.Sound.{AreUnique, HaveKeys};
 ghost use Rattle.mx_schema.specs.State as plain;
 ghost use Rattle.mx_space.specs.Built.{AreLong};
 ghost use Rattle.mx_space.specs.Kept.{HoldsOneEach, StoresIndexed};
-ghost use Rattle.mx_space.specs.Overlays.{IsHolder, Sees, StoresWritten, Written, under};
+ghost use Rattle.mx_space.specs.Overlays.{IsHolder, Sees, StoresWritten, OwnWrites, under};
 ghost use Rattle.mx_space.specs.Scans.{SelectsByKey};
 
 use crate::entries::is_joined;
@@ -45,7 +45,7 @@ impl<'a> SpaceView<'a> {
 
     /// The tuple whose primary key has these comparable bytes.
     pub fn tuple(self, key: &Bytes) -> Option<&'a [u8]>
-        ensures { (schema : Option described.Schema) (all : plain.Tuples) (written : Written) (wanted : Key) → Sees schema self.entry all written
+        ensures { (schema : Option described.Schema) (all : plain.Tuples) (written : OwnWrites) (wanted : Key) → Sees schema self.entry all written
             → AreFit wanted → key.now ≡ comparable_of wanted → option_copied result ≡ finite.get (under written all) wanted }
     {
         let Some(over) = self.over else {
@@ -61,7 +61,7 @@ impl<'a> SpaceView<'a> {
     /// where each tuple has a key in the index and no two have one, both of the tuples that are seen and of
     /// the space's.
     pub fn holder(self, def: &IndexDef, key: &Bytes) -> Option<&'a [u8]>
-        ensures { (schema : Option described.Schema) (all : plain.Tuples) (written : Written) (primary : indexed.IndexDef) (wanted : Key) → Sees schema self.entry all written
+        ensures { (schema : Option described.Schema) (all : plain.Tuples) (written : OwnWrites) (primary : indexed.IndexDef) (wanted : Key) → Sees schema self.entry all written
             → index_with 0 self.entry.space.now.schema.indexes ≡ Some primary → index_with def.now.id.0 self.entry.space.now.schema.indexes ≡ Some def.now
             → HoldsOneEach def.now all → HoldsOneEach def.now (under written all) → AreFit wanted → key.now ≡ comparable_of wanted
             → option_copied result ≡ finite.get (tuples_by_index def.now (under written all)) wanted }
@@ -88,7 +88,7 @@ impl<'a> SpaceView<'a> {
         found: &mut Tuples,
     ) -> Result<Option<KeyRange>, SelectFault>
         requires array { IsArray wanted.now.key.now }
-        ensures { (schema : Option described.Schema) (all : plain.Tuples) (written : Written) (long : ℕ) → Sees schema self.entry all written → AreLong long all
+        ensures { (schema : Option described.Schema) (all : plain.Tuples) (written : OwnWrites) (long : ℕ) → Sees schema self.entry all written → AreLong long all
             → AreLong long (under written all) → index_with def.now.id.0 self.entry.space.now.schema.indexes ≡ Some def.now
             → HaveKeys def.now (under written all) → (def.now.unique ≡ true → AreUnique def.now (under written all))
             → SelectsByKey (finite.entries (tuples_by_index def.now (under written all))) def.now wanted.now found.new result }
@@ -108,7 +108,7 @@ fn shown_holder<'a>(
     def: &IndexDef,
     key: &Bytes,
 ) -> Option<&'a [u8]>
-    ensures { (schema : Option described.Schema) (all : plain.Tuples) (written : Written) (primary : indexed.IndexDef) (wanted : Key) → StoresIndexed schema space.now all
+    ensures { (schema : Option described.Schema) (all : plain.Tuples) (written : OwnWrites) (primary : indexed.IndexDef) (wanted : Key) → StoresIndexed schema space.now all
         → StoresWritten schema over.now written → index_with 0 space.now.schema.indexes ≡ Some primary → index_with def.now.id.0 space.now.schema.indexes ≡ Some def.now
         → HoldsOneEach def.now all → HoldsOneEach def.now (under written all) → def.now.id.0 ≢ 0 → AreFit wanted → key.now ≡ comparable_of wanted
         → finite.get (tuples_by_index def.now (under written finite.empty)) wanted ≡ None

@@ -21,7 +21,7 @@ ghost use Rattle.mx_schema.specs.Stored.{stored_tuple};
 ghost use Rattle.mx_space.specs.declared.pick.Source.TheVariants as source;
 ghost use Rattle.mx_space.specs.Built.{AreLong};
 ghost use Rattle.mx_space.specs.Kept.{StoresIndexed};
-ghost use Rattle.mx_space.specs.Overlays.{StoresWritten, Written, under};
+ghost use Rattle.mx_space.specs.Overlays.{StoresWritten, OwnWrites, under};
 ghost use Rattle.mx_space.specs.Scans.{SelectsByKey};
 ghost use Rattle.mx_space.specs.Selecting.{indexed_row, row_of};
 ghost use Rattle.mx_space.specs.ShownRows.{is_shown, merged, rows_left};
@@ -68,7 +68,7 @@ pub(crate) fn select_shown(
     found: &mut Tuples,
 ) -> Result<Option<KeyRange>, SelectFault>
     requires array { IsArray wanted.now.key.now }
-    ensures { (schema : Option described.Schema) (all : plain.Tuples) (written : Written) (long : ℕ) → StoresIndexed schema space.now all → StoresWritten schema over.now written
+    ensures { (schema : Option described.Schema) (all : plain.Tuples) (written : OwnWrites) (long : ℕ) → StoresIndexed schema space.now all → StoresWritten schema over.now written
         → AreLong long all → AreLong long (under written all) → index_with def.now.id.0 space.now.schema.indexes ≡ Some def.now
         → HaveKeys def.now (under written all) → (def.now.unique ≡ true → AreUnique def.now (under written all))
         → SelectsByKey (finite.entries (tuples_by_index def.now (under written all))) def.now wanted.now found.new result }
@@ -89,7 +89,7 @@ fn shown_rows<'a>(
     down: bool,
 ) -> Option<ShownRows<'a>>
     requires forward { IsForward (IsLeBy (slice_cmp nat_cmp)) (IsLtBy (slice_cmp nat_cmp)) (bound_of range.now.low) (bound_of range.now.high) }
-    ensures { (schema : Option described.Schema) (all : plain.Tuples) (written : Written) (long : ℕ) (iterator : kind.IterKind) (key : Key) → StoresIndexed schema space.now all
+    ensures { (schema : Option described.Schema) (all : plain.Tuples) (written : OwnWrites) (long : ℕ) (iterator : kind.IterKind) (key : Key) → StoresIndexed schema space.now all
         → StoresWritten schema over.now written → AreLong long all → AreLong long (under written all) → index_with def.now.id.0 space.now.schema.indexes ≡ Some def.now
         → HaveKeys def.now (under written all) → (def.now.unique ≡ true → AreUnique def.now (under written all))
         → AreFit key → length key ≤ length def.now.key → range.now ≡ edges_of (range_of iterator key)
@@ -121,7 +121,9 @@ fn first_rows<'a>(
         over,
         is_first: true,
         down,
-        stored: space.tuples().range((range.low_bound(), range.high_bound())),
+        stored: space
+            .tuples()
+            .range((range.low_bound(), range.high_bound())),
         own: own.tuples().range((range.low_bound(), range.high_bound())),
         held_stored: None,
         held_own: None,

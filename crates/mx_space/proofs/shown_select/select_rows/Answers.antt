@@ -4,8 +4,6 @@ use Rattle.std.proofs.lemmas.Result.{err_from_is_err_and}
 use Rattle.mx_schema.specs.Stored.{stored_tuple}
 use Rattle.mx_space.specs.Selecting.{IsCollected, found_in}
 use Rattle.mx_space.specs.ShownRows.{rows_left}
-use Rattle.mx_space.proofs.MergedLaws.{merged_in_range}
-use Rattle.mx_space.proofs.ShownLaws.{map_ordered}
 use Rattle.mx_space.proofs.StopLaws.{stopped_told}
 use Rattle.mx_space.proofs.shown_select.select_rows.Goals as goal
 

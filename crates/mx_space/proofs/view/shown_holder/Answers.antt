@@ -1,5 +1,4 @@
-use Rattle.std.proofs.Common.{◌≡◌, None, sym, ap, ◌∙◌}
-use Rattle.std.specs.FinMap as finite
+use Rattle.std.proofs.Common.{sym, ap, ◌∙◌}
 use Rattle.std.specs.Option.{option_copied}
 use Rattle.mx_space.specs.Overlays.{IsHolder}
 use Rattle.mx_space.proofs.ViewLaws.{hidden_holder, hides_written, none_seen, shown_holder}

@@ -1,9 +1,9 @@
-use Rattle.std.proofs.Common.{◌≡◌, List, false, ap, ◌∙◌}
+use Rattle.std.proofs.Common.{◌≡◌, false, ap, ◌∙◌}
 use Rattle.std.specs.BTreeMap.Range.{entries_between}
 use Rattle.std.specs.Cmp.Lexicographic.{slice_cmp}
 use Rattle.std.specs.List.{filter}
 use Rattle.std.specs.Ordering.{nat_cmp}
-use Rattle.mx_key.specs.Comparable.{bound_of, holds}
+use Rattle.mx_key.specs.Comparable.{holds}
 use Rattle.mx_schema.specs.Picks.{directed}
 use Rattle.mx_space.specs.Selecting.{indexed_row}
 use Rattle.mx_space.specs.ShownRows.{is_shown, merged}

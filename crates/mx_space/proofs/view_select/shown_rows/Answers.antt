@@ -1,4 +1,4 @@
-use Rattle.std.proofs.Common.{◌≡◌, map, ne_eqb, sym, ap, ◌∙◌, subst}
+use Rattle.std.proofs.Common.{map, ne_eqb, sym, ap, ◌∙◌}
 use Rattle.std.specs.FinMap as finite
 use Rattle.std.specs.List.{filter}
 use Rattle.std.specs.Option.{option_copied}

@@ -1,11 +1,11 @@
-use Rattle.std.proofs.Common.{◌≡◌, Bool, true, false, not, None, refl, sym, ap, ◌∙◌, subst, true≢false}
+use Rattle.std.proofs.Common.{◌≡◌, true, false, Some, sym, ap, ◌∙◌, subst}
 use Rattle.std.specs.BTreeSet.{contains}
 use Rattle.std.specs.Cmp.Lexicographic.{slice_cmp}
 use Rattle.std.specs.FinMap.{empty}
 use Rattle.std.specs.Ordering.{nat_cmp}
 use Rattle.mx_space.specs.declared.overlay.OverlaidSpace.{OverlaidSpace}
 use Rattle.mx_space.specs.Overlays.{under}
-use Rattle.mx_space.proofs.OverlayLaws.{IsSetTo, not_held, stores_again, stores_write}
+use Rattle.mx_space.proofs.OverlayLaws.{IsSetTo, not_held, own_index, stores_again, stores_removed}
 use Rattle.mx_space.proofs.overlay.OverlaidSpace.remove.Goals as goal
 
 pub returns-then-is_new-clause-err : goal.returns-then-is_new-clause-err
@@ -21,6 +21,7 @@ returns-then-is_new-clause-err c = λ schema written stores.
 
 pub returns-clause-ok : goal.returns-clause-ok
 returns-clause-ok c = λ schema written primary wanted stores there fit is.
+    let first = own_index schema c.args.self.now written 0 primary stores there in
     let after : OverlaidSpace = record { own = c.remove.new.self; removed = c.insert.new.self } in
-    stores_write schema c.args.self.now after written wanted c.in_ok-copy.copy None stores fit (c.in_ok-copy.ensures ∙ c.as_slice.ensures ∙ is)
-    (c.in_default.ensures.ok schema (under written empty) primary wanted stores.own there fit is) c.in_ok-is_new.ensures.updates.0
+    stores_removed (Some schema) c.args.self.now after written wanted stores c.in_ok-copy.copy fit (c.in_ok-copy.ensures ∙ c.as_slice.ensures ∙ is)
+    (c.in_default.ensures.ok (Some schema) (under written empty) primary wanted stores.own first fit is) c.in_ok-is_new.ensures.updates.0

@@ -1,4 +1,4 @@
-use Rattle.std.proofs.Common.{Option, Some, sym, ap, ◌∙◌, subst}
+use Rattle.std.proofs.Common.{sym, ap, ◌∙◌, subst}
 use Rattle.std.specs.FinMap as finite
 use Rattle.std.specs.Option.{option_copied}
 use Rattle.mx_schema.specs.Stored.{StoresTuples}
