@@ -1,6 +1,6 @@
 //! Indexes, as their rows describe them.
 
-ghost use Rattle.std.specs.Prelude.{◌≡◌, [], OnErr, OnOk};
+ghost use Rattle.std.specs.Prelude.{◌≡◌, [], IfOk, OnErr, OnOk};
 ghost use Rattle.std.specs.Option.{option_copied};
 ghost use Rattle.mx_schema.specs.Catalogues.{index_with};
 ghost use Rattle.mx_schema.specs.RowParts.{index_place};
@@ -30,6 +30,20 @@ pub struct IndexDef {
     pub kind: IndexKind,
     pub unique: bool,
     pub key: KeyDef,
+}
+
+impl IndexDef {
+    fn copy(&self, alloc: Global) -> Result<IndexDef, AllocError>
+        ensures { IfOk result (λ copy. copy ≡ self.now) }
+    {
+        Ok(IndexDef {
+            id: self.id,
+            name: Name::from_slice(alloc, self.name.as_slice())?,
+            kind: self.kind,
+            unique: self.unique,
+            key: KeyDef::from_vec(self.key.as_slice().to_vec(alloc)?),
+        })
+    }
 }
 
 /// An index, and its space.
@@ -103,6 +117,14 @@ impl IndexDefs {
         self.items.retain(|def| def.id.0 != id.0);
     }
 
+    pub(crate) fn copy(&self, alloc: Global) -> Result<IndexDefs, AllocError>
+        ensures { IfOk result (λ copy. copy ≡ self.now) }
+    {
+        Ok(IndexDefs {
+            items: copies_of(alloc, self.items.as_slice())?,
+        })
+    }
+
     pub(crate) fn has_name(&self, name: &Name) -> bool
         ensures { result ≡ has_name name.now self.now }
     {
@@ -113,6 +135,16 @@ impl IndexDefs {
         }
         false
     }
+}
+
+fn copies_of(alloc: Global, defs: &[IndexDef]) -> Result<Vec<IndexDef>, AllocError>
+    ensures { IfOk result (λ copies. copies.items ≡ defs.now) }
+{
+    let mut copies = Vec::with_capacity(alloc, defs.len())?;
+    for def in defs {
+        copies.push_reserved(def.copy(alloc)?);
+    }
+    Ok(copies)
 }
 
 /// The place behind the indexes whose numbers aren't greater.

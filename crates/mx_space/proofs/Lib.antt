@@ -4,6 +4,7 @@ pub mod BytesLaws
 pub mod ChangeLaws
 pub mod ComingLaws
 pub mod ContentLaws
+pub mod CopyLaws
 pub mod EntriesLaws
 pub mod FirstLaws
 pub mod HeldLaws

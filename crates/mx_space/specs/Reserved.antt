@@ -43,6 +43,10 @@ Content = Schema × List StoredTuple × List (List IndexEntry)
 abbrev pub content_of : Space → Content
 content_of space = (space.schema, space.tuples.entries, space.indexes.items)
 
+-- of a space with its number
+abbrev pub entry_content : SpaceEntry → ℕ × Content
+entry_content entry = (entry.id.0, content_of entry.space)
+
 -- of the space of a number
 abbrev pub content_under : (id : ℕ) → List SpaceEntry → Option Content
 content_under id entries = option_map content_of (space_under id entries)

@@ -4,6 +4,7 @@
 mod build;
 mod change;
 mod changes;
+mod copy;
 mod entries;
 mod index;
 mod overlay;

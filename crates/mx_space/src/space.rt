@@ -27,6 +27,7 @@ ghost use Rattle.mx_space.specs.Scans.{SelectsByKey};
 use crate::build::{BuildFault, new_entries};
 use crate::change::{Change, put_all, remove_all};
 use crate::changes::{changes_of, edits_of, removals_of};
+use crate::copy::{copy_of_entries, copy_of_indexes};
 use crate::entries::is_joined;
 use crate::index::Index;
 use crate::pick::{Pick, SelectFault};
@@ -69,6 +70,17 @@ impl Space {
             schema,
             tuples: BTreeMap::new(alloc),
             indexes,
+        })
+    }
+
+    /// A copy of the space, with its tuples and the entries of each index.
+    pub fn copy(&self, alloc: Global) -> Result<Space, AllocError>
+        ensures { IfOk result (λ copy. content_of copy ≡ content_of self.now) }
+    {
+        Ok(Space {
+            schema: self.schema.copy(alloc)?,
+            tuples: copy_of_entries(alloc, &self.tuples)?,
+            indexes: copy_of_indexes(alloc, self.indexes.as_slice())?,
         })
     }
 

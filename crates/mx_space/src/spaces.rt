@@ -1,6 +1,6 @@
 //! The spaces of a database in the order of their numbers.
 
-ghost use Rattle.std.specs.Prelude.{◌≡◌, ◌≢◌, ◌⊎◌, ℕ, [], Option, Some, None, Ok, IfOk, MatchResult, OnOk, OnErr};
+ghost use Rattle.std.specs.Prelude.{◌≡◌, ◌≢◌, ◌⊎◌, ℕ, [], map, Option, Some, None, Ok, IfOk, MatchResult, OnOk, OnErr};
 ghost use Rattle.std.specs.FinMap as finite;
 ghost use Rattle.std.specs.Option.{option_copied};
 ghost use Rattle.mx_key.specs.Comparable.{comparable_of};
@@ -14,7 +14,7 @@ ghost use Rattle.mx_schema.specs.Stored.{StoresTuples};
 ghost use Rattle.mx_schema.specs.State.{key_in, tuples_in, with_tuple, without_tuple};
 ghost use Rattle.mx_space.specs.declared.build.BuildFault.TheVariants.{NoMemory};
 ghost use Rattle.mx_space.specs.Builds.{build_fault};
-ghost use Rattle.mx_space.specs.Reserved.{Content, EditsAll, changed_at, content_under, content_installed, content_readied, content_released};
+ghost use Rattle.mx_space.specs.Reserved.{Content, EditsAll, changed_at, content_under, entry_content, content_installed, content_readied, content_released};
 ghost use Rattle.mx_space.specs.Spaces.{IsAscending, IsAscending-prop, IsGapOf, IsPlaceOf, RemovesSpace, SetsSpace, space_under};
 
 use crate::build::BuildFault;
@@ -31,6 +31,17 @@ use std::alloc::{AllocError, Global};
 pub struct SpaceEntry {
     pub id: SpaceId,
     pub space: Space,
+}
+
+impl SpaceEntry {
+    fn copy(&self, alloc: Global) -> Result<SpaceEntry, AllocError>
+        ensures { IfOk result (λ copy. entry_content copy ≡ entry_content self.now) }
+    {
+        Ok(SpaceEntry {
+            id: self.id,
+            space: self.space.copy(alloc)?,
+        })
+    }
 }
 
 /// Spaces by ascending numbers.
@@ -50,6 +61,15 @@ impl Spaces {
         Spaces {
             entries: Vec::new(alloc),
         }
+    }
+
+    /// As `State::copy`.
+    pub(crate) fn copy(&self, alloc: Global) -> Result<Spaces, AllocError>
+        ensures { IfOk result (λ copy. (q : ℕ) → content_under q copy.entries.items ≡ content_under q self.now.entries.items) }
+    {
+        Ok(Spaces {
+            entries: copies_of(alloc, self.entries.as_slice())?,
+        })
     }
 
     /// The space of a number; `None` where there is none.
@@ -199,6 +219,16 @@ impl Spaces {
     {
         self.entries
     }
+}
+
+fn copies_of(alloc: Global, entries: &[SpaceEntry]) -> Result<Vec<SpaceEntry>, AllocError>
+    ensures { IfOk result (λ copies. map entry_content copies.items ≡ map entry_content entries.now) }
+{
+    let mut copies = Vec::with_capacity(alloc, entries.len())?;
+    for entry in entries {
+        copies.push_reserved(entry.copy(alloc)?);
+    }
+    Ok(copies)
 }
 
 /// The place of the space of a number, or where it would stand. The search ends where it meets the number,

@@ -56,6 +56,18 @@ impl State {
         Ok(State { spaces })
     }
 
+    /// A copy of the state, with the entries of each index.
+    ///
+    /// # Errors
+    /// Out of memory.
+    pub fn copy(&self, alloc: Global) -> Result<State, AllocError>
+        ensures { (schemas : ℕ → Option described.Schema) (state : plain.State) → HoldsBy schemas self.now state → IfOk result (λ copy. HoldsBy schemas copy state) }
+    {
+        Ok(State {
+            spaces: self.spaces.copy(alloc)?,
+        })
+    }
+
     /// The space of this number; `None` where there is none.
     pub fn space(&self, id: SpaceId) -> Option<&Space>
         ensures { option_copied result ≡ space_under id.0 self.now.spaces.entries.items }

@@ -1,7 +1,8 @@
 //! An index in the order of its keys.
 
-ghost use Rattle.std.specs.Prelude.{◌≡◌, []};
+ghost use Rattle.std.specs.Prelude.{◌≡◌, [], IfOk};
 
+use crate::copy::copy_of_entries;
 use crate::index::Index;
 use mx_msgpack::Bytes;
 use std::alloc::{AllocError, Global};
@@ -33,6 +34,14 @@ impl TreeIndex {
         TreeIndex {
             entries: BTreeMap::new(alloc),
         }
+    }
+
+    pub(crate) fn copy(&self, alloc: Global) -> Result<TreeIndex, AllocError>
+        ensures { IfOk result (λ copy. copy ≡ self.now) }
+    {
+        Ok(TreeIndex {
+            entries: copy_of_entries(alloc, &self.entries)?,
+        })
     }
 }
 
