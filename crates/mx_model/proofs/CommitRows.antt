@@ -69,7 +69,9 @@ module _ (streams : Streams) (name : TxnName) (transaction : Transaction) (alone
       by_overlap : (overlap : Option ℕ) → standing_by ids base journal false transaction.steps overlap ≡ View place
           → (run_alone ids (state_after_first base journal (place_by (length journal) overlap)) (statements_in transaction.steps)).rows ≡ []
       by_overlap None is = absurd cc
-      by_overlap (Some number) is = no_rows _ (by_doom (has_row ids base journal (pred number) transaction.steps) (has_written_since number transaction.steps) (has_schema_commit_since number journal) (pred number) place is)
+      by_overlap (Some number) is =
+          no_rows _
+          (by_doom (has_row ids base journal (pred number) transaction.steps) (has_written_since number transaction.steps) (has_schema_commit_since number journal) (pred number) place is)
 
   active_newest : standing ids base journal false transaction ≡ Active → place_read base journal transaction ≡ length journal
   active_newest = by_overlap (overlap_of base journal transaction)

@@ -16,8 +16,8 @@ use Rattle.mx_key.specs.declared.iterator.IterKind.{IterKind}
 use Rattle.mx_model.specs.Answers.{answer_in_space}
 use Rattle.mx_model.specs.Histories.{is_out_of_memory, writable_node}
 use Rattle.mx_model.specs.Overlaps.{Active, Doomed, Standing, Transaction, View, standing, statements_in}
-use Rattle.mx_model.specs.RunAlone.{Run, answer_in_run, has_room, run_alone, statement_answer, within_limits, writes}
-use Rattle.mx_model.specs.Streams.{Ends, Outcome, Streams, commits, commits_rows, commits_standing, ends_told, outcome_of, state_read, states, states_standing, tells_statement, told_alone, transaction_named}
+use Rattle.mx_model.specs.RunAlone.{Run, answer_in_run, has_room, run_alone, statement_answer, within_limits, writes, answer_alone}
+use Rattle.mx_model.specs.Streams.{Ends, Outcome, Streams, commits, commits_rows, commits_standing, ends_told, outcome_of, state_read, states, states_standing, tells_statement, told_alone, transaction_named, Goes, step_of}
 use Rattle.mx_model.specs.declared.ids.Ids.{Ids}
 use Rattle.mx_model.specs.declared.reply.Reply.{Reply}
 use Rattle.mx_model.specs.declared.reply.Reply.TheVariants.{Empty, Refused}
@@ -168,28 +168,40 @@ module _ (streams : Streams) (name : TxnName) (transaction : Transaction) (named
   statement_by statement answer (View place) other = (λ told. absurd (tells_no_conflict _ other told), λ doomed. absurd cc)
   statement_by statement answer Doomed other = (λ told. refl, λ doomed. refl)
 
-  pub statement_told : (asked : Request) (statement : Statement) → statement_of asked ≡ Some statement
-      → (writes statement.operation && describes_schema statement.space) ≡ false
-      → ((outcome_of streams name asked).reply ≡ Refused Conflict) ↔ (stands (writes statement.operation) ≡ Doomed)
-  statement_told asked statement is plain =
-      subst (λ (outcome : Outcome). (outcome.reply ≡ Refused Conflict) ↔ (stands (writes statement.operation) ≡ Doomed)) (sym outcome_is)
-      (statement_by statement answer (stands (writes statement.operation)) (further_other streams.base.ids run statement))
-    where
-      run : Run
-      run = run_alone streams.base.ids (state_read streams transaction) (statements_in transaction.steps)
+  kept_by : (statement : Statement) (answer : Answer) (how : Standing)
+      → (states_standing streams statement answer how).becomes ≡ Goes (step_of streams statement answer (states_standing streams statement answer how).reply)
+  kept_by statement answer Active = refl
+  kept_by statement answer (View place) = refl
+  kept_by statement answer Doomed = refl
 
-      answer : Answer
-      answer = answer_in_run streams.base.ids run statement
+  module _ (asked : Request) (statement : Statement) (is : statement_of asked ≡ Some statement) (plain : (writes statement.operation && describes_schema statement.space) ≡ false) where
+    abbrev run : Run
+    run = run_alone streams.base.ids (state_read streams transaction) (statements_in transaction.steps)
 
-      is_told : (asked : Request) → statement_of asked ≡ Some statement → outcome_of streams name asked ≡ tells_statement streams name asked (statement_of asked)
-      is_told request.Begin is = absurd cc
-      is_told request.Commit is = absurd cc
-      is_told request.Rollback is = absurd cc
-      is_told other is = refl
+    abbrev answer : Answer
+    answer = answer_in_run streams.base.ids run statement
 
-      outcome_is : outcome_of streams name asked ≡ states_standing streams statement answer (stands (writes statement.operation))
-      outcome_is =
-          is_told asked is
-          ∙ ap (tells_statement streams name asked) is
-          ∙ ap (λ present. states streams present statement) named
-          ∙ ap (λ (b : Bool). if b then told_alone (Refused (Unsupported SchemaInTransaction)) else states_standing streams statement answer (stands (writes statement.operation))) plain
+    told_as : (one : Request) → statement_of one ≡ Some statement → outcome_of streams name one ≡ tells_statement streams name one (statement_of one)
+    told_as request.Begin is = absurd cc
+    told_as request.Commit is = absurd cc
+    told_as request.Rollback is = absurd cc
+    told_as other is = refl
+
+    outcome_is : outcome_of streams name asked ≡ states_standing streams statement answer (stands (writes statement.operation))
+    outcome_is =
+        told_as asked is
+        ∙ ap (tells_statement streams name asked) is
+        ∙ ap (λ present. states streams present statement) named
+        ∙ ap (λ (b : Bool). if b then told_alone (Refused (Unsupported SchemaInTransaction)) else states_standing streams statement answer (stands (writes statement.operation))) plain
+
+    pub statement_told : ((outcome_of streams name asked).reply ≡ Refused Conflict) ↔ (stands (writes statement.operation) ≡ Doomed)
+    statement_told =
+        subst (λ (outcome : Outcome). (outcome.reply ≡ Refused Conflict) ↔ (stands (writes statement.operation) ≡ Doomed)) (sym outcome_is)
+        (statement_by statement answer (stands (writes statement.operation)) (further_other streams.base.ids run statement))
+
+    -- the transaction keeps it with what it was told
+    pub statement_kept : (outcome_of streams name asked).becomes
+        ≡ Goes (step_of streams statement (answer_alone streams.base.ids (state_read streams transaction) statement (statements_in transaction.steps)) (outcome_of streams name asked).reply)
+    statement_kept =
+        subst (λ (outcome : Outcome). outcome.becomes ≡ Goes (step_of streams statement answer outcome.reply)) (sym outcome_is)
+        (kept_by statement answer (stands (writes statement.operation)))

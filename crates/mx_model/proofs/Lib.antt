@@ -69,3 +69,6 @@ mod StreamEnds
 mod StreamSteps
 mod StreamLaws
 mod DemandedReplies
+mod StreamNames
+mod StreamBegins
+mod StreamCounts

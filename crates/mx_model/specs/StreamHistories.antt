@@ -1,6 +1,6 @@
 -- Histories of streams: requests and disconnects where transactions may be open, which of these histories are legal, and that each transaction that ended ran alone.
-use Rattle.std.specs.Prelude.{◌≡◌, ◌≢◌, ◌⊎◌, ⊤, ℕ, pred, ◌<◌, ◌≤◌, Bool, true, false, ◌&&◌, List, [], ◌∷◌, ◌++◌, length, map, Option, Some, slice_get, if◌then◌else◌}
-use Rattle.std.specs.List.{AllZip, Contains}
+use Rattle.std.specs.Prelude.{◌≡◌, ◌≢◌, ◌⊎◌, ⊤, ℕ, pred, ◌+◌, ◌<◌, ◌≤◌, Bool, true, false, ◌&&◌, List, [], ◌∷◌, ◌++◌, length, map, Option, Some, slice_get, if◌then◌else◌}
+use Rattle.std.specs.List.{AllByRecursion, AllZip, Contains}
 use Rattle.std.specs.Option.{option_to_list}
 use Rattle.mx_base.specs.declared.ids.TxnName.{TxnName}
 use Rattle.mx_base.specs.declared.refusal.Refusal.TheVariants.{Conflict}
@@ -15,7 +15,7 @@ use Rattle.mx_model.specs.Alone.{IsToldAlone}
 use Rattle.mx_model.specs.Histories.{Base, CanBeAsked, is_out_of_memory}
 use Rattle.mx_model.specs.Overlaps.{TransactionStep, Transaction, place_read, reads_before, state_after_first, statements_in}
 use Rattle.mx_model.specs.RunAlone.{Run, run_alone}
-use Rattle.mx_model.specs.Streams.{Becomes, Ends, IsTold, Outcome, Streams, may_lack_memory, of_connection, outcome_of, streams_after, streams_left, transaction_named}
+use Rattle.mx_model.specs.Streams.{Becomes, Ends, IsTold, Outcome, Streams, is_name, may_lack_memory, of_connection, outcome_of, streams_after, streams_left, transaction_named}
 use Rattle.mx_model.specs.Touches.{rows_meet}
 use Rattle.mx_model.specs.statements.Answer.{Answer}
 
@@ -96,6 +96,21 @@ ended_by streams (Disconnected connection) = map (ends_now streams false Empty [
 abbrev pub ended_in : Base → StreamHistory → List Ended
 ended_in base [] = []
 ended_in base (entry ∷ earlier) = ended_by (streams_of base earlier) entry ++ ended_in base earlier
+
+-- how many transactions an entry began: one where BEGIN was told that it did
+abbrev pub begun_by : StreamEntry → ℕ
+begun_by (Requested name request.Begin Empty) = 1
+begun_by other = 0
+
+-- how many were begun in a history
+abbrev pub begun_in : StreamHistory → ℕ
+begun_in [] = 0
+begun_in (entry ∷ earlier) = begun_by entry + begun_in earlier
+
+-- no two of these transactions have one name
+abbrev pub HaveOwnNames : List Transaction → Type 0
+HaveOwnNames [] = ⊤
+HaveOwnNames (one ∷ others) = AllByRecursion (λ (other : Transaction). is_name other.name one.name ≡ false) others × HaveOwnNames others
 
 -- ---- as if alone
 

@@ -1,7 +1,7 @@
 //! Theorems on transactions that are open beside others. Each is a function that does nothing when it is
 //! called.
 
-ghost use Rattle.std.specs.Prelude.{◌≡◌, ◌≢◌, ◌⊎◌, ◌↔◌, ◌&&◌, ℕ, ◌<◌, ◌≤◌, ◌++◌, suc, pred, Bool, true, false, List, [], ◌∷◌, length, map, Some, slice_get};
+ghost use Rattle.std.specs.Prelude.{◌≡◌, ◌≢◌, ◌⊎◌, ◌↔◌, ◌&&◌, ℕ, ◌+◌, ◌<◌, ◌≤◌, ◌++◌, suc, pred, Bool, true, false, List, [], ◌∷◌, length, map, Some, slice_get};
 ghost use Rattle.std.specs.List.{AllByRecursion};
 ghost use Rattle.mx_base.specs.declared.ids.TxnName.{TxnName};
 ghost use Rattle.mx_base.specs.declared.refusal.Refusal.TheVariants.{Conflict};
@@ -19,8 +19,9 @@ ghost use Rattle.mx_model.specs.Answers.{state_after_rows};
 ghost use Rattle.mx_model.specs.Frame.{IsDataStatement};
 ghost use Rattle.mx_model.specs.Histories.{CanBeAsked, Base, is_out_of_memory};
 ghost use Rattle.mx_model.specs.Overlaps.{Active, Doomed, IsWithin, TransactionStep, Transaction, View, has_row, is_some_row, place_read, reads_before, standing, standing_after_commit, standing_after_step, state_after_first, statements_in};
-ghost use Rattle.mx_model.specs.RunAlone.{run_alone, writes};
-ghost use Rattle.mx_model.specs.Streams.{Streams, commit_with, outcome_of, streams_after, streams_left, transaction_named, transaction_with, transaction_with_all};
+ghost use Rattle.mx_model.specs.RunAlone.{run_alone, writes, answer_alone};
+ghost use Rattle.mx_model.specs.Streams.{Streams, commit_with, outcome_of, streams_after, streams_left, transaction_named, transaction_with, transaction_with_all, Goes, state_read, step_of};
+ghost use Rattle.mx_model.specs.StreamHistories.{HaveOwnNames, IsLegalStreams, RanAlone, StreamHistory, begun_in, ended_in, streams_of};
 ghost use Rattle.mx_model.specs.Touches.{rows_meet};
 ghost use Rattle.mx_model.specs.Transactions.{is_schema_commit, state_after};
 ghost use Rattle.mx_model.specs.statements.Answer.{Answer};
@@ -125,6 +126,15 @@ pub fn conflict_is_told_where_a_transaction_is_doomed()
         → ((outcome_of streams name asked).reply ≡ Refused Conflict) ↔ (standing streams.base.ids streams.base.state streams.journal (writes statement.operation) transaction ≡ Doomed) }
 {}
 
+/// A statement of an open transaction goes on with it, together with what it was told and what it reads alone;
+/// but for writes of the rows that describe spaces and indexes, which are refused there.
+pub fn a_statement_is_kept_as_it_was_told()
+    ensures { (streams : Streams) (name : TxnName) (transaction : Transaction) → transaction_named name streams.transactions ≡ Some transaction
+        → (asked : Request) (statement : Statement) → statement_of asked ≡ Some statement → (writes statement.operation && describes_schema statement.space) ≡ false
+        → (outcome_of streams name asked).becomes
+        ≡ Goes (step_of streams statement (answer_alone streams.base.ids (state_read streams transaction) statement (statements_in transaction.steps)) (outcome_of streams name asked).reply) }
+{}
+
 /// Where COMMIT commits rows, the transaction isn't overlapped: it was answered as if it ran alone on the
 /// newest state, and the rows are those that it leaves there.
 pub fn committed_rows_are_those_of_running_alone()
@@ -145,6 +155,14 @@ pub fn every_transaction_ran_alone()
     ensures ended { (base : Base) (history : StreamHistory) → IsLegalStreams base history
         → AllByRecursion (RanAlone base (streams_of base history).journal) (ended_in base history) }
     ensures still_there { (base : Base) (history : StreamHistory) → IsLegalStreams base history → AllStandAlone (streams_of base history) }
+{}
+
+/// None is lost: as many transactions have ended or are open as were begun, and no two that are open have one
+/// name.
+pub fn every_transaction_ended_or_is_open()
+    ensures counts { (base : Base) (history : StreamHistory) → IsLegalStreams base history
+        → begun_in history ≡ length (ended_in base history) + length (streams_of base history).transactions }
+    ensures names { (base : Base) (history : StreamHistory) → IsLegalStreams base history → HaveOwnNames (streams_of base history).transactions }
 {}
 
 /// No reply that is demanded is out of memory: a request is told so only where an allocation failed, and it
