@@ -100,7 +100,10 @@ const NODES: &[(&[u8], u16)] = &[
     // The node that may be written, an id that is too great, and a third field.
     (b"\x92\x01\xd9\x2401234567-89ab-4def-8123-456789abcdef", 5),
     (b"\x92\x20\xd9\x2401234567-89ab-4def-8123-456789abcdef", 5),
-    (b"\x93\x02\xd9\x2401234567-89ab-4def-8123-456789abcdef\xc0", 5),
+    (
+        b"\x93\x02\xd9\x2401234567-89ab-4def-8123-456789abcdef\xc0",
+        5,
+    ),
     // Upper case, and no UUID.
     (b"\x92\x02\xd9\x2401234567-89AB-4DEF-8123-456789ABCDEF", 5),
     (b"\x92\x02\xa1x", 5),

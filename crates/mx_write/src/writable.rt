@@ -111,11 +111,7 @@ fn names_by_tuple(kind: u8) -> bool
 ///
 /// # Errors
 /// It should be the row of a node of the replica set, and isn't.
-pub(crate) fn tuple_in_space(
-    writer: Writer,
-    space: SpaceId,
-    tuple: Bytes,
-) -> Result<Bytes, Refusal>
+pub(crate) fn tuple_in_space(writer: Writer, space: SpaceId, tuple: Bytes) -> Result<Bytes, Refusal>
     ensures { result ≡ spec.tuple_in_space writer space.0 (Ok tuple) }
 {
     match writer {
