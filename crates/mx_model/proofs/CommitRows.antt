@@ -8,7 +8,7 @@ use Rattle.mx_model.specs.Alone.{StandsAlone}
 use Rattle.mx_model.specs.Histories.{writable_node}
 use Rattle.mx_model.specs.Overlaps.{Active, Doomed, Standing, TransactionStep, Transaction, View, doomed_or_view, has_row, has_schema_commit_since, has_written_since, is_some_row, overlap_of, place_by, place_read, standing, standing_by, state_after_first, statements_in}
 use Rattle.mx_model.specs.RunAlone.{run_alone}
-use Rattle.mx_model.specs.Streams.{Ends, Streams, commits, commits_rows, commits_standing, ends_told, outcome_of, state_read, told_alone, transaction_named}
+use Rattle.mx_model.specs.Streams.{Ends, Streams, commits, commits_rows, commits_standing, ends_told, outcome_of, state_read, told_alone, transaction_named, Outcome}
 use Rattle.mx_model.specs.Transactions.{state_after}
 use Rattle.mx_model.specs.declared.ids.Ids.{Ids}
 use Rattle.mx_model.specs.declared.reply.Reply.TheVariants.{Empty, Refused}
@@ -53,6 +53,27 @@ module _ (streams : Streams) (name : TxnName) (transaction : Transaction) (alone
       by_tests true above is = absurd cc
       by_tests false true is = absurd cc
       by_tests false false is = sym is
+
+  -- and so they are where COMMIT is acknowledged
+  rows_told : (rows : List Row) → (commits_rows streams rows).reply ≡ Empty → (commits_rows streams rows).rows ≡ rows
+  rows_told [] told = refl
+  rows_told (first ∷ rest) told = by_tests (not (ids.me == writable_node)) (nat_lt max_lsn _) told
+    where
+      by_outcome : (refuses above : Bool) → Outcome
+      by_outcome refuses above =
+          if refuses then ends_told (Refused (ReadOnly (record { 0 = writable_node }))) else if above then ends_told (Refused LsnsUsedUp)
+          else record { reply = Empty; rows = first ∷ rest; becomes = Ends }
+
+      by_tests : (refuses above : Bool) → (by_outcome refuses above).reply ≡ Empty → (by_outcome refuses above).rows ≡ first ∷ rest
+      by_tests true above told = absurd cc
+      by_tests false true told = absurd cc
+      by_tests false false told = refl
+
+  pub acknowledged_by : (how : Standing) → (commits_standing streams transaction how).reply ≡ Empty
+      → (commits_standing streams transaction how).rows ≡ (run_alone ids (state_read streams transaction) (statements_in transaction.steps)).rows
+  acknowledged_by Active told = rows_told _ told
+  acknowledged_by (View place) told = rows_told _ told
+  acknowledged_by Doomed told = absurd cc
 
   -- a view has no row
   by_doom : (has_row has_written has_schema : Bool) (at place : ℕ) → doomed_or_view (has_row || has_written || false || has_schema) at ≡ View place → has_row ≡ false

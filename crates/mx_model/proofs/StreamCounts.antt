@@ -6,7 +6,7 @@ use Rattle.std.specs.Prelude.{if◌then◌else◌, ◌==◌, ◌&&◌}
 use Rattle.mx_base.specs.declared.ids.TxnName.{TxnName}
 use Rattle.mx_model.specs.Histories.{Base, is_out_of_memory}
 use Rattle.mx_model.specs.Overlaps.{Transaction}
-use Rattle.mx_model.specs.StreamHistories.{Disconnected, Ended, FollowsStreams, HaveOwnNames, IsLegalStreams, Requested, StreamEntry, StreamHistory, begun_by, begun_in, ended_as, ended_by, ended_in, ended_where, ends_now, is_commit, lacked_memory, streams_of, streams_with}
+use Rattle.mx_model.specs.StreamHistories.{Disconnected, EndedTransaction, FollowsStreams, HaveOwnNames, IsLegalStreams, Requested, StreamEntry, StreamHistory, begun_by, begun_in, ended_as, ended_by, ended_in, ended_where, ends_now, is_commit, lacked_memory, streams_of, streams_with}
 use Rattle.mx_model.specs.Streams.{Becomes, Ends, Goes, IsTold, Opens, Outcome, Stays, Streams, is_name, of_connection, of_others, open_after, outcome_of, streams_after, transaction_named, with_step, without_named}
 use Rattle.mx_model.specs.declared.reply.Reply.{Reply}
 use Rattle.mx_model.specs.declared.reply.Reply.TheVariants.{Empty}
@@ -49,7 +49,7 @@ module _ (streams : Streams) (own : HaveOwnNames streams.transactions) where
   -- ---- an entry
 
   -- after it too all have names of their own, and none was lost
-  abbrev IsCounted : StreamEntry → Streams → List Ended → Type 0
+  abbrev IsCounted : StreamEntry → Streams → List EndedTransaction → Type 0
   IsCounted entry after ended = HaveOwnNames after.transactions × (length ended + length after.transactions ≡ begun_by entry + length all)
 
   -- what was told out of memory began none

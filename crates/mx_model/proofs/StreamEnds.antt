@@ -8,10 +8,10 @@ use Rattle.mx_base.specs.declared.refusal.Refusal.TheVariants.{Conflict}
 use Rattle.mx_model.specs.Alone.{StandsAlone, answers_alone}
 use Rattle.mx_model.specs.Overlaps.{Active, Doomed, Standing, TransactionStep, Transaction, View, overlap_of, place_by, place_read, standing, state_after_first, statements_in}
 use Rattle.mx_model.specs.RunAlone.{run_alone}
-use Rattle.mx_model.specs.StreamHistories.{HasCommitted, HasOverlap, RanAlone, ends_now}
-use Rattle.mx_model.specs.Streams.{Outcome, Streams, commit_with}
+use Rattle.mx_model.specs.StreamHistories.{HasCommitted, HasOverlap, RanAlone, WasAnsweredAlone, ends_now}
+use Rattle.mx_model.specs.Streams.{Outcome, Streams, commit_with, state_read}
 use Rattle.mx_model.specs.Transactions.{state_after}
-use Rattle.mx_model.specs.declared.reply.Reply.TheVariants.{Refused}
+use Rattle.mx_model.specs.declared.reply.Reply.TheVariants.{Empty, Refused}
 use Rattle.mx_model.specs.statements.Answer.{Answer}
 use Rattle.mx_row.specs.Clocks.{clock_after}
 use Rattle.mx_row.specs.declared.row.Row.{Row}
@@ -21,12 +21,13 @@ use Rattle.mx_model.proofs.CommitRows.{CommitsAlone}
 use Rattle.mx_model.proofs.ConflictAnswers.{TellsOther, run_other, tells_no_conflict}
 use Rattle.mx_model.proofs.EachLaws.{each_of_map}
 use Rattle.mx_model.proofs.OverlapFound.{doomed_overlap, get_behind, overlap_found}
-use Rattle.mx_model.proofs.StreamPlaces.{ran_stays}
+use Rattle.mx_model.proofs.StreamPlaces.{answered_stays, ran_stays, rows_stay}
 
 -- a transaction that an outcome ends: a conflict is told where it is doomed, and rows are committed as those of running alone
 pub record IsEnding (streams : Streams) (transaction : Transaction) (by_commit : Bool) (outcome : Outcome) : Type 0 where
   pub doomed : outcome.reply ≡ Refused Conflict → standing streams.base.ids streams.base.state streams.journal false transaction ≡ Doomed
   pub still : by_commit ≡ true → outcome.reply ≢ Refused Conflict → standing streams.base.ids streams.base.state streams.journal false transaction ≢ Doomed
+  pub acknowledged : by_commit ≡ true → outcome.reply ≡ Empty → outcome.rows ≡ (run_alone streams.base.ids (state_read streams transaction) (statements_in transaction.steps)).rows
   pub commits : (row : Row) (others : List Row) → outcome.rows ≡ row ∷ others
       → CommitsAlone streams.base.ids streams.base.state streams.journal transaction (row ∷ others)
 
@@ -84,21 +85,28 @@ module _ (streams : Streams) (transaction : Transaction) (alone : StandsAlone st
       let found = doomed_overlap streams.base.ids base journal false transaction doomed in
       (found.0, found.1.commit, found.1.after, found.1.within, found.1.there, found.1.met)
 
-  -- without rows
-  pub ended_alone : (by_commit : Bool) (outcome : Outcome) → IsEnding streams transaction by_commit outcome
-      → RanAlone streams.base journal (ends_now streams by_commit outcome.reply [] transaction)
-  ended_alone by_commit outcome ending = record {
+  answered_alone : (by_commit : Bool) (outcome : Outcome) (rows : List Row) → IsEnding streams transaction by_commit outcome
+      → WasAnsweredAlone streams.base journal (ends_now streams by_commit outcome.reply rows transaction)
+  answered_alone by_commit outcome rows ending = record {
     since = place_between.0;
     within = place_between.1;
     told = alone.told;
     exact = λ commit still. alone.exact (ending.still commit still);
     conflict = λ told. overlap_there (by_told told);
-    committed = tt;
   }
     where
       by_told : (outcome.reply ≡ Refused Conflict) ⊎ Contains (map (λ (step : TransactionStep). step.reply) transaction.steps) (Refused Conflict) → how ≡ Doomed
       by_told (inl told) = ending.doomed told
       by_told (inr told) = step_doomed told
+
+  -- without rows
+  pub ended_alone : (by_commit : Bool) (outcome : Outcome) → outcome.rows ≡ [] → IsEnding streams transaction by_commit outcome
+      → RanAlone streams.base journal (ends_now streams by_commit outcome.reply [] transaction)
+  ended_alone by_commit outcome none ending = record {
+    answered = answered_alone by_commit outcome [] ending;
+    acknowledged = λ commit told. sym none ∙ ending.acknowledged commit told;
+    committed = tt;
+  }
 
   -- with rows: its commit is the newest
   committed_alone : (by_commit : Bool) (outcome : Outcome) (row : Row) (others : List Row) → CommitsAlone streams.base.ids base journal transaction (row ∷ others)
@@ -124,14 +132,11 @@ module _ (streams : Streams) (transaction : Transaction) (alone : StandsAlone st
   ending_alone by_commit outcome ending = by_rows outcome.rows refl
     where
       by_rows : (rows : List Row) → outcome.rows ≡ rows → RanAlone streams.base (journal ++ commit_with streams rows) (ends_now streams by_commit outcome.reply rows transaction)
-      by_rows [] is = ran_stays streams.base journal [] _ (ended_alone by_commit outcome ending)
+      by_rows [] is = ran_stays streams.base journal [] _ (ended_alone by_commit outcome is ending)
       by_rows (row ∷ others) is =
-          let commits = commit_with streams (row ∷ others) in
-          let ran = ran_stays streams.base journal commits _ (ended_alone by_commit outcome ending) in record {
-            since = ran.since;
-            within = ran.within;
-            told = ran.told;
-            exact = ran.exact;
-            conflict = ran.conflict;
+          let ended = ends_now streams by_commit outcome.reply (row ∷ others) transaction in
+          let commits = commit_with streams (row ∷ others) in record {
+            answered = answered_stays streams.base journal commits ended (answered_alone by_commit outcome (row ∷ others) ending);
+            acknowledged = λ commit told. rows_stay streams.base journal commits ended place_between.1 (sym is ∙ ending.acknowledged commit told);
             committed = committed_alone by_commit outcome row others (ending.commits row others is);
           }

@@ -5,7 +5,7 @@ use Rattle.std.specs.Prelude.{if◌then◌else◌}
 use Rattle.mx_base.specs.declared.ids.TxnName.{TxnName}
 use Rattle.mx_model.specs.Alone.{AllStandAlone}
 use Rattle.mx_model.specs.Histories.{Base, CanBeAsked}
-use Rattle.mx_model.specs.StreamHistories.{Disconnected, Ended, FollowsStreams, IsLegalStreams, RanAlone, Requested, StreamEntry, StreamHistory, ended_as, ended_by, ended_in, ends_now, is_commit, lacked_memory, streams_of, streams_with}
+use Rattle.mx_model.specs.StreamHistories.{Disconnected, EndedTransaction, FollowsStreams, IsLegalStreams, RanAlone, Requested, StreamEntry, StreamHistory, ended_as, ended_by, ended_in, ends_now, is_commit, lacked_memory, streams_of, streams_with}
 use Rattle.mx_model.specs.Streams.{Outcome, Streams, commit_with, of_connection, outcome_of, streams_after}
 use Rattle.mx_model.specs.declared.reply.Reply.{Reply}
 use Rattle.mx_model.specs.declared.reply.Reply.TheVariants.{Empty}
@@ -18,10 +18,10 @@ use Rattle.mx_model.proofs.StreamPlaces.{ran_stays}
 use Rattle.mx_model.proofs.StreamSteps.{left_ran, request_ran}
 
 -- all that steps came to ran alone: the open transactions, and those that ended
-abbrev pub AllRan : Base → Streams → List Ended → Type 0
+abbrev pub AllRan : Base → Streams → List EndedTransaction → Type 0
 AllRan base streams ended = AllStandAlone streams × AllByRecursion (RanAlone base streams.journal) ended
 
-module _ (base : Base) (streams : Streams) (base_is : streams.base ≡ base) (all : AllStandAlone streams) (ended : List Ended) (ran : AllByRecursion (RanAlone base streams.journal) ended) where
+module _ (base : Base) (streams : Streams) (base_is : streams.base ≡ base) (all : AllStandAlone streams) (ended : List EndedTransaction) (ran : AllByRecursion (RanAlone base streams.journal) ended) where
   -- those that ended before, in a longer journal
   ran_before : (more : List Tx) → AllByRecursion (RanAlone base (streams.journal ++ more)) ended
   ran_before more = each_like (RanAlone base streams.journal) _ (λ one so. ran_stays base streams.journal more one so) ended ran

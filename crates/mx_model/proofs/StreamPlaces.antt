@@ -7,7 +7,7 @@ use Rattle.mx_model.specs.Alone.{IsToldAlone}
 use Rattle.mx_model.specs.Histories.{Base}
 use Rattle.mx_model.specs.Overlaps.{Transaction, reads_before, statements_in}
 use Rattle.mx_model.specs.RunAlone.{Run, run_alone}
-use Rattle.mx_model.specs.StreamHistories.{CommittedAlone, Ended, HasOverlap, RanAlone, WasToldAlone, run_of}
+use Rattle.mx_model.specs.StreamHistories.{CommittedAlone, EndedTransaction, HasOverlap, RanAlone, WasAnsweredAlone, WasToldAlone, run_of}
 use Rattle.mx_model.specs.Touches.{rows_meet}
 use Rattle.mx_model.specs.statements.Answer.{Answer}
 use Rattle.mx_row.specs.declared.row.Row.{Row}
@@ -27,7 +27,7 @@ module _ (base : Base) (journal more : List Tx) where
   more_length : length longer ≡ length journal + length more
   more_length = length-append journal more
 
-  module _ (ended : Ended) (within : ended.place ≤ length journal) where
+  module _ (ended : EndedTransaction) (within : ended.place ≤ length journal) where
     -- it is answered the same alone, and leaves the same
     run_stays : run_of base longer ended ≡ run_of base journal ended
     run_stays = ap (λ state. run_alone base.ids state (statements_in ended.transaction.steps)) (prefix_kept base.state journal more ended.place within)
@@ -57,13 +57,22 @@ module _ (base : Base) (journal more : List Tx) where
         ap (λ state. rows_meet state commit.rows (reads_before number transaction.steps)) (prefix_kept base.state journal more (pred number) (omega (arith, within))) ∙ met,
       )
 
+  pub answered_stays : (ended : EndedTransaction) → WasAnsweredAlone base journal ended → WasAnsweredAlone base longer ended
+  answered_stays ended answered = record {
+    since = answered.since;
+    within = let long = more_length in omega (arith, answered.within, long);
+    told = subst (λ (run : Run). AllZip IsToldAlone ended.transaction.steps run.answers) (sym (run_stays ended answered.within)) answered.told;
+    exact = λ by_commit still. told_stays ended answered.within (answered.exact by_commit still);
+    conflict = λ told. overlap_stays_found ended.transaction (answered.conflict told);
+  }
+
+  pub rows_stay : (ended : EndedTransaction) → ended.place ≤ length journal → ended.rows ≡ (run_of base journal ended).rows → ended.rows ≡ (run_of base longer ended).rows
+  rows_stay ended within rows = rows ∙ ap (λ (run : Run). run.rows) (sym (run_stays ended within))
+
   -- what ran alone did so also where the journal has grown
-  pub ran_stays : (ended : Ended) → RanAlone base journal ended → RanAlone base longer ended
+  pub ran_stays : (ended : EndedTransaction) → RanAlone base journal ended → RanAlone base longer ended
   ran_stays ended ran = record {
-    since = ran.since;
-    within = let long = more_length in omega (arith, ran.within, long);
-    told = subst (λ (run : Run). AllZip IsToldAlone ended.transaction.steps run.answers) (sym (run_stays ended ran.within)) ran.told;
-    exact = λ by_commit still. told_stays ended ran.within (ran.exact by_commit still);
-    conflict = λ told. overlap_stays_found ended.transaction (ran.conflict told);
-    committed = committed_stays ended ran.within ended.rows ran.committed;
+    answered = answered_stays ended ran.answered;
+    acknowledged = λ by_commit told. rows_stay ended ran.answered.within (ran.acknowledged by_commit told);
+    committed = committed_stays ended ran.answered.within ended.rows ran.committed;
   }

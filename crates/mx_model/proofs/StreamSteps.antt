@@ -9,7 +9,7 @@ use Rattle.mx_base.specs.declared.refusal.Refusal.TheVariants.{AllOfConnectionOp
 use Rattle.mx_model.specs.Alone.{AllStandAlone}
 use Rattle.mx_model.specs.Overlaps.{Active, Doomed, Standing, Transaction, View, standing}
 use Rattle.mx_model.specs.RunAlone.{writes}
-use Rattle.mx_model.specs.StreamHistories.{Ended, RanAlone, ended_as, ended_where, ends_now, is_commit}
+use Rattle.mx_model.specs.StreamHistories.{EndedTransaction, RanAlone, ended_as, ended_where, ends_now, is_commit}
 use Rattle.mx_model.specs.Streams.{Becomes, Ends, Goes, Opens, Outcome, Stays, Streams, begins_beside, commit_with, commits, commits_standing, ends_told, in_stream, max_transactions, max_transactions_of_connection, of_connection, outcome_of, states, states_standing, streams_after, tells_statement, told_alone, transaction_named}
 use Rattle.mx_model.specs.declared.reply.Reply.TheVariants.{Empty, Refused}
 use Rattle.mx_model.specs.statements.Answer.{Answer}
@@ -21,7 +21,7 @@ use Rattle.mx_write.specs.Writable.{describes_schema}
 use Rattle.mx_model.proofs.AloneNames.{named_has}
 use Rattle.mx_model.proofs.AloneSteps.{answer_now}
 use Rattle.mx_model.proofs.AloneStreams.{Stands}
-use Rattle.mx_model.proofs.CommitRows.{rows_by}
+use Rattle.mx_model.proofs.CommitRows.{acknowledged_by, rows_by}
 use Rattle.mx_model.proofs.ConflictAnswers.{commit_by}
 use Rattle.mx_model.proofs.EachLaws.{each_kept, each_like, each_of_map}
 use Rattle.mx_model.proofs.StreamEnds.{IsEnding, ended_alone, ending_alone}
@@ -88,6 +88,7 @@ module _ (streams : Streams) (name : TxnName) (all : AllStandAlone streams) wher
       ending = record {
         doomed = (commit_by streams name transaction is how).0;
         still = λ commit other doomed. other ((commit_by streams name transaction is how).1 doomed);
+        acknowledged = λ commit told. acknowledged_by streams name transaction alone how told;
         commits = λ row others some. rows_by streams name transaction alone row others how refl some;
       }
 
@@ -95,6 +96,7 @@ module _ (streams : Streams) (name : TxnName) (all : AllStandAlone streams) wher
   rollback_well = λ transaction named. record {
     doomed = λ told. absurd cc;
     still = λ commit other. absurd cc;
+    acknowledged = λ commit told. absurd cc;
     commits = λ row others some. absurd cc;
   }
 
@@ -126,7 +128,7 @@ module _ (streams : Streams) (name : TxnName) (all : AllStandAlone streams) wher
   outcome_well other = tells_well (is_commit other) other (statement_of other)
 
   -- what it ends ran alone
-  abbrev Ran : List Row → Ended → Type 0
+  abbrev Ran : List Row → EndedTransaction → Type 0
   Ran rows ended = RanAlone streams.base (journal ++ commit_with streams rows) ended
 
   ended_ran : (by_commit : Bool) (outcome : Outcome) → IsWell by_commit outcome → AllByRecursion (Ran outcome.rows) (ended_as streams name by_commit outcome)
@@ -157,6 +159,7 @@ left_ends : (streams : Streams) (transaction : Transaction) → IsEnding streams
 left_ends streams transaction = record {
   doomed = λ told. absurd cc;
   still = λ commit other. absurd cc;
+  acknowledged = λ commit told. absurd cc;
   commits = λ row others some. absurd cc;
 }
 
@@ -164,5 +167,5 @@ pub left_ran : (streams : Streams) (connection : ℕ) → AllStandAlone streams
     → AllByRecursion (RanAlone streams.base streams.journal) (map (ends_now streams false Empty []) (of_connection connection streams.transactions))
 left_ran streams connection all =
     each_of_map (ends_now streams false Empty []) (RanAlone streams.base streams.journal) (of_connection connection streams.transactions)
-    (each_like (Stands streams) _ (λ transaction alone. ended_alone streams transaction alone false (told_alone Empty) (left_ends streams transaction))
+    (each_like (Stands streams) _ (λ transaction alone. ended_alone streams transaction alone false (told_alone Empty) refl (left_ends streams transaction))
     (of_connection connection streams.transactions) (each_kept (Stands streams) (λ one. one.name.conn.0 == connection) streams.transactions all.each))

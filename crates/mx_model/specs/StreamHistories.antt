@@ -57,7 +57,7 @@ IsLegalStreams base (entry ∷ earlier) = IsLegalStreams base earlier × Follows
 
 -- a transaction that ended: how many transactions the prefix of the journal had that it read, whether COMMIT ended it, what the request
 -- that ended it was told, and the rows that it committed
-pub record Ended : Type 0 where
+pub record EndedTransaction : Type 0 where
   pub transaction : Transaction
   pub place : ℕ
   pub by_commit : Bool
@@ -65,7 +65,7 @@ pub record Ended : Type 0 where
   pub rows : List Row
 
 -- an open transaction that ends now
-abbrev pub ends_now : Streams → (by_commit : Bool) → Reply → List Row → Transaction → Ended
+abbrev pub ends_now : Streams → (by_commit : Bool) → Reply → List Row → Transaction → EndedTransaction
 ends_now streams by_commit reply rows transaction = record {
   transaction = transaction;
   place = place_read streams.base.state streams.journal transaction;
@@ -79,21 +79,21 @@ is_commit request.Commit = true
 is_commit other = false
 
 -- the transaction that a request ended, where it ended one
-abbrev pub ended_where : Streams → (by_commit : Bool) → Outcome → Becomes → (present : Option Transaction) → List Ended
+abbrev pub ended_where : Streams → (by_commit : Bool) → Outcome → Becomes → (present : Option Transaction) → List EndedTransaction
 ended_where streams by_commit outcome Ends present = map (ends_now streams by_commit outcome.reply outcome.rows) (option_to_list present)
 ended_where streams by_commit outcome other present = []
 
-abbrev pub ended_as : Streams → TxnName → (by_commit : Bool) → Outcome → List Ended
+abbrev pub ended_as : Streams → TxnName → (by_commit : Bool) → Outcome → List EndedTransaction
 ended_as streams name by_commit outcome = ended_where streams by_commit outcome outcome.becomes (transaction_named name streams.transactions)
 
 -- the transactions that an entry ended: a COMMIT or ROLLBACK ends one, and a connection that disconnects ends all of its own
-abbrev pub ended_by : Streams → StreamEntry → List Ended
+abbrev pub ended_by : Streams → StreamEntry → List EndedTransaction
 ended_by streams (Requested name asked reply) =
     if lacked_memory asked reply then [] else ended_as streams name (is_commit asked) (outcome_of streams name asked)
 ended_by streams (Disconnected connection) = map (ends_now streams false Empty []) (of_connection connection streams.transactions)
 
 -- the transactions that ended in a history, the last of them first
-abbrev pub ended_in : Base → StreamHistory → List Ended
+abbrev pub ended_in : Base → StreamHistory → List EndedTransaction
 ended_in base [] = []
 ended_in base (entry ∷ earlier) = ended_by (streams_of base earlier) entry ++ ended_in base earlier
 
@@ -115,16 +115,16 @@ HaveOwnNames (one ∷ others) = AllByRecursion (λ (other : Transaction). is_nam
 -- ---- as if alone
 
 -- its statements, run alone on the prefix of the journal that it read
-abbrev pub run_of : Base → List Tx → Ended → Run
+abbrev pub run_of : Base → List Tx → EndedTransaction → Run
 run_of base journal ended = run_alone base.ids (state_after_first base.state journal ended.place) (statements_in ended.transaction.steps)
 
 -- its statements were told exactly what they are told alone
-abbrev pub WasToldAlone : Base → List Tx → Ended → Type 0
+abbrev pub WasToldAlone : Base → List Tx → EndedTransaction → Type 0
 WasToldAlone base journal ended =
     map (λ (step : TransactionStep). step.reply) ended.transaction.steps ≡ map (λ (answer : Answer). answer.reply) (run_of base journal ended).answers
 
 -- a statement of it was told a conflict, or its COMMIT
-abbrev pub WasToldConflict : Ended → Type 0
+abbrev pub WasToldConflict : EndedTransaction → Type 0
 WasToldConflict ended = (ended.reply ≡ Refused Conflict) ⊎ Contains (map (λ (step : TransactionStep). step.reply) ended.transaction.steps) (Refused Conflict)
 
 -- a commit since its BEGIN touched what a statement of it had read before that commit
@@ -134,7 +134,7 @@ HasOverlap base journal transaction =
     × (rows_meet (state_after_first base.state journal (pred number)) commit.rows (reads_before number transaction.steps) ≡ true)
 
 -- the journal has its commit right behind the prefix that it read, made by this node, with the rows that it leaves alone
-pub record HasCommitted (base : Base) (journal : List Tx) (ended : Ended) : Type 0 where
+pub record HasCommitted (base : Base) (journal : List Tx) (ended : EndedTransaction) : Type 0 where
   pub commit : Tx
   pub there : slice_get journal ended.place ≡ Some commit
   pub by_node : commit.replica.0 ≡ base.ids.me
@@ -143,17 +143,22 @@ pub record HasCommitted (base : Base) (journal : List Tx) (ended : Ended) : Type
   pub exact : WasToldAlone base journal ended
 
 -- that is so where it committed rows
-abbrev pub CommittedAlone : Base → List Tx → Ended → (rows : List Row) → Type 0
+abbrev pub CommittedAlone : Base → List Tx → EndedTransaction → (rows : List Row) → Type 0
 CommittedAlone base journal ended [] = ⊤
 CommittedAlone base journal ended (row ∷ rows) = HasCommitted base journal ended
 
--- A transaction that ended ran alone on a prefix of the journal, which has all that was committed before its BEGIN: each statement was told
--- what it is told there, or a conflict; none was told one where its COMMIT wasn't; and where there was one, a commit overlapped it. What it
--- committed stands right behind that prefix.
-pub record RanAlone (base : Base) (journal : List Tx) (ended : Ended) : Type 0 where
+-- A transaction that ended was answered alone on a prefix of the journal, which has all that was committed before its BEGIN: each statement was
+-- told what it is told there, or a conflict; none was told one where its COMMIT wasn't; and where there was one, a commit overlapped it.
+pub record WasAnsweredAlone (base : Base) (journal : List Tx) (ended : EndedTransaction) : Type 0 where
   pub since : ended.transaction.begun ≤ ended.place
   pub within : ended.place ≤ length journal
   pub told : AllZip IsToldAlone ended.transaction.steps (run_of base journal ended).answers
   pub exact : ended.by_commit ≡ true → ended.reply ≢ Refused Conflict → WasToldAlone base journal ended
   pub conflict : WasToldConflict ended → HasOverlap base journal ended.transaction
+
+-- A transaction that ended ran alone: it was answered alone on a prefix of the journal; where its COMMIT was acknowledged, it committed exactly
+-- the rows that it leaves there; and what it committed stands right behind that prefix.
+pub record RanAlone (base : Base) (journal : List Tx) (ended : EndedTransaction) : Type 0 where
+  pub answered : WasAnsweredAlone base journal ended
+  pub acknowledged : ended.by_commit ≡ true → ended.reply ≡ Empty → ended.rows ≡ (run_of base journal ended).rows
   pub committed : CommittedAlone base journal ended ended.rows

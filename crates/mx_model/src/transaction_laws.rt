@@ -147,10 +147,10 @@ pub fn committed_rows_are_those_of_running_alone()
 {}
 
 /// The theorem of serializability: in a legal history each transaction that ended was answered as if it ran
-/// alone, on a prefix of the journal that has all that was committed before its BEGIN. One that committed rows
-/// did so right behind that prefix, and its replies and its rows are exactly those of running alone; a statement
-/// or a COMMIT is told a conflict only where a commit since its BEGIN touched what it had read before. All
-/// transactions that are still open were answered so too.
+/// alone, on a prefix of the journal that has all that was committed before its BEGIN. One whose COMMIT was
+/// acknowledged committed exactly the rows of running alone, right behind that prefix, and its replies are
+/// exactly those; a statement or a COMMIT is told a conflict only where a commit since its BEGIN touched what
+/// had been read before. All transactions that are still open were answered so too.
 pub fn every_transaction_ran_alone()
     ensures ended { (base : Base) (history : StreamHistory) → IsLegalStreams base history
         → AllByRecursion (RanAlone base (streams_of base history).journal) (ended_in base history) }
