@@ -90,7 +90,8 @@ module _ (written : OwnWrites) (all : Tuples) where
     whole_own = each_own (λ entry. length entry.0 ≡ long) written all whole_seen
 
     -- an entry under a key leads to its last parts
-    passing_entry : (p : Key → Bool) (key : Key) (o : Option (List ℕ)) → passing (λ (entry : Key × Key). p entry.1) key (by_tuple def long key o) ≡ keep_value (p (primary_in long key)) (by_tuple def long key o)
+    passing_entry : (p : Key → Bool) (key : Key) (o : Option (List ℕ))
+        → passing (λ (entry : Key × Key). p entry.1) key (by_tuple def long key o) ≡ keep_value (p (primary_in long key)) (by_tuple def long key o)
     passing_entry p key None = by_test (p (primary_in long key))
       where
         by_test : (b : Bool) → ◌≡◌ {A = Option Key} None (cond b None None)

@@ -28,7 +28,7 @@ use Rattle.mx_space.specs.Built.{AreLong}
 use Rattle.mx_space.specs.Changes.{index_kept}
 use Rattle.mx_space.specs.Entries.{IndexEntry}
 use Rattle.mx_space.specs.Kept.{StoresByNumber, StoresEntries, StoresIndexed, entry_bytes, kept_entries}
-use Rattle.mx_space.specs.Overlays.{StoresWritten, OwnWrites, hides, under}
+use Rattle.mx_space.specs.Overlays.{OwnWrites, StoresWritten, hides, under}
 use Rattle.mx_space.specs.Selecting.{AreFitEntries, key_in_index, indexed_row, row_of, tuple_stored}
 use Rattle.mx_space.specs.ShownRows.{is_shown, merged}
 use Rattle.mx_space.proofs.EntriesLaws.{entry_is_of}
@@ -46,7 +46,8 @@ all_so : {X : Type 0} (P Q : X → Type 0) → ((x : X) → P x → Q x) → (xs
 all_so P Q so [] all = tt
 all_so P Q so (x ∷ xs) all = (so x all.0, all_so P Q so xs all.1)
 
-module _ (schema : Option Schema) (over : OverlaidSpace) (written : OwnWrites) (writes : StoresWritten schema over written) (all : Tuples) (stored : List StoredTuple) (stores : StoresTuples stored all) where
+module _ (schema : Option Schema) (over : OverlaidSpace) (written : OwnWrites) (writes : StoresWritten schema over written) (all : Tuples) (stored : List StoredTuple)
+    (stores : StoresTuples stored all) where
   abbrev seen : Tuples
   seen = under written all
 
@@ -94,7 +95,8 @@ module _ (schema : Option Schema) (over : OverlaidSpace) (written : OwnWrites) (
         let shown = is_shown over true in
         let agree : (entry : Indexed) → fits entry → shown (stored_tuple entry) ≡ unwritten written all entry.0 = λ entry fit. shows entry.0 fit in
         let q : Indexed → Bool = λ entry. unwritten written all entry.0 in
-        let same : (some : List Indexed) → AllByRecursion fits some → AllByRecursion (λ (one : Indexed). shown (stored_tuple one) ≡ q one) some = all_so fits (λ one. shown (stored_tuple one) ≡ q one) agree in
+        let same : (some : List Indexed) → AllByRecursion fits some → AllByRecursion (λ (one : Indexed). shown (stored_tuple one) ≡ q one) some =
+        all_so fits (λ one. shown (stored_tuple one) ≡ q one) agree in
         let stored_side : filter shown stored ≡ filter shown stored_seen =
         ap (filter shown) (sym stores.same) ∙ filter_as (λ t. t) shown q (entries all) (same (entries all) stores.fit)
         ∙ ap (map stored_tuple) (sym (tuples_shown written all)) ∙ sym (filter_as (λ t. t) shown q (entries seen) (same (entries seen) fit_seen)) in

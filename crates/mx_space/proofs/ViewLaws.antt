@@ -21,7 +21,7 @@ use Rattle.mx_space.specs.declared.space.Space.{Space}
 use Rattle.mx_space.specs.Changes.{index_kept}
 use Rattle.mx_space.specs.Entries.{IndexEntry, first_from}
 use Rattle.mx_space.specs.Kept.{HoldsOneEach, StoresEntries, StoresIndexed, kept_entries}
-use Rattle.mx_space.specs.Overlays.{IsHolder, StoresOver, StoresWritten, OwnWrites, hides, under}
+use Rattle.mx_space.specs.Overlays.{IsHolder, OwnWrites, StoresOver, StoresWritten, hides, under}
 use Rattle.mx_space.proofs.HolderLaws.{first_is_of, index_found, one_holder, unique_apart}
 use Rattle.mx_space.proofs.IndexedLaws.{held_is, held_there}
 use Rattle.mx_space.proofs.MemberLaws.{each_is_found}

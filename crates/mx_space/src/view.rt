@@ -14,7 +14,7 @@ ghost use Rattle.mx_schema.specs.Sound.{AreUnique, HaveKeys};
 ghost use Rattle.mx_schema.specs.State as plain;
 ghost use Rattle.mx_space.specs.Built.{AreLong};
 ghost use Rattle.mx_space.specs.Kept.{HoldsOneEach, StoresIndexed};
-ghost use Rattle.mx_space.specs.Overlays.{IsHolder, Sees, StoresWritten, OwnWrites, under};
+ghost use Rattle.mx_space.specs.Overlays.{IsHolder, OwnWrites, Sees, StoresWritten, under};
 ghost use Rattle.mx_space.specs.Scans.{SelectsByKey};
 
 use crate::entries::is_joined;

@@ -21,7 +21,7 @@ ghost use Rattle.mx_schema.specs.Stored.{stored_tuple};
 ghost use Rattle.mx_space.specs.declared.pick.Source.TheVariants as source;
 ghost use Rattle.mx_space.specs.Built.{AreLong};
 ghost use Rattle.mx_space.specs.Kept.{StoresIndexed};
-ghost use Rattle.mx_space.specs.Overlays.{StoresWritten, OwnWrites, under};
+ghost use Rattle.mx_space.specs.Overlays.{OwnWrites, StoresWritten, under};
 ghost use Rattle.mx_space.specs.Scans.{SelectsByKey};
 ghost use Rattle.mx_space.specs.Selecting.{indexed_row, row_of};
 ghost use Rattle.mx_space.specs.ShownRows.{is_shown, merged, rows_left};

@@ -6,7 +6,8 @@ use Rattle.mx_space.proofs.view.holder_key.Goals as goal
 
 pub returns-in_err-index : goal.returns-in_err-index
 returns-in_err-index c = λ schema all primary wanted stores first there one_each apart fit is.
-    absurd (no_index schema c.args.space.now all primary c.args.def.now wanted stores first there one_each fit apart (option_copied c.index.result) c.index.ensures (ap option_copied c.in_err-index.was))
+    absurd (no_index schema c.args.space.now all primary c.args.def.now wanted stores first there one_each fit apart (option_copied c.index.result) c.index.ensures
+    (ap option_copied c.in_err-index.was))
 
 pub returns-in_err-entry : goal.returns-in_err-entry
 returns-in_err-entry c = λ schema all primary wanted stores first there one_each apart fit is.

@@ -15,7 +15,8 @@ use Rattle.mx_space.proofs.view_select.shown_rows.Goals as goal
 pub returns-then-def-eq0 : goal.returns-then-def-eq0
 returns-then-def-eq0 c = λ schema all written long iterator key stores writes whole whole_seen there have one_each fit short edges.
     c.first_rows.ensures ∙ first_rows_are schema c.args.over.now written writes all c.args.space.now.tuples.entries stores.holds.keeps c.args.range.now c.args.down
-    ∙ ap (λ t. directed c.args.down (filter (λ entry. holds c.args.range.now entry.0) (map stored_tuple (finite.entries t)))) (sym (primary_index c.args.def.now (under written all) c.if-def-eq0.true))
+    ∙ ap (λ t. directed c.args.down (filter (λ entry. holds c.args.range.now entry.0) (map stored_tuple (finite.entries t))))
+    (sym (primary_index c.args.def.now (under written all) c.if-def-eq0.true))
 
 pub returns : goal.returns
 returns c = λ schema all written long iterator key stores writes whole whole_seen there have one_each fit short edges.
