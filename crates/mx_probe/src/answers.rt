@@ -3,7 +3,8 @@
 use crate::arguments::Arguments;
 use crate::fault::{Fault, Stop};
 use crate::{
-    base, frame, hash, key, msgpack, reply, request, row, schema, tuple, update, vclock, xlog,
+    base, frame, hash, key, msgpack, reply, request, row, schema, tracker, tuple, txn, update,
+    vclock, xlog,
 };
 use std::alloc::{AllocError, Global};
 
@@ -43,6 +44,8 @@ fn called(name: &str, arguments: &mut Arguments<'_>) -> Result<String, AllocErro
         "schema" => schema::answer(call, arguments),
         "update" => update::answer(call, arguments),
         "hash" => hash::answer(call, arguments),
+        "txn" => txn::answer(call, arguments),
+        "tracker" => tracker::answer(call, arguments),
         _ => no_call(arguments),
     }
 }

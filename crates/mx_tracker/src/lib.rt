@@ -5,8 +5,6 @@ mod mark_set;
 mod noted_read;
 mod notes;
 mod read;
-#[cfg(test)]
-mod tests;
 mod touched;
 mod tracker;
 

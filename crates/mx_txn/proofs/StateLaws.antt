@@ -57,10 +57,6 @@ get-with_state_other txns slot state other differs =
     let at = get-with_state txns slot state other in
     grind (arith, nat_tests)
 
--- a slot whose transaction was given a state is live
-pub live_inserted : (txns : Txns) (slot : ℕ) (state : TxnState) → IsLive (insert txns slot state) slot
-live_inserted txns slot state = ap is_some (get-with_state_same txns slot (Some state))
-
 -- one slot's change, in memory and of the open transactions
 pub txns_of-set : (states : States) (slot : ℕ) (state : Option TxnState) → slot < length states → txns_of (set states slot state) ≡ with_state (txns_of states) slot state
 txns_of-set states slot state within = same_txns _ _ (λ other. get-txns_of (set states slot state) other ∙ by_place other (cases_eq other slot))

@@ -5,8 +5,6 @@ mod scans;
 mod slot;
 mod slots;
 mod state;
-#[cfg(test)]
-mod tests;
 
 pub use slot::{MAX_OPEN, Slot};
 pub use slots::{Full, Slots};
