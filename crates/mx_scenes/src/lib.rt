@@ -27,6 +27,8 @@ mod replace;
 #[cfg(test)]
 mod requests;
 #[cfg(test)]
+mod reserves;
+#[cfg(test)]
 mod schema;
 #[cfg(test)]
 mod select;
