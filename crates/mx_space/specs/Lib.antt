@@ -5,6 +5,7 @@ pub mod Entries
 pub mod Kept
 pub mod KeptKeys
 pub mod Overlays
+pub mod OwnChanges
 pub mod Reserved
 pub mod Reserves
 pub mod Scans

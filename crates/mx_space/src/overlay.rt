@@ -77,6 +77,13 @@ impl OverlaidSpace {
         &self.own
     }
 
+    /// The primary keys whose tuples the transaction took out, where it may have put others since.
+    pub(crate) fn removed(&self) -> &BTreeSet<Bytes>
+        ensures { result.now ≡ self.now.removed }
+    {
+        &self.removed
+    }
+
     /// Whether the transaction put or took out the tuple whose primary key has these comparable bytes.
     pub(crate) fn hides(&self, key: &Bytes) -> bool
         ensures { result ≡ hides self.now key.now }

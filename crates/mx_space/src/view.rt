@@ -1,6 +1,6 @@
 //! A space under a transaction's own writes.
 
-ghost use Rattle.std.specs.Prelude.{◌≡◌, ◌≢◌, ℕ, Option, Some, None, true, MatchOption};
+ghost use Rattle.std.specs.Prelude.{◌≡◌, ◌≢◌, ◌⊎◌, ℕ, Option, Some, None, true, MatchOption, MatchResult};
 ghost use Rattle.std.specs.FinMap as finite;
 ghost use Rattle.std.specs.Option.{option_copied};
 ghost use Rattle.mx_msgpack.specs.Items.{IsArray};
@@ -12,11 +12,15 @@ ghost use Rattle.mx_schema.specs.Catalogues.{index_with};
 ghost use Rattle.mx_schema.specs.Picks.{tuples_by_index};
 ghost use Rattle.mx_schema.specs.Sound.{AreUnique, HaveKeys};
 ghost use Rattle.mx_schema.specs.State as plain;
+ghost use Rattle.mx_space.specs.declared.build.BuildFault.TheVariants.{NoMemory};
+ghost use Rattle.mx_space.specs.Builds.{build_fault};
 ghost use Rattle.mx_space.specs.Built.{AreLong};
 ghost use Rattle.mx_space.specs.Kept.{HoldsOneEach, StoresIndexed};
 ghost use Rattle.mx_space.specs.Overlays.{IsHolder, OwnWrites, Sees, StoresWritten, under};
+ghost use Rattle.mx_space.specs.OwnChanges.{Shows};
 ghost use Rattle.mx_space.specs.Scans.{SelectsByKey};
 
+use crate::build::BuildFault;
 use crate::entries::is_joined;
 use crate::index::Index;
 use crate::overlay::OverlaidSpace;
@@ -45,8 +49,10 @@ impl<'a> SpaceView<'a> {
 
     /// The tuple whose primary key has these comparable bytes.
     pub fn tuple(self, key: &Bytes) -> Option<&'a [u8]>
-        ensures { (schema : Option described.Schema) (all : plain.Tuples) (written : OwnWrites) (wanted : Key) → Sees schema self.entry all written
+        ensures sees { (schema : Option described.Schema) (all : plain.Tuples) (written : OwnWrites) (wanted : Key) → Sees schema self.entry all written
             → AreFit wanted → key.now ≡ comparable_of wanted → option_copied result ≡ finite.get (under written all) wanted }
+        ensures shown { (schema : Option described.Schema) (tuples : plain.Tuples) (wanted : Key) → Shows schema self.entry tuples
+            → AreFit wanted → key.now ≡ comparable_of wanted → option_copied result ≡ finite.get tuples wanted }
     {
         let Some(over) = self.over else {
             return self.space.tuple(key);
@@ -61,10 +67,13 @@ impl<'a> SpaceView<'a> {
     /// where each tuple has a key in the index and no two have one, both of the tuples that are seen and of
     /// the space's.
     pub fn holder(self, def: &IndexDef, key: &Bytes) -> Option<&'a [u8]>
-        ensures { (schema : Option described.Schema) (all : plain.Tuples) (written : OwnWrites) (primary : indexed.IndexDef) (wanted : Key) → Sees schema self.entry all written
+        ensures sees { (schema : Option described.Schema) (all : plain.Tuples) (written : OwnWrites) (primary : indexed.IndexDef) (wanted : Key) → Sees schema self.entry all written
             → index_with 0 self.entry.space.now.schema.indexes ≡ Some primary → index_with def.now.id.0 self.entry.space.now.schema.indexes ≡ Some def.now
             → HoldsOneEach def.now all → HoldsOneEach def.now (under written all) → AreFit wanted → key.now ≡ comparable_of wanted
             → option_copied result ≡ finite.get (tuples_by_index def.now (under written all)) wanted }
+        ensures shown { (schema : Option described.Schema) (tuples : plain.Tuples) (wanted : Key) → Shows schema self.entry tuples
+            → index_with def.now.id.0 self.entry.space.now.schema.indexes ≡ Some def.now → (def.now.id.0 ≡ 0) ⊎ (def.now.unique ≡ true)
+            → AreFit wanted → key.now ≡ comparable_of wanted → option_copied result ≡ finite.get (tuples_by_index def.now tuples) wanted }
     {
         let Some(over) = self.over else {
             return self.space.holder(def, key);
@@ -97,6 +106,20 @@ impl<'a> SpaceView<'a> {
             Some(over) => select_shown(alloc, self.space, over, def, wanted, found),
             None => select_stored(alloc, self.space, def, wanted, found),
         }
+    }
+
+    /// Whether an index can be made of the tuples, as `Space::add_index` makes it, where there are no writes.
+    ///
+    /// # Errors
+    /// As of `Space::add_index`.
+    pub fn check_index(self, alloc: Global, def: &IndexDef) -> Result<(), BuildFault>
+        ensures { (schema : Option described.Schema) (tuples : plain.Tuples) → Shows schema self.entry tuples → self.entry.over ≡ None
+            → (def.now.id.0 ≡ 0 → tuples ≡ finite.empty) → (def.now.id.0 ≢ 0 → index_with 0 self.entry.space.now.schema.indexes ≢ None)
+            → MatchResult result
+            (λ _. build_fault def.now tuples ≡ None)
+            (λ why. (build_fault def.now tuples ≡ Some why) ⊎ (why ≡ NoMemory)) }
+    {
+        self.space.check_index(alloc, def)
     }
 }
 
