@@ -19,6 +19,7 @@ pub mod MapLaws
 pub mod MemberLaws
 pub mod MergedLaws
 pub mod OverlayLaws
+pub mod OwnChangeLaws
 pub mod PartLaws
 pub mod PickLaws
 pub mod PlaceLaws
@@ -29,6 +30,7 @@ pub mod ShownLaws
 pub mod ShownRowLaws
 pub mod SoundLaws
 pub mod SpaceLaws
+pub mod StateViewLaws
 pub mod StopLaws
 pub mod ViewLaws
 pub mod WholeKeyLaws

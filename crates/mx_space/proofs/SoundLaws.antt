@@ -13,7 +13,7 @@ use Rattle.mx_space.specs.Kept.{StoresIndexed}
 use Rattle.mx_space.proofs.SpaceLaws.{primary_long}
 
 -- what each index has, that of a number has
-index_has : (P : IndexDef → Type 0) (id : ℕ) (defs : List IndexDef) (def : IndexDef) → index_with id defs ≡ Some def → AllByRecursion P defs → P def
+pub index_has : (P : IndexDef → Type 0) (id : ℕ) (defs : List IndexDef) (def : IndexDef) → index_with id defs ≡ Some def → AllByRecursion P defs → P def
 index_has P id [] def there have = absurd cc
 index_has P id (first ∷ defs) def there have = by_test (first.id.0 == id) there (λ later. index_has P id defs def later have.1)
   where

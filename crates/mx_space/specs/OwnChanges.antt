@@ -32,6 +32,11 @@ state_with_own base (change ∷ earlier) = state_with (state_with_own base earli
 abbrev pub overlaid : (space : ℕ) → Overlay → Option OverlaidSpace
 overlaid space overlay = tree.get nat_cmp overlay.spaces space
 
+-- the same where there may be no overlay
+abbrev pub overlaid_in : (space : ℕ) → Option Overlay → Option OverlaidSpace
+overlaid_in space None = None
+overlaid_in space (Some overlay) = overlaid space overlay
+
 -- memory has these own changes, in spaces that are described so
 pub record HoldsOwn (schemas : ℕ → Option Schema) (overlay : Overlay) (own : List PlainChange) : Type 0 where
   pub each : (space : ℕ) → StoresOver (schemas space) (overlaid space overlay) (written_by space own)

@@ -1,12 +1,14 @@
 //! A state under a transaction's own writes.
 
 ghost use Rattle.std.specs.Prelude.{◌≡◌, None, Some, IfSome};
+ghost use Rattle.std.specs.FinMap as finite;
+ghost use Rattle.std.specs.Option.{option_copied};
 ghost use Rattle.mx_msgpack.specs.Items.{IsArray};
 ghost use Rattle.mx_schema.specs.Catalogues.{index_with, schema_of};
-ghost use Rattle.mx_schema.specs.Picks.{entries_of};
+ghost use Rattle.mx_schema.specs.Picks.{entries_of, tuples_by_index};
 ghost use Rattle.mx_schema.specs.State as plain;
 ghost use Rattle.mx_schema.specs.State.{tuples_in};
-ghost use Rattle.mx_space.specs.OwnChanges.{HoldsView, Shows, ShowsSpace};
+ghost use Rattle.mx_space.specs.OwnChanges.{HoldsView, Shows, ShowsSpace, overlaid_in};
 ghost use Rattle.mx_space.specs.Scans.{SelectsByKey};
 ghost use Rattle.mx_space.specs.Stored.{Holds};
 
@@ -49,7 +51,10 @@ impl<'a> StateView<'a> {
         Some(SpaceView { space, over })
     }
 
-    fn writes_in(self, id: SpaceId) -> Option<&'a OverlaidSpace> {
+    /// The own writes in a space.
+    fn writes_in(self, id: SpaceId) -> Option<&'a OverlaidSpace>
+        ensures { option_copied result ≡ overlaid_in id.0 (option_copied self.entry.over) }
+    {
         self.over?.space(id)
     }
 
@@ -86,6 +91,7 @@ fn select_rows_of(
     found: &mut Tuples,
 ) -> Result<Option<KeyRange>, SelectFault>
     requires array { IsArray wanted.now.key.now }
+    ensures { (base : plain.State) → Holds state.now base → SelectsByKey (finite.entries (tuples_by_index def.now (tuples_in base source.0))) def.now wanted.now found.new result }
 {
     let none = BTreeMap::new(alloc);
     let tuples = match state.space(source) {

@@ -1,0 +1,106 @@
+-- A state under own changes: its tuples, what describes its spaces, and what memory holds of the changes.
+use Rattle.std.proofs.Common.{◌≡◌, ◌≢◌, ℕ, Bool, true, false, cond, List, [], ◌∷◌, Option, Some, None, refl, sym, ap, ◌∙◌, subst, arith, eqb-true}
+use Rattle.std.specs.Prelude.{◌==◌, if◌then◌else◌}
+use Rattle.std.specs.FinMap.{empty, entries, get, insert, remove}
+use Rattle.std.specs.List.{AllByRecursion, filter}
+use Rattle.std.specs.Option.{option_copied}
+use Rattle.std.proofs.lemmas.Bool.{ne_eqb}
+use Rattle.std.proofs.lemmas.Bool.Decides.{nat_tests}
+use Rattle.mx_msgpack.specs.Readers.{◌>>=◌}
+use Rattle.mx_key.specs.Keys.{Key, Integer, is_key_prefix}
+use Rattle.std.specs.Prelude.{pos}
+use Rattle.mx_schema.specs.declared.schema.Schema.{Schema}
+use Rattle.mx_schema.specs.declared.space_def.SpaceDef.{SpaceDef}
+use Rattle.mx_schema.specs.Catalogues.{index_defs, schema_by, schema_of}
+use Rattle.mx_schema.specs.SpaceRows.{space_in}
+use Rattle.mx_schema.specs.State.{State, Tuples, index_rows, space_rows, tuples_in}
+use Rattle.mx_schema.proofs.StateLaws.{tuples_set}
+use Rattle.mx_space.specs.declared.state_view.StateView.{StateView}
+use Rattle.mx_space.specs.Overlays.{OwnWrites, under, with_write}
+use Rattle.mx_space.specs.OwnChanges.{AreNoDescriptions, HoldsView, state_with_own, written_by}
+use Rattle.mx_space.specs.Reserves.{PlainChange, state_with}
+use Rattle.mx_space.proofs.OverlayLaws.{under_more, under_none}
+
+pub turned : (a b : ℕ) → (a == b) ≡ (b == a)
+turned a b = grind (arith, nat_tests)
+
+-- ---- tuples
+
+-- after a change of one tuple its space has it, and the others are as before
+pub tuples_with : (state : State) (space : ℕ) (key : Key) (tuple : Option (List ℕ)) (q : ℕ)
+    → tuples_in (state_with state space key tuple) q ≡ (if q == space then with_write (tuples_in state space) key tuple else tuples_in state q)
+tuples_with state space key None q = tuples_set state space (remove (tuples_in state space) key) q
+tuples_with state space key (Some tuple) q = tuples_set state space (insert (tuples_in state space) key tuple) q
+
+-- a space has its tuples under the writes that the changes make in it
+pub tuples_with_own : (base : State) (own : List PlainChange) (space : ℕ) → tuples_in (state_with_own base own) space ≡ under (written_by space own) (tuples_in base space)
+tuples_with_own base [] space = sym (under_none (tuples_in base space))
+tuples_with_own base (change ∷ earlier) space =
+    tuples_with (state_with_own base earlier) change.space change.key change.tuple space
+    ∙ ap (λ b. if b then with_write (tuples_in (state_with_own base earlier) change.space) change.key change.tuple else tuples_in (state_with_own base earlier) space) (turned space change.space)
+    ∙ by_test (change.space == space) refl (tuples_with_own base earlier space)
+  where
+    by_test : (b : Bool) → (change.space == space) ≡ b → tuples_in (state_with_own base earlier) space ≡ under (written_by space earlier) (tuples_in base space)
+        → (if b then with_write (tuples_in (state_with_own base earlier) change.space) change.key change.tuple else tuples_in (state_with_own base earlier) space)
+        ≡ under (if b then insert (written_by space earlier) change.key change.tuple else written_by space earlier) (tuples_in base space)
+    by_test true e before =
+        ap (λ n. with_write (tuples_in (state_with_own base earlier) n) change.key change.tuple) (eqb-true change.space space e)
+        ∙ ap (λ t. with_write t change.key change.tuple) before
+        ∙ sym (under_more (written_by space earlier) (tuples_in base space) change.key change.tuple)
+    by_test false e before = before
+
+-- ---- descriptions
+
+same_indexes : (one other : State) → tuples_in one index_rows ≡ tuples_in other index_rows → (space : ℕ) (def : Option SpaceDef) → schema_by one space def ≡ schema_by other space def
+same_indexes one other same space None = refl
+same_indexes one other same space (Some def) =
+    ap (λ (t : Tuples). Some (record { def = def; indexes = index_defs (filter (λ entry. is_key_prefix (Integer (pos space) ∷ []) entry.0) (entries t)) })) same
+
+-- the same rows of spaces and of indexes describe the same
+pub same_schema : (one other : State) → tuples_in one space_rows ≡ tuples_in other space_rows → tuples_in one index_rows ≡ tuples_in other index_rows
+    → (space : ℕ) → schema_of one space ≡ schema_of other space
+unfolding schema_of
+same_schema one other spaces indexes space =
+    same_indexes one other indexes space (get (tuples_in one space_rows) (Integer (pos space) ∷ []) >>= space_in)
+    ∙ ap (λ (t : Tuples). schema_by other space (get t (Integer (pos space) ∷ []) >>= space_in)) spaces
+
+-- no change is of a space that none is of
+none_written : (space : ℕ) (own : List PlainChange) → AllByRecursion (λ (change : PlainChange). change.space ≢ space) own → written_by space own ≡ empty
+none_written space [] apart = refl
+none_written space (change ∷ earlier) apart =
+    ap (λ b. if b then insert (written_by space earlier) change.key change.tuple else written_by space earlier) (ne_eqb change.space space apart.0)
+    ∙ none_written space earlier apart.1
+
+no_space_row : (own : List PlainChange) → AreNoDescriptions own → AllByRecursion (λ (change : PlainChange). change.space ≢ space_rows) own
+no_space_row [] plain = tt
+no_space_row (change ∷ earlier) plain = (plain.0.0, no_space_row earlier plain.1)
+
+no_index_row : (own : List PlainChange) → AreNoDescriptions own → AllByRecursion (λ (change : PlainChange). change.space ≢ index_rows) own
+no_index_row [] plain = tt
+no_index_row (change ∷ earlier) plain = (plain.0.1, no_index_row earlier plain.1)
+
+module _ (base : State) (own : List PlainChange) (plain : AreNoDescriptions own) where
+  as_before : (space : ℕ) → written_by space own ≡ empty → tuples_in (state_with_own base own) space ≡ tuples_in base space
+  as_before space none = tuples_with_own base own space ∙ ap (λ (w : OwnWrites). under w (tuples_in base space)) none ∙ under_none (tuples_in base space)
+
+  -- the rows that describe spaces and indexes are as before
+  pub space_rows_kept : tuples_in (state_with_own base own) space_rows ≡ tuples_in base space_rows
+  space_rows_kept = as_before space_rows (none_written space_rows own (no_space_row own plain))
+
+  pub index_rows_kept : tuples_in (state_with_own base own) index_rows ≡ tuples_in base index_rows
+  index_rows_kept = as_before index_rows (none_written index_rows own (no_index_row own plain))
+
+  -- and so each space is described as before
+  pub schema_with_own : (space : ℕ) → schema_of (state_with_own base own) space ≡ schema_of base space
+  schema_with_own = same_schema (state_with_own base own) base space_rows_kept index_rows_kept
+
+-- ---- what a view shows
+
+module _ (view : StateView) (seen : State) (holds : HoldsView view seen) where
+  -- a space has its tuples under the own writes in it
+  pub tuples_seen : (space : ℕ) → tuples_in seen space ≡ under (written_by space holds.own) (tuples_in holds.base space)
+  tuples_seen space = ap (λ s. tuples_in s space) holds.is ∙ tuples_with_own holds.base holds.own space
+
+  -- the state under the writes describes each space
+  pub schema_seen : (space : ℕ) → schema_of seen space ≡ schema_of holds.base space
+  schema_seen space = ap (λ s. schema_of s space) holds.is ∙ schema_with_own holds.base holds.own holds.plain space
