@@ -33,7 +33,7 @@ use Rattle.mx_space.proofs.BytesLaws.{one_by_bytes}
 use Rattle.mx_space.proofs.EntriesLaws.{entry_is_of, entry_there}
 use Rattle.mx_space.proofs.IndexedLaws.{AreApart, Held, held_is, held_there, not_none}
 use Rattle.mx_space.proofs.MemberLaws.{begins, each_is_found, first_passing, not_below, passing_has}
-use Rattle.mx_space.proofs.SpaceLaws.{index_there, space_long}
+use Rattle.mx_space.proofs.SpaceLaws.{index_there}
 
 pub fit_behind : (one other : Key) → AreFit (one ++ other) → AreFit other
 fit_behind [] other fit = fit
@@ -211,12 +211,9 @@ module _ (def : IndexDef) (unique : def.unique ≡ true) (tuples : Tuples) (one_
 
 -- ---- the tuple that a space has
 
-module _ (schema : Option Schema) (space : Space) (all : Tuples) (primary def : IndexDef) (wanted : Key) (stores : StoresIndexed schema space all)
-    (first : index_with 0 space.schema.indexes ≡ Some primary) (there : index_with def.id.0 space.schema.indexes ≡ Some def)
+module _ (schema : Option Schema) (space : Space) (all : Tuples) (def : IndexDef) (wanted : Key) (stores : StoresIndexed schema space all)
+    (long : ℕ) (whole : AreLong long all) (there : index_with def.id.0 space.schema.indexes ≡ Some def)
     (one_each : HoldsOneEach def all) (fit : AreFit wanted) (apart : def.id.0 ≢ 0) where
-  long : AreLong (length primary.key) all
-  long = space_long schema space all primary stores first
-
   other : (def.id.0 == 0) ≡ false
   other = ne_eqb def.id.0 0 apart
 
@@ -245,17 +242,17 @@ module _ (schema : Option Schema) (space : Space) (all : Tuples) (primary def : 
 
     pub held_by_none : (key : List ℕ) → key ≡ comparable_of wanted → first_from key kept ≡ None → None ≡ get (tuples_by_index def all) wanted
     held_by_none key key_is none =
-        no_first def unique.0 all unique.1 unique.2 wanted (length primary.key) long other fit kept keeps (ap (λ k. first_from k kept) (sym key_is) ∙ none)
+        no_first def unique.0 all unique.1 unique.2 wanted long whole other fit kept keeps (ap (λ k. first_from k kept) (sym key_is) ∙ none)
 
     pub held_by_other : (key entry own : List ℕ) → key ≡ comparable_of wanted → first_from key kept ≡ Some (entry, own) → entry ≢ key ++ own
         → None ≡ get (tuples_by_index def all) wanted
     held_by_other key entry own key_is begins not_joined =
-        other_first def unique.0 all unique.1 unique.2 wanted (length primary.key) long other fit kept keeps entry own (ap (λ k. first_from k kept) (sym key_is) ∙ begins)
+        other_first def unique.0 all unique.1 unique.2 wanted long whole other fit kept keeps entry own (ap (λ k. first_from k kept) (sym key_is) ∙ begins)
         (λ joined. not_joined (joined ∙ ap (λ k. k ++ own) (sym key_is)))
 
     pub held_by_first : (key entry own : List ℕ) → key ≡ comparable_of wanted → first_from key kept ≡ Some (entry, own) → entry ≡ key ++ own
         → (held : Option (List ℕ)) → ((its : Key) → AreFit its → own ≡ comparable_of its → held ≡ get all its)
         → held ≡ get (tuples_by_index def all) wanted
     held_by_first key entry own key_is begins joined held looked_up =
-        first_is_held def unique.0 all unique.1 unique.2 wanted (length primary.key) long other fit kept keeps entry own (ap (λ k. first_from k kept) (sym key_is) ∙ begins)
+        first_is_held def unique.0 all unique.1 unique.2 wanted long whole other fit kept keeps entry own (ap (λ k. first_from k kept) (sym key_is) ∙ begins)
         (joined ∙ ap (λ k. k ++ own) key_is) held looked_up

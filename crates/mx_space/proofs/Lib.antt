@@ -20,6 +20,7 @@ pub mod MemberLaws
 pub mod MergedLaws
 pub mod OverlayLaws
 pub mod OwnChangeLaws
+pub mod OwnHeldLaws
 pub mod PartLaws
 pub mod PickLaws
 pub mod PlaceLaws

@@ -23,7 +23,8 @@ use Rattle.mx_schema.specs.State.{Tuples}
 use Rattle.mx_schema.proofs.TakenLaws.{stored_get}
 use Rattle.mx_space.specs.declared.overlay.OverlaidSpace.{OverlaidSpace}
 use Rattle.mx_space.specs.Kept.{StoresIndexed}
-use Rattle.mx_space.specs.Overlays.{OwnWrites, StoresWritten, hides, under, with_write, with_writes}
+use Rattle.mx_space.specs.Overlays.{IsOfKey, OwnWrites, StoresWritten, hides, under, with_write, with_writes}
+use Rattle.mx_space.proofs.EntriesLaws.{tied_is}
 
 -- ---- what is seen under a key
 
@@ -125,15 +126,18 @@ stores_nothing schema over own none = record {
       hides_by schema over empty key own fit
       ∙ (λ i. is_some (get-empty {X = List ℕ} key_cmp key i) || list_any (is_at (slice_cmp nat_cmp (comparable_of key))) (none i))
       ∙ ap is_some (sym (get-empty {X = Option (List ℕ)} key_cmp key));
+  removed = λ bytes held. absurd (true≢false (sym held ∙ ap (list_any (is_at (slice_cmp nat_cmp bytes))) none));
+  fit = λ key some. absurd (true≢false (sym some ∙ ap is_some (get-empty {X = Option (List ℕ)} key_cmp key)));
 }
 
 -- a tuple was put or taken out
-module _ (schema : Option Schema) (before after : OverlaidSpace) (written : OwnWrites) (key : Key) (stores : StoresWritten schema before written) where
+module _ (schema : Option Schema) (before after : OverlaidSpace) (written : OwnWrites) (key : Key) (stores : StoresWritten schema before written) (key_fit : AreFit key) where
   stores_write : (write : Option (List ℕ)) → StoresIndexed schema after.own (with_write (under written empty) key write)
       → ((q : Key) → AreFit q → (is_some (cond (eq_by_cmp key_cmp q key) write (get (under written empty) q)) || holds_key after.removed (comparable_of q))
       ≡ cond (eq_by_cmp key_cmp q key) true (is_some (get (under written empty) q) || holds_key before.removed (comparable_of q)))
+      → ((bytes : List ℕ) → holds_key after.removed bytes ≡ true → IsOfKey bytes)
       → StoresWritten schema after (insert written key write)
-  stores_write write own tell = record {
+  stores_write write own tell removed = record {
     own = subst (StoresIndexed schema after.own) (sym (under_more written empty key write)) own;
     keys = λ q fits.
         hides_by schema after (with_write (under written empty) key write) q own fits
@@ -142,8 +146,14 @@ module _ (schema : Option Schema) (before after : OverlaidSpace) (written : OwnW
         ∙ ap (cond (eq_by_cmp key_cmp q key) true) (sym (hides_by schema before (under written empty) q stores.own fits) ∙ stores.keys q fits)
         ∙ by_test q (eq_by_cmp key_cmp q key)
         ∙ ap is_some (sym (get-insert key_cmp_total written key write q));
+    removed = removed;
+    fit = λ q some. still_fit q (eq_by_cmp key_cmp q key) refl (sym (ap is_some (get-insert key_cmp_total written key write q)) ∙ some);
   }
     where
+      still_fit : (q : Key) (b : Bool) → eq_by_cmp key_cmp q key ≡ b → is_some (cond b (Some write) (get written q)) ≡ true → AreFit q
+      still_fit q true tied some = subst AreFit (sym (tied_is q key tied)) key_fit
+      still_fit q false apart some = stores.fit q some
+
       by_test : (q : Key) (b : Bool) → cond b true (is_some (get written q)) ≡ is_some (cond b (Some write) (get written q))
       by_test q true = refl
       by_test q false = refl
@@ -152,18 +162,24 @@ module _ (schema : Option Schema) (before after : OverlaidSpace) (written : OwnW
       → StoresWritten schema after (insert written key (Some tuple))
   stores_put tuple own same = stores_write (Some tuple) own
       (λ q fits. ap (λ r. is_some (cond (eq_by_cmp key_cmp q key) (Some tuple) (get (under written empty) q)) || holds_key r (comparable_of q)) same ∙ by_test q (eq_by_cmp key_cmp q key))
+      (λ bytes held. stores.removed bytes (ap (λ r. holds_key r bytes) (sym same) ∙ held))
     where
       by_test : (q : Key) (b : Bool) → (is_some (cond b (Some tuple) (get (under written (empty {X = List ℕ} {R = key_cmp})) q)) || holds_key before.removed (comparable_of q))
           ≡ cond b true (is_some (get (under written (empty {X = List ℕ} {R = key_cmp})) q) || holds_key before.removed (comparable_of q))
       by_test q true = refl
       by_test q false = refl
 
-  pub stores_removed : (bytes : List ℕ) → AreFit key → bytes ≡ comparable_of key → StoresIndexed schema after.own (remove (under written empty) key)
+  pub stores_removed : (bytes : List ℕ) → bytes ≡ comparable_of key → StoresIndexed schema after.own (remove (under written empty) key)
       → IsSetTo before.removed after.removed bytes true → StoresWritten schema after (insert written key None)
-  stores_removed bytes fit is own sets = stores_write None own
-      (λ q fits. ap (λ b. is_some (cond (eq_by_cmp key_cmp q key) None (get (under written empty) q)) || b) (key_removed before.removed after.removed key bytes fit is sets q fits)
+  stores_removed bytes is own sets = stores_write None own
+      (λ q fits. ap (λ b. is_some (cond (eq_by_cmp key_cmp q key) None (get (under written empty) q)) || b) (key_removed before.removed after.removed key bytes key_fit is sets q fits)
       ∙ by_test q (eq_by_cmp key_cmp q key))
+      (λ other held. one_more other (is_at (slice_cmp nat_cmp bytes) other) refl (sym (sets other) ∙ held))
     where
+      one_more : (other : List ℕ) (b : Bool) → is_at (slice_cmp nat_cmp bytes) other ≡ b → cond b true (holds_key before.removed other) ≡ true → IsOfKey other
+      one_more other true tied held = (key, key_fit, sym (slice_cmp-IsAntisymmetric nat_cmp-IsAntisymmetric bytes other (eq_is (slice_cmp nat_cmp bytes other) tied)) ∙ is)
+      one_more other false apart held = stores.removed other held
+
       by_test : (q : Key) (b : Bool)
           → (is_some (cond b None (get (under written (empty {X = List ℕ} {R = key_cmp})) q)) || cond b true (holds_key before.removed (comparable_of q)))
           ≡ cond b true (is_some (get (under written (empty {X = List ℕ} {R = key_cmp})) q) || holds_key before.removed (comparable_of q))
@@ -179,6 +195,8 @@ stores_still schema before after written stores same own = record {
       hides_by schema after (under written empty) key own fit
       ∙ ap (λ r. is_some (get (under written empty) key) || holds_key r (comparable_of key)) same
       ∙ sym (hides_by schema before (under written empty) key stores.own fit) ∙ stores.keys key fit;
+  removed = λ bytes held. stores.removed bytes (ap (λ r. holds_key r bytes) (sym same) ∙ held);
+  fit = stores.fit;
 }
 
 -- a key was taken back
@@ -192,6 +210,8 @@ stores_again schema before after middle written bytes stores own new put taken =
       hides_by schema after (under written empty) key own fit
       ∙ ap (λ b. is_some (get (under written empty) key) || b) (back_again before.removed middle after.removed bytes new put taken (comparable_of key))
       ∙ sym (hides_by schema before (under written empty) key stores.own fit) ∙ stores.keys key fit;
+  removed = λ other held. stores.removed other (sym (back_again before.removed middle after.removed bytes new put taken other) ∙ held);
+  fit = stores.fit;
 }
 
 -- the indexes are those of the space that is described

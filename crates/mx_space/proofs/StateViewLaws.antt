@@ -17,7 +17,7 @@ use Rattle.mx_space.specs.declared.space.Space.{Space}
 use Rattle.mx_space.specs.declared.state_view.StateView.{StateView}
 use Rattle.mx_space.specs.declared.view.SpaceView.{SpaceView}
 use Rattle.mx_space.specs.Built.{AreLong}
-use Rattle.mx_space.specs.Kept.{StoresIndexed}
+use Rattle.mx_space.specs.Kept.{HoldsOneEach, StoresIndexed}
 use Rattle.mx_space.specs.Overlays.{OwnWrites, StoresOver, under}
 use Rattle.mx_space.specs.OwnChanges.{HoldsOwnIn, HoldsView, Shows, ShowsSpace, overlaid_in, written_by}
 use Rattle.mx_space.specs.Reserves.{PlainChange}
@@ -96,6 +96,21 @@ module _ (schema : Option Schema) (view : SpaceView) (tuples : Tuples) (shows : 
     pub unique_shown : def.unique ≡ true → AreUnique def (under shows.written shows.all)
     unique_shown unique =
         subst (AreUnique def) shows.is (index_has (λ one. one.unique ≡ true → AreUnique one tuples) def.id.0 view.space.now.schema.indexes def there (keyed tuples shows.shown).2.unique unique)
+
+    one_each : (some : Tuples) → AreKeyed schema some → (def.id.0 ≡ 0) ⊎ (def.unique ≡ true) → HoldsOneEach def some
+    one_each some are (inl first) = inl first
+    one_each some are (inr unique) = inr (
+      unique,
+      index_has (λ one. one.unique ≡ true → AreUnique one some) def.id.0 view.space.now.schema.indexes def there (keyed some are).2.unique unique,
+      index_has (λ one. HaveKeys one some) def.id.0 view.space.now.schema.indexes def there (keyed some are).2.have,
+    )
+
+    -- in a unique index each tuple has its key alone, of those that are stored and of those that are shown
+    pub one_each_stored : (def.id.0 ≡ 0) ⊎ (def.unique ≡ true) → HoldsOneEach def shows.all
+    one_each_stored = one_each shows.all shows.stored
+
+    pub one_each_shown : (def.id.0 ≡ 0) ⊎ (def.unique ≡ true) → HoldsOneEach def (under shows.written shows.all)
+    one_each_shown unique = subst (HoldsOneEach def) shows.is (one_each tuples shows.shown unique)
 
 -- a space that shows another's tuples shows rows that describe spaces or indexes
 source_describes : (id : ℕ) → (source_of id == id) ≡ false → (source_of id ≡ space_rows) ⊎ (source_of id ≡ index_rows)

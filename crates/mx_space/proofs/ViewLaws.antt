@@ -18,6 +18,7 @@ use Rattle.mx_schema.proofs.StoredLaws.{other_index}
 use Rattle.mx_schema.proofs.TakenLaws.{each_found}
 use Rattle.mx_space.specs.declared.overlay.OverlaidSpace.{OverlaidSpace}
 use Rattle.mx_space.specs.declared.space.Space.{Space}
+use Rattle.mx_space.specs.Built.{AreLong}
 use Rattle.mx_space.specs.Changes.{index_kept}
 use Rattle.mx_space.specs.Entries.{IndexEntry, first_from}
 use Rattle.mx_space.specs.Kept.{HoldsOneEach, StoresEntries, StoresIndexed, kept_entries}
@@ -89,6 +90,12 @@ pub stores_own : (schema : Option Schema) (over : OverlaidSpace) (written : OwnW
     → StoresIndexed schema own (under written empty)
 stores_own schema over written own writes same = subst (λ s. StoresIndexed schema s (under written empty)) (sym same) writes.own
 
+-- and its keys are as long
+pub own_long : (schema : Option Schema) (space : Space) (over : OverlaidSpace) (all : Tuples) (written : OwnWrites) (primary : IndexDef) → StoresIndexed schema space all
+    → StoresWritten schema over written → index_with 0 space.schema.indexes ≡ Some primary → AreLong (length primary.key) (under written empty)
+own_long schema space over all written primary stores writes first =
+    space_long schema over.own (under written empty) primary writes.own (index_of_own schema space over all written 0 primary over.own stores writes refl first)
+
 -- what each tuple that is seen has, each own one has
 pub each_own : (P : Indexed → Type 0) (written : OwnWrites) (all : Tuples) → AllByRecursion P (entries (under written all)) → AllByRecursion P (entries (under written empty))
 each_own P written all have = through (entries (under written empty)) (each_is_found (under written empty))
@@ -130,15 +137,15 @@ module _ (def : IndexDef) (apart : def.id.0 ≢ 0) (tuples : Tuples) (each : Hol
   same_holder one other tuple here there = one_holder def unique.0 tuples unique.1 unique.2 one other tuple tuple here there refl
 
 -- the primary key that the first entry from a key leads to
-pub holder_is : (schema : Option Schema) (space : Space) (all : Tuples) (primary def : IndexDef) (wanted : Key) → StoresIndexed schema space all
-    → index_with 0 space.schema.indexes ≡ Some primary → index_with def.id.0 space.schema.indexes ≡ Some def → HoldsOneEach def all → def.id.0 ≢ 0 → AreFit wanted
+pub holder_is : (schema : Option Schema) (space : Space) (all : Tuples) (def : IndexDef) (wanted : Key) → StoresIndexed schema space all
+    → (long : ℕ) → AreLong long all → index_with def.id.0 space.schema.indexes ≡ Some def → HoldsOneEach def all → def.id.0 ≢ 0 → AreFit wanted
     → (kept : List IndexEntry) → Some kept ≡ index_kept def.id.0 space.schema.indexes space.indexes.items
     → (key entry own : List ℕ) → key ≡ comparable_of wanted → first_from key kept ≡ Some (entry, own) → entry ≡ key ++ own → IsHolder def all wanted own
-holder_is schema space all primary def wanted stores first there each apart fit kept is key entry own key_is begins joined =
-    let index = index_found schema space all primary def wanted stores first there each fit apart (Some kept) is in
+holder_is schema space all def wanted stores long whole there each apart fit kept is key entry own key_is begins joined =
+    let index = index_found schema space all def wanted stores long whole there each fit apart (Some kept) is in
     let keeps : StoresEntries kept (kept_entries def all) = subst (λ one. StoresEntries one (kept_entries def all)) (same_some index.0 kept (sym index.1)) index.2 in
     let unique = unique_of def all apart each in
-    let found = first_is_of def unique.0 all unique.1 unique.2 wanted (length primary.key) (space_long schema space all primary stores first) (ne_eqb def.id.0 0 apart) fit kept keeps entry own
+    let found = first_is_of def unique.0 all unique.1 unique.2 wanted long whole (ne_eqb def.id.0 0 apart) fit kept keeps entry own
     (ap (λ k. first_from k kept) (sym key_is) ∙ begins) (joined ∙ ap (λ k. k ++ own) key_is) in
     record { own = found.0; fit = found.1; is = found.2; holds = found.3 }
 

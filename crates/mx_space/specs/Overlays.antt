@@ -1,5 +1,5 @@
 -- What a transaction sees of a space: its tuples under the transaction's own writes.
-use Rattle.std.specs.Prelude.{◌≡◌, ◌||◌, ℕ, Bool, List, [], ◌∷◌, Option, Some, None, is_some}
+use Rattle.std.specs.Prelude.{◌≡◌, ◌||◌, ℕ, Bool, true, List, [], ◌∷◌, Option, Some, None, is_some}
 use Rattle.std.specs.BTreeMap.{is_at}
 use Rattle.std.specs.BTreeSet.{contains}
 use Rattle.std.specs.Cmp.Lexicographic.{slice_cmp}
@@ -38,10 +38,16 @@ under written all = with_writes (entries written) all
 abbrev pub hides : OverlaidSpace → (key : List ℕ) → Bool
 hides over key = is_some (lookup (is_at (slice_cmp nat_cmp key)) over.own.tuples.entries) || contains (slice_cmp nat_cmp) over.removed key
 
+-- these are the comparable bytes of a key, whose numbers have 64 bits
+abbrev pub IsOfKey : List ℕ → Type 0
+IsOfKey bytes = (key : Key) × AreFit key × (bytes ≡ comparable_of key)
+
 -- memory has these writes in a space that is described so: the tuples that were put, with their entries, and the keys that were written
 pub record StoresWritten (schema : Option Schema) (over : OverlaidSpace) (written : OwnWrites) : Type 0 where
   pub own : StoresIndexed schema over.own (under written empty)
   pub keys : (key : Key) → AreFit key → hides over (comparable_of key) ≡ is_some (get written key)
+  pub removed : (bytes : List ℕ) → contains (slice_cmp nat_cmp) over.removed bytes ≡ true → IsOfKey bytes
+  pub fit : (key : Key) → is_some (get written key) ≡ true → AreFit key
 
 -- the writes of an overlay, where there is one; none where there isn't
 abbrev pub StoresOver : (schema : Option Schema) → Option OverlaidSpace → OwnWrites → Type 0

@@ -1,6 +1,7 @@
 //! A transaction's own writes in all spaces.
 
 ghost use Rattle.std.specs.Prelude.{◌≡◌, ℕ, List, [], ◌∷◌, Option, Some, None, Ok, IfOk, OnOk, OnErr};
+ghost use Rattle.std.specs.FinMap as finite;
 ghost use Rattle.std.specs.List.{AllByRecursion, AllZip};
 ghost use Rattle.std.specs.Option.{option_copied};
 ghost use Rattle.mx_key.specs.Comparable.{comparable_of};
@@ -10,6 +11,7 @@ ghost use Rattle.mx_schema.specs.declared.schema.Schema as described;
 ghost use Rattle.mx_schema.specs.Catalogues.{index_with};
 ghost use Rattle.mx_schema.specs.State as plain;
 ghost use Rattle.mx_schema.specs.State.{key_in};
+ghost use Rattle.mx_space.specs.Overlays.{StoresWritten};
 ghost use Rattle.mx_space.specs.OwnChanges.{HoldsOwn, overlaid, state_with_own};
 ghost use Rattle.mx_space.specs.Reserves.{AreApart, MayStand, PlainChange, SpellsChange, state_with_all};
 ghost use Rattle.mx_space.specs.Stored.{HoldsBy};
@@ -121,7 +123,9 @@ impl Overlay {
 }
 
 /// No writes in a space that is described as this one.
-fn first_writes(alloc: Global, stored: &Space) -> Result<OverlaidSpace, AllocError> {
+fn first_writes(alloc: Global, stored: &Space) -> Result<OverlaidSpace, AllocError>
+    ensures { IfOk result (λ over. StoresWritten (Some stored.now.schema) over finite.empty) }
+{
     OverlaidSpace::new(alloc, stored.schema().copy(alloc)?)
 }
 

@@ -75,15 +75,12 @@ impl<'a> SpaceView<'a> {
             → index_with def.now.id.0 self.entry.space.now.schema.indexes ≡ Some def.now → (def.now.id.0 ≡ 0) ⊎ (def.now.unique ≡ true)
             → AreFit wanted → key.now ≡ comparable_of wanted → option_copied result ≡ finite.get (tuples_by_index def.now tuples) wanted }
     {
-        let Some(over) = self.over else {
-            return self.space.holder(def, key);
-        };
         if def.id.0 == 0 {
             return self.tuple(key);
         }
-        match over.own().holder(def, key) {
-            Some(tuple) => Some(tuple),
-            None => shown_holder(self.space, over, def, key),
+        match self.over {
+            Some(over) => holder_under(self.space, over, def, key),
+            None => unique_holder(self.space, def, key),
         }
     }
 
@@ -123,6 +120,35 @@ impl<'a> SpaceView<'a> {
     }
 }
 
+/// The tuple that is seen under writes and has a key in a unique index of another number than 0.
+fn holder_under<'a>(
+    space: &'a Space,
+    over: &'a OverlaidSpace,
+    def: &IndexDef,
+    key: &Bytes,
+) -> Option<&'a [u8]>
+    ensures { (schema : Option described.Schema) (all : plain.Tuples) (written : OwnWrites) (long : ℕ) (wanted : Key) → StoresIndexed schema space.now all
+        → StoresWritten schema over.now written → AreLong long all → AreLong long (under written finite.empty) → index_with def.now.id.0 space.now.schema.indexes ≡ Some def.now
+        → HoldsOneEach def.now all → HoldsOneEach def.now (under written all) → def.now.id.0 ≢ 0 → AreFit wanted → key.now ≡ comparable_of wanted
+        → option_copied result ≡ finite.get (tuples_by_index def.now (under written all)) wanted }
+{
+    match unique_holder(over.own(), def, key) {
+        Some(tuple) => Some(tuple),
+        None => shown_holder(space, over, def, key),
+    }
+}
+
+/// The tuple of a space that has a key in a unique index of another number than 0.
+fn unique_holder<'a>(space: &'a Space, def: &IndexDef, key: &Bytes) -> Option<&'a [u8]>
+    ensures { (schema : Option described.Schema) (all : plain.Tuples) (long : ℕ) (wanted : Key) → StoresIndexed schema space.now all
+        → AreLong long all → index_with def.now.id.0 space.now.schema.indexes ≡ Some def.now
+        → HoldsOneEach def.now all → def.now.id.0 ≢ 0 → AreFit wanted → key.now ≡ comparable_of wanted
+        → option_copied result ≡ finite.get (tuples_by_index def.now all) wanted }
+{
+    let primary = holder_key(space, def, key)?;
+    space.tuple(primary)
+}
+
 /// The tuple of a space that has a key in a unique index of another number than 0, unless the transaction
 /// wrote it. No tuple that the transaction put has the key.
 fn shown_holder<'a>(
@@ -131,8 +157,8 @@ fn shown_holder<'a>(
     def: &IndexDef,
     key: &Bytes,
 ) -> Option<&'a [u8]>
-    ensures { (schema : Option described.Schema) (all : plain.Tuples) (written : OwnWrites) (primary : indexed.IndexDef) (wanted : Key) → StoresIndexed schema space.now all
-        → StoresWritten schema over.now written → index_with 0 space.now.schema.indexes ≡ Some primary → index_with def.now.id.0 space.now.schema.indexes ≡ Some def.now
+    ensures { (schema : Option described.Schema) (all : plain.Tuples) (written : OwnWrites) (long : ℕ) (wanted : Key) → StoresIndexed schema space.now all
+        → StoresWritten schema over.now written → AreLong long all → index_with def.now.id.0 space.now.schema.indexes ≡ Some def.now
         → HoldsOneEach def.now all → HoldsOneEach def.now (under written all) → def.now.id.0 ≢ 0 → AreFit wanted → key.now ≡ comparable_of wanted
         → finite.get (tuples_by_index def.now (under written finite.empty)) wanted ≡ None
         → option_copied result ≡ finite.get (tuples_by_index def.now (under written all)) wanted }
@@ -146,8 +172,8 @@ fn shown_holder<'a>(
 
 /// The primary key of the tuple that has a key in a unique index of another number than 0.
 fn holder_key<'a>(space: &'a Space, def: &IndexDef, key: &Bytes) -> Option<&'a Bytes>
-    ensures { (schema : Option described.Schema) (all : plain.Tuples) (primary : indexed.IndexDef) (wanted : Key) → StoresIndexed schema space.now all
-        → index_with 0 space.now.schema.indexes ≡ Some primary → index_with def.now.id.0 space.now.schema.indexes ≡ Some def.now
+    ensures { (schema : Option described.Schema) (all : plain.Tuples) (long : ℕ) (wanted : Key) → StoresIndexed schema space.now all
+        → AreLong long all → index_with def.now.id.0 space.now.schema.indexes ≡ Some def.now
         → HoldsOneEach def.now all → def.now.id.0 ≢ 0 → AreFit wanted → key.now ≡ comparable_of wanted → MatchOption result
         (None ≡ finite.get (tuples_by_index def.now all) wanted)
         (λ own. IsHolder def.now all wanted own.now) }

@@ -10,7 +10,7 @@ pub returns-clause-ok : goal.returns-clause-ok
 returns-clause-ok c = λ schema written primary key stores there keyed fit is.
     let before = c.args.self.now in
     let after : OverlaidSpace = record { own = c.put.new.self; removed = before.removed } in
-    on_ok_weaker c.put.result (λ own. stores_put (Some schema) before after written key stores c.args.keyed.tuple own refl)
+    on_ok_weaker c.put.result (λ own. stores_put (Some schema) before after written key stores fit c.args.keyed.tuple own refl)
     (c.put.ensures.ok (Some schema) (under written empty) primary key stores.own (own_index schema before written 0 primary stores there) keyed fit is)
 
 pub returns-clause-err : goal.returns-clause-err

@@ -5,7 +5,7 @@ use Rattle.std.specs.FinMap.{empty}
 use Rattle.std.specs.Ordering.{nat_cmp}
 use Rattle.mx_space.specs.declared.overlay.OverlaidSpace.{OverlaidSpace}
 use Rattle.mx_space.specs.Overlays.{under}
-use Rattle.mx_space.proofs.OverlayLaws.{IsSetTo, not_held, own_index, stores_again, stores_removed}
+use Rattle.mx_space.proofs.OverlayLaws.{IsSetTo, not_held, own_index, stores_again, stores_removed, stores_still}
 use Rattle.mx_space.proofs.overlay.OverlaidSpace.remove.Goals as goal
 
 pub returns-then-is_new-clause-err : goal.returns-then-is_new-clause-err
@@ -23,5 +23,12 @@ pub returns-clause-ok : goal.returns-clause-ok
 returns-clause-ok c = λ schema written primary wanted stores there fit is.
     let first = own_index schema c.args.self.now written 0 primary stores there in
     let after : OverlaidSpace = record { own = c.remove.new.self; removed = c.insert.new.self } in
-    stores_removed (Some schema) c.args.self.now after written wanted stores c.in_ok-copy.copy fit (c.in_ok-copy.ensures ∙ c.as_slice.ensures ∙ is)
+    stores_removed (Some schema) c.args.self.now after written wanted stores fit c.in_ok-copy.copy (c.in_ok-copy.ensures ∙ c.as_slice.ensures ∙ is)
     (c.in_default.ensures.ok (Some schema) (under written empty) primary wanted stores.own first fit is) c.in_ok-is_new.ensures.updates.0
+
+pub returns-else-is_new-clause-err : goal.returns-else-is_new-clause-err
+returns-else-is_new-clause-err c = λ schema written stores.
+    let before = c.args.self.now in
+    let after : OverlaidSpace = record { own = c.remove.new.self; removed = c.insert.new.self } in
+    let same : after.removed.keys ≡ before.removed.keys = rw c.if-is_new.false at c.in_ok-is_new.ensures.unchanged in
+    stores_still schema before after written stores (λ i. record { keys = same i }) (c.in-Err.ensures.err schema (under written empty) stores.own)

@@ -1,37 +1,41 @@
-use Rattle.std.proofs.Common.{sym, ap, ◌∙◌, subst}
+use Rattle.std.proofs.Common.{◌≡◌, ℕ, List, Option, None, Some, length, sym, ap, ◌∙◌, subst}
 use Rattle.std.specs.FinMap as finite
 use Rattle.std.specs.Option.{option_copied}
 use Rattle.mx_schema.specs.Picks.{tuples_by_index}
+use Rattle.mx_schema.specs.State.{Tuples}
 use Rattle.mx_space.specs.Overlays.{StoresOver, StoresWritten, under}
-use Rattle.mx_space.proofs.ViewLaws.{index_of_own, no_writes, own_holds, own_one_each, stores_own}
+use Rattle.mx_space.proofs.SpaceLaws.{space_long}
+use Rattle.mx_space.proofs.StateViewLaws.{long_both, one_each_shown, one_each_stored}
+use Rattle.mx_space.proofs.ViewLaws.{each_own, no_writes, own_long}
 use Rattle.mx_space.proofs.view.SpaceView.holder.Goals as goal
 
-pub returns-in_default : goal.returns-in_default
-returns-in_default c = λ schema all written primary wanted sees first there each each_seen fit is.
-    c.holder.ensures schema all primary wanted sees.state first there each fit is
-    ∙ ap (λ t. finite.get (tuples_by_index c.args.def.now t) wanted)
-    (sym (no_writes all written (option_copied c.args.self.over) schema sees.over (ap option_copied c.in_default.is)))
+pub returns-in-None-clause-sees : goal.returns-in-None-clause-sees
+returns-in-None-clause-sees c = λ schema all written primary wanted sees first there each each_seen fit is.
+    c.unique_holder.ensures schema all (length primary.key) wanted sees.state (space_long schema c.args.self.space.now all primary sees.state first) there each c.if-def-eq0.false fit is
+    ∙ ap (λ (t : Tuples). finite.get (tuples_by_index c.args.def.now t) wanted) (sym (no_writes all written (option_copied c.args.self.over) schema sees.over (ap option_copied c.in-None.is)))
 
-pub returns-in-Some-holder : goal.returns-in-Some-holder
-returns-in-Some-holder c = λ schema all written primary wanted sees first there each each_seen fit is.
+pub returns-in-None-clause-shown : goal.returns-in-None-clause-shown
+returns-in-None-clause-shown c = λ schema tuples wanted shows there unique fit is.
+    let view = c.args.self in
     let def = c.args.def.now in
-    let over = c.in-Some.over.now in
-    let own = c.own.result.now in
-    let writes : StoresWritten schema over written = subst (λ o. StoresOver schema o written) (ap option_copied c.in-Some.is) sees.over in
-    let held = c.holder-2.ensures schema (under written finite.empty) primary wanted (stores_own schema over written own writes c.own.ensures)
-    (index_of_own schema c.args.self.space.now over all written 0 primary own sees.state writes c.own.ensures first)
-    (index_of_own schema c.args.self.space.now over all written def.id.0 def own sees.state writes c.own.ensures there)
-    (own_one_each def written all each_seen) fit is in
-    own_holds def c.if-def-eq0.false written all each each_seen wanted c.in-Some-holder.tuple.now (sym held ∙ ap option_copied c.in-Some-holder.is)
+    let long = long_both schema view tuples shows in
+    c.unique_holder.ensures schema shows.all long.0 wanted shows.sees.state long.1 there (one_each_stored schema view tuples shows def there unique) c.if-def-eq0.false fit is
+    ∙ ap (λ (t : Tuples). finite.get (tuples_by_index def t) wanted)
+    (sym (shows.is ∙ no_writes shows.all shows.written (option_copied view.over) schema shows.sees.over (ap option_copied c.in-None.is)))
 
-pub returns-in-None : goal.returns-in-None
-returns-in-None c = λ schema all written primary wanted sees first there each each_seen fit is.
+pub returns-in-Some-clause-sees : goal.returns-in-Some-clause-sees
+returns-in-Some-clause-sees c = λ schema all written primary wanted sees first there each each_seen fit is.
+    let space = c.args.self.space.now in
+    let writes : StoresWritten schema c.in-Some.over.now written = subst (λ o. StoresOver schema o written) (ap option_copied c.in-Some.is) sees.over in
+    c.holder_under.ensures schema all written (length primary.key) wanted sees.state writes (space_long schema space all primary sees.state first)
+    (own_long schema space c.in-Some.over.now all written primary sees.state writes first) there each each_seen c.if-def-eq0.false fit is
+
+pub returns-in-Some-clause-shown : goal.returns-in-Some-clause-shown
+returns-in-Some-clause-shown c = λ schema tuples wanted shows there unique fit is.
+    let view = c.args.self in
     let def = c.args.def.now in
-    let over = c.in-Some.over.now in
-    let own = c.own.result.now in
-    let writes : StoresWritten schema over written = subst (λ o. StoresOver schema o written) (ap option_copied c.in-Some.is) sees.over in
-    let held = c.holder-2.ensures schema (under written finite.empty) primary wanted (stores_own schema over written own writes c.own.ensures)
-    (index_of_own schema c.args.self.space.now over all written 0 primary own sees.state writes c.own.ensures first)
-    (index_of_own schema c.args.self.space.now over all written def.id.0 def own sees.state writes c.own.ensures there)
-    (own_one_each def written all each_seen) fit is in
-    c.shown_holder.ensures schema all written primary wanted sees.state writes first there each each_seen c.if-def-eq0.false fit is (sym held ∙ ap option_copied c.in-None.is)
+    let long = long_both schema view tuples shows in
+    let writes : StoresWritten schema c.in-Some.over.now shows.written = subst (λ o. StoresOver schema o shows.written) (ap option_copied c.in-Some.is) shows.sees.over in
+    c.holder_under.ensures schema shows.all shows.written long.0 wanted shows.sees.state writes long.1 (each_own (λ entry. length entry.0 ≡ long.0) shows.written shows.all long.2) there
+    (one_each_stored schema view tuples shows def there unique) (one_each_shown schema view tuples shows def there unique) c.if-def-eq0.false fit is
+    ∙ ap (λ (t : Tuples). finite.get (tuples_by_index def t) wanted) (sym shows.is)

@@ -1,0 +1,57 @@
+-- What memory holds of own changes after one more.
+use Rattle.std.proofs.Common.{◌≡◌, ℕ, Bool, true, false, cond, List, [], ◌∷◌, Option, Some, None, refl, sym, ap, ◌∙◌, subst, arith, eqb-true, eq-eqb}
+use Rattle.std.specs.Prelude.{◌==◌, if◌then◌else◌}
+use Rattle.std.specs.BTreeMap.{is_at}
+use Rattle.std.specs.FinMap.{empty, insert}
+use Rattle.std.specs.Ordering.{nat_cmp}
+use Rattle.std.proofs.lemmas.Bool.Decides.{nat_tests}
+use Rattle.mx_schema.specs.declared.schema.Schema.{Schema}
+use Rattle.mx_space.specs.declared.overlay.OverlaidSpace.{OverlaidSpace}
+use Rattle.mx_space.specs.declared.own_changes.Overlay.{Overlay}
+use Rattle.mx_space.specs.Overlays.{OwnWrites, StoresOver, StoresWritten}
+use Rattle.mx_space.specs.OwnChanges.{HoldsOwn, overlaid, written_by}
+use Rattle.mx_space.specs.Reserves.{MayStand, PlainChange}
+
+at_number : (a b : ℕ) → is_at (nat_cmp a) b ≡ (a == b)
+at_number a b = grind (arith, nat_tests)
+
+-- the writes in one space are others now
+abbrev pub SetsWrites : (old new : Overlay) → (id : ℕ) → OverlaidSpace → Type 0
+SetsWrites old new id over = (q : ℕ) → overlaid q new ≡ cond (is_at (nat_cmp id) q) (Some over) (overlaid q old)
+
+module _ (schemas : ℕ → Option Schema) (old new : Overlay) (own : List PlainChange) (holds : HoldsOwn schemas old own) where
+  -- one space has its writes
+  holds_at : (id : ℕ) (over : OverlaidSpace) (later : List PlainChange) → SetsWrites old new id over
+      → ((q : ℕ) → (id == q) ≡ false → written_by q later ≡ written_by q own)
+      → StoresWritten (schemas id) over (written_by id later) → (q : ℕ) → StoresOver (schemas q) (overlaid q new) (written_by q later)
+  holds_at id over later sets others here q = by_test (id == q) refl
+    where
+      by_test : (b : Bool) → (id == q) ≡ b → StoresOver (schemas q) (overlaid q new) (written_by q later)
+      by_test true e =
+          subst (λ o. StoresOver (schemas q) o (written_by q later)) (sym (sets q ∙ ap (λ b. cond b (Some over) (overlaid q old)) (at_number id q ∙ e)))
+          (subst (λ n. StoresWritten (schemas n) over (written_by n later)) (eqb-true id q e) here)
+      by_test false e =
+          subst (λ o. StoresOver (schemas q) o (written_by q later)) (sym (sets q ∙ ap (λ b. cond b (Some over) (overlaid q old)) (at_number id q ∙ e)))
+          (subst (StoresOver (schemas q) (overlaid q old)) (sym (others q e)) (holds.each q))
+
+  -- a change more
+  pub holds_more : (change : PlainChange) (over : OverlaidSpace) → SetsWrites old new change.space over → MayStand schemas change
+      → StoresWritten (schemas change.space) over (insert (written_by change.space own) change.key change.tuple) → HoldsOwn schemas new (change ∷ own)
+  holds_more change over sets stands here = record {
+    each = holds_at change.space over (change ∷ own) sets
+        (λ q apart. ap (λ b. if b then insert (written_by q own) change.key change.tuple else written_by q own) apart)
+        (subst (λ b. StoresWritten (schemas change.space) over (if b then insert (written_by change.space own) change.key change.tuple else written_by change.space own))
+        (sym (eq-eqb change.space change.space refl)) here);
+    stand = (stands, holds.stand);
+  }
+
+  -- as before
+  pub holds_still : (id : ℕ) (over : OverlaidSpace) → SetsWrites old new id over → StoresWritten (schemas id) over (written_by id own) → HoldsOwn schemas new own
+  holds_still id over sets here = record { each = holds_at id over own sets (λ q apart. refl) here; stand = holds.stand }
+
+  -- the writes in a space
+  pub writes_there : (id : ℕ) (over : OverlaidSpace) → overlaid id old ≡ Some over → StoresWritten (schemas id) over (written_by id own)
+  writes_there id over there = subst (λ o. StoresOver (schemas id) o (written_by id own)) there (holds.each id)
+
+  pub none_there : (id : ℕ) → overlaid id old ≡ None → written_by id own ≡ empty
+  none_there id there = subst (λ o. StoresOver (schemas id) o (written_by id own)) there (holds.each id)
