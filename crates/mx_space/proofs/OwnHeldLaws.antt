@@ -1,13 +1,20 @@
 -- What memory holds of own changes after one more.
 use Rattle.std.proofs.Common.{◌≡◌, ℕ, Bool, true, false, cond, List, [], ◌∷◌, Option, Some, None, refl, sym, ap, ◌∙◌, subst, arith, eqb-true, eq-eqb}
 use Rattle.std.specs.Prelude.{◌==◌, if◌then◌else◌}
-use Rattle.std.specs.BTreeMap.{is_at}
+use Rattle.std.specs.BTreeMap as tree
+use Rattle.std.specs.BTreeMap.{BTreeMap, is_at}
 use Rattle.std.specs.FinMap.{empty, insert}
 use Rattle.std.specs.Ordering.{nat_cmp}
 use Rattle.std.proofs.lemmas.Bool.Decides.{nat_tests}
 use Rattle.mx_schema.specs.declared.schema.Schema.{Schema}
 use Rattle.mx_space.specs.declared.overlay.OverlaidSpace.{OverlaidSpace}
 use Rattle.mx_space.specs.declared.own_changes.Overlay.{Overlay}
+use Rattle.mx_schema.specs.State.{State, tuples_in}
+use Rattle.mx_space.specs.declared.space.Space.{Space}
+use Rattle.mx_space.specs.declared.state.State as coded
+use Rattle.mx_space.specs.Kept.{StoresIndexed}
+use Rattle.mx_space.specs.Spaces.{space_under}
+use Rattle.mx_space.specs.Stored.{HoldsBy, HoldsSpace}
 use Rattle.mx_space.specs.Overlays.{OwnWrites, StoresOver, StoresWritten}
 use Rattle.mx_space.specs.OwnChanges.{HoldsOwn, overlaid, written_by}
 use Rattle.mx_space.specs.Reserves.{MayStand, PlainChange}
@@ -53,5 +60,20 @@ module _ (schemas : ℕ → Option Schema) (old new : Overlay) (own : List Plain
   pub writes_there : (id : ℕ) (over : OverlaidSpace) → overlaid id old ≡ Some over → StoresWritten (schemas id) over (written_by id own)
   writes_there id over there = subst (λ o. StoresOver (schemas id) o (written_by id own)) there (holds.each id)
 
-  pub none_there : (id : ℕ) → overlaid id old ≡ None → written_by id own ≡ empty
+  none_there : (id : ℕ) → overlaid id old ≡ None → written_by id own ≡ empty
   none_there id there = subst (λ o. StoresOver (schemas id) o (written_by id own)) there (holds.each id)
+
+  -- a first change in a space, where a map that was as before got its writes
+  pub holds_first : (change : PlainChange) (over : OverlaidSpace) (lent : BTreeMap ℕ OverlaidSpace) → lent ≡ old.spaces
+      → ((q : ℕ) → overlaid q new ≡ cond (is_at (nat_cmp change.space) q) (Some over) (tree.get nat_cmp lent q)) → overlaid change.space old ≡ None → MayStand schemas change
+      → StoresWritten (schemas change.space) over (insert empty change.key change.tuple) → HoldsOwn schemas new (change ∷ own)
+  holds_first change over lent same sets none stands stores =
+      holds_more change over (λ q. sets q ∙ ap (λ (m : BTreeMap ℕ OverlaidSpace). cond (is_at (nat_cmp change.space) q) (Some over) (tree.get nat_cmp m q)) same) stands
+      (subst (λ (w : OwnWrites). StoresWritten (schemas change.space) over (insert w change.key change.tuple)) (sym (none_there change.space none)) stores)
+
+-- no writes in a space that is described as one of a state
+pub none_in : (schemas : ℕ → Option Schema) (memory : coded.State) (base : State) (id : ℕ) (stored : Space) (schema : Schema) (over : OverlaidSpace) → HoldsBy schemas memory base
+    → Some stored ≡ space_under id memory.spaces.entries.items → schemas id ≡ Some schema → StoresWritten (Some stored.schema) over empty → StoresWritten (Some schema) over empty
+none_in schemas memory base id stored schema over holds there described none =
+    let stores : StoresIndexed (schemas id) stored (tuples_in base id) = subst (λ o. HoldsSpace (schemas id) o (tuples_in base id)) (sym there) (holds id) in
+    subst (λ s. StoresWritten s over empty) (sym stores.holds.is ∙ described) none
