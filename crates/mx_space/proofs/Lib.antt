@@ -20,7 +20,9 @@ pub mod MemberLaws
 pub mod MergedLaws
 pub mod OverlayLaws
 pub mod OwnChangeLaws
+pub mod OwnCommitLaws
 pub mod OwnHeldLaws
+pub mod OwnOrderLaws
 pub mod PartLaws
 pub mod PickLaws
 pub mod PlaceLaws

@@ -6,6 +6,7 @@ pub mod Kept
 pub mod KeptKeys
 pub mod Overlays
 pub mod OwnChanges
+pub mod OwnCommit
 pub mod Reserved
 pub mod Reserves
 pub mod Scans

@@ -1,9 +1,13 @@
 //! A transaction's own writes in all spaces.
 
-ghost use Rattle.std.specs.Prelude.{◌≡◌, ℕ, List, [], ◌∷◌, Option, Some, None, Ok, IfOk, OnOk, OnErr};
+ghost use Rattle.std.specs.Prelude.{◌≡◌, ℕ, List, [], ◌∷◌, ◌++◌, Option, Some, None, Ok, IfOk, OnOk, OnErr};
+ghost use Rattle.std.specs.Cmp.Lexicographic.{slice_cmp};
 ghost use Rattle.std.specs.FinMap as finite;
 ghost use Rattle.std.specs.List.{AllByRecursion, AllZip};
+ghost use Rattle.std.specs.List.Sorted.{IsStrictlySortedBy};
+ghost use Rattle.std.specs.Map.{keys_of};
 ghost use Rattle.std.specs.Option.{option_copied};
+ghost use Rattle.std.specs.Ordering.{nat_cmp};
 ghost use Rattle.mx_key.specs.Comparable.{comparable_of};
 ghost use Rattle.mx_key.specs.Keys.{Key, AreFit};
 ghost use Rattle.mx_schema.specs.declared.index_def.IndexDef as indexed;
@@ -13,9 +17,11 @@ ghost use Rattle.mx_schema.specs.State as plain;
 ghost use Rattle.mx_schema.specs.State.{key_in};
 ghost use Rattle.mx_space.specs.Overlays.{StoresWritten};
 ghost use Rattle.mx_space.specs.OwnChanges.{HoldsOwn, overlaid, state_with_own};
+ghost use Rattle.mx_space.specs.OwnCommit.{AreOrdered, changes_in, puts_in, removals_in};
 ghost use Rattle.mx_space.specs.Reserves.{AreApart, MayStand, PlainChange, SpellsChange, state_with_all};
 ghost use Rattle.mx_space.specs.Stored.{HoldsBy};
 
+use crate::copy::copy_of;
 use crate::overlay::OverlaidSpace;
 use crate::space::Space;
 use crate::state::State;
@@ -115,8 +121,7 @@ impl Overlay {
     {
         let mut changes = TupleChanges::new(alloc);
         for (space, over) in &self.spaces {
-            add_puts(alloc, SpaceId(*space), over, &mut changes)?;
-            add_removals(alloc, SpaceId(*space), over, &mut changes)?;
+            add_changes(alloc, SpaceId(*space), over, &mut changes)?;
         }
         Ok(changes)
     }
@@ -129,37 +134,56 @@ fn first_writes(alloc: Global, stored: &Space) -> Result<OverlaidSpace, AllocErr
     OverlaidSpace::new(alloc, stored.schema().copy(alloc)?)
 }
 
-/// Adds the tuples that were put.
+/// Adds the changes of one space.
+fn add_changes(
+    alloc: Global,
+    space: SpaceId,
+    over: &OverlaidSpace,
+    changes: &mut TupleChanges,
+) -> Result<(), AllocError>
+    ensures adds { OnOk result (changes.new ≡ changes.old ++ changes_in (space.0, over.now)) }
+    ensures ordered { OnOk result (AreOrdered over.now) }
+{
+    add_puts(alloc, space, over, changes)?;
+    add_removals(alloc, space, over, changes)?;
+    Ok(())
+}
+
 fn add_puts(
     alloc: Global,
     space: SpaceId,
     over: &OverlaidSpace,
     changes: &mut TupleChanges,
-) -> Result<(), AllocError> {
+) -> Result<(), AllocError>
+    ensures adds { OnOk result (changes.new ≡ changes.old ++ puts_in space.0 over.now) }
+    ensures ordered { OnOk result (IsStrictlySortedBy (slice_cmp nat_cmp) (keys_of over.now.own.tuples.entries)) }
+{
     for (key, tuple) in over.own().tuples() {
         changes.push(TupleChange {
             space,
-            key: Bytes::from_slice(alloc, key.as_slice())?,
-            tuple: Some(Bytes::from_slice(alloc, tuple.as_slice())?),
+            key: copy_of(alloc, key)?,
+            tuple: Some(copy_of(alloc, tuple)?),
         })?;
     }
     Ok(())
 }
 
-/// Adds the keys that were taken out and have no tuple since.
 fn add_removals(
     alloc: Global,
     space: SpaceId,
     over: &OverlaidSpace,
     changes: &mut TupleChanges,
-) -> Result<(), AllocError> {
+) -> Result<(), AllocError>
+    ensures adds { OnOk result (changes.new ≡ changes.old ++ removals_in space.0 over.now) }
+    ensures ordered { OnOk result (IsStrictlySortedBy (slice_cmp nat_cmp) over.now.removed.keys) }
+{
     for key in over.removed() {
         if over.own().tuples().contains_key(key) {
             continue;
         }
         changes.push(TupleChange {
             space,
-            key: Bytes::from_slice(alloc, key.as_slice())?,
+            key: copy_of(alloc, key)?,
             tuple: None,
         })?;
     }
