@@ -19,6 +19,7 @@ pub mod MapLaws
 pub mod MemberLaws
 pub mod MergedLaws
 pub mod OverlayLaws
+pub mod OwnApartLaws
 pub mod OwnChangeLaws
 pub mod OwnCommitLaws
 pub mod OwnHeldLaws

@@ -91,7 +91,7 @@ key_removed before after key bytes fit is sets q fits =
     ∙ ap (λ b. cond (is_at (slice_cmp nat_cmp b) (comparable_of q)) true (holds_key before (comparable_of q))) is
     ∙ ap (λ b. cond b true (holds_key before (comparable_of q))) (same_tie key q fit fits)
 
-eq_is : (o : Ordering) → is_eq o ≡ true → o ≡ Equal
+pub eq_is : (o : Ordering) → is_eq o ≡ true → o ≡ Equal
 eq_is Less e = absurd cc
 eq_is Equal e = refl
 eq_is Greater e = absurd cc

@@ -19,7 +19,7 @@ use Rattle.mx_space.specs.Overlays.{OwnWrites, StoresOver, StoresWritten}
 use Rattle.mx_space.specs.OwnChanges.{HoldsOwn, overlaid, written_by}
 use Rattle.mx_space.specs.Reserves.{MayStand, PlainChange}
 
-at_number : (a b : ℕ) → is_at (nat_cmp a) b ≡ (a == b)
+pub at_number : (a b : ℕ) → is_at (nat_cmp a) b ≡ (a == b)
 at_number a b = grind (arith, nat_tests)
 
 -- the writes in one space are others now
