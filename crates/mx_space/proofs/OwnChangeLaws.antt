@@ -1,15 +1,13 @@
 -- A state under own changes: its tuples, what describes its spaces, and what memory holds of the changes.
-use Rattle.std.proofs.Common.{◌≡◌, ◌≢◌, ℕ, Bool, true, false, cond, List, [], ◌∷◌, Option, Some, None, refl, sym, ap, ◌∙◌, subst, arith, eqb-true}
+use Rattle.std.proofs.Common.{◌≡◌, ◌≢◌, ℕ, Bool, true, false, List, [], ◌∷◌, Option, Some, None, refl, sym, ap, ◌∙◌, arith, eqb-true}
 use Rattle.std.specs.Prelude.{◌==◌, if◌then◌else◌}
 use Rattle.std.specs.FinMap.{empty, entries, get, insert, remove}
 use Rattle.std.specs.List.{AllByRecursion, filter}
-use Rattle.std.specs.Option.{option_copied}
 use Rattle.std.proofs.lemmas.Bool.{ne_eqb}
 use Rattle.std.proofs.lemmas.Bool.Decides.{nat_tests}
 use Rattle.mx_msgpack.specs.Readers.{◌>>=◌}
 use Rattle.mx_key.specs.Keys.{Key, Integer, is_key_prefix}
 use Rattle.std.specs.Prelude.{pos}
-use Rattle.mx_schema.specs.declared.schema.Schema.{Schema}
 use Rattle.mx_schema.specs.declared.space_def.SpaceDef.{SpaceDef}
 use Rattle.mx_schema.specs.Catalogues.{index_defs, schema_by, schema_of}
 use Rattle.mx_schema.specs.SpaceRows.{space_in}

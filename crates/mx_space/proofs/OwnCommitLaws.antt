@@ -1,43 +1,35 @@
 -- The changes that a commit of own writes makes are those of the writes.
-use Rattle.std.proofs.Common.{◌≡◌, ◌≢◌, ℕ, Bool, true, false, cond, not, List, [], ◌∷◌, ◌++◌, map, Option, Some, None, refl, sym, ap, ◌∙◌, subst, true≢false, eqb-true, eq-eqb, reverse, nat_cmp, arith}
+use Rattle.std.proofs.Common.{◌≡◌, ◌≢◌, ℕ, Bool, true, false, cond, not, List, [], ◌∷◌, ◌++◌, map, Option, Some, None, refl, sym, ap, ◌∙◌, subst, true≢false, eqb-true, eq-eqb, nat_cmp}
 use Rattle.std.specs.Prelude.{◌==◌, ◌||◌, if◌then◌else◌, is_some}
 use Rattle.std.specs.declared.cmp.Ordering.TheVariants.{Less, Equal}
-use Rattle.std.specs.BTreeMap as tree
 use Rattle.std.specs.BTreeMap.{is_at}
 use Rattle.std.specs.BTreeSet.{contains}
 use Rattle.std.specs.Cmp.Lexicographic.{slice_cmp}
-use Rattle.std.specs.FinMap.{empty, entries, get, get-empty, nat_cmp-IsAntisymmetric, slice_cmp-IsAntisymmetric}
+use Rattle.std.specs.FinMap.{empty, get, get-empty, nat_cmp-IsAntisymmetric, slice_cmp-IsAntisymmetric}
 use Rattle.std.specs.List.{AllByRecursion, AllZip, filter, flat_map, list_any}
 use Rattle.std.specs.List.Sorted.{IsStrictlySortedBy}
 use Rattle.std.specs.Map.{keys_of, lookup}
 use Rattle.std.specs.Option.{option_map, option_or, unwrap_or}
-use Rattle.std.specs.Ordering.{eq_by_cmp, is_eq}
+use Rattle.std.specs.Ordering.{is_eq}
 use Rattle.std.proofs.lemmas.Bool.{ne_eqb}
-use Rattle.std.proofs.lemmas.Bool.Decides.{nat_tests}
-use Rattle.std.proofs.lemmas.Cmp.{nat_cmp_total, nat_list_cmp_total, tied_itself}
+use Rattle.std.proofs.lemmas.Cmp.{nat_cmp_total, tied_itself}
 use Rattle.std.proofs.lemmas.List.{append_assoc}
-use Rattle.std.proofs.lemmas.List.Kept.{IsStrictlySortedBy-filter}
-use Rattle.mx_msgpack.proofs.Options.{same_some}
 use Rattle.mx_key.specs.Keys.{Key, AreFit, key_cmp}
 use Rattle.mx_key.specs.Comparable.{comparable_of}
 use Rattle.mx_key.proofs.EncodingLaws.{bytes_order}
 use Rattle.mx_schema.specs.declared.schema.Schema.{Schema}
-use Rattle.mx_schema.specs.Picks.{Indexed}
-use Rattle.mx_schema.specs.State.{State, Tuples}
-use Rattle.mx_schema.specs.Stored.{StoredTuple, stored_tuple}
+use Rattle.mx_schema.specs.Stored.{StoredTuple}
 use Rattle.mx_schema.proofs.TakenLaws.{stored_get}
 use Rattle.mx_space.specs.declared.overlay.OverlaidSpace.{OverlaidSpace}
-use Rattle.mx_space.specs.declared.own_changes.Overlay.{Overlay}
 use Rattle.mx_space.specs.declared.tuple_changes.TupleChange.{TupleChange}
-use Rattle.mx_space.specs.Overlays.{IsOfKey, OwnWrites, StoresOver, StoresWritten, hides, under}
-use Rattle.mx_space.specs.OwnChanges.{HoldsOwn, overlaid, state_with_own, written_by}
-use Rattle.mx_space.specs.OwnCommit.{AreOrdered, changes_in, is_gone, put_change, puts_in, removal, removals_in}
-use Rattle.mx_space.specs.Reserves.{AreApart, IsApart, MayStand, PlainChange, SpellsChange, state_with_all}
-use Rattle.mx_space.proofs.EntriesLaws.{tied_is}
+use Rattle.mx_space.specs.Overlays.{OwnWrites, StoresWritten, hides, under}
+use Rattle.mx_space.specs.OwnChanges.{written_by}
+use Rattle.mx_space.specs.OwnCommit.{changes_in, is_gone, put_change, puts_in, removal, removals_in}
+use Rattle.mx_space.specs.Reserves.{PlainChange, SpellsChange}
 use Rattle.mx_space.proofs.OverlayLaws.{eq_is, get-under}
 use Rattle.mx_space.proofs.OwnChangeLaws.{turned}
 use Rattle.mx_space.proofs.OwnHeldLaws.{at_number}
-use Rattle.mx_space.proofs.OwnOrderLaws.{IsWritten, all_as_own, all_written, get-reversed, get-written, same_states, written_at, written_may_stand, writes_there}
+use Rattle.mx_space.proofs.OwnOrderLaws.{get-written, written_at, writes_there}
 
 -- ---- one change after the other
 

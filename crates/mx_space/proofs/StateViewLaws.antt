@@ -1,5 +1,5 @@
 -- What a view of a state shows of one space.
-use Rattle.std.proofs.Common.{◌≡◌, ℕ, Bool, Bor, true, false, List, [], length, Option, Some, None, inl, inr, refl, sym, ap, ◌∙◌, subst, eq-eqb, true≢false}
+use Rattle.std.proofs.Common.{◌≡◌, ℕ, Bool, Bor, true, false, List, length, Option, Some, None, inl, inr, refl, sym, ap, ◌∙◌, subst, eq-eqb, true≢false}
 use Rattle.std.specs.Prelude.{◌⊎◌, ◌==◌, IfSome, if◌then◌else◌}
 use Rattle.std.specs.FinMap.{empty, entries}
 use Rattle.std.specs.Option.{option_copied}
@@ -11,15 +11,13 @@ use Rattle.mx_schema.specs.State.{State, Tuples, index_rows, shown_index_rows, s
 use Rattle.mx_schema.specs.Stored.{StandByPrimary, StoresNone}
 use Rattle.mx_schema.proofs.PartLaws.{stand_whole}
 use Rattle.mx_schema.proofs.StoredLaws.{each_none}
-use Rattle.mx_space.specs.declared.overlay.OverlaidSpace.{OverlaidSpace}
 use Rattle.mx_space.specs.declared.own_changes.Overlay.{Overlay}
-use Rattle.mx_space.specs.declared.space.Space.{Space}
 use Rattle.mx_space.specs.declared.state_view.StateView.{StateView}
 use Rattle.mx_space.specs.declared.view.SpaceView.{SpaceView}
 use Rattle.mx_space.specs.Built.{AreLong}
 use Rattle.mx_space.specs.Kept.{HoldsOneEach, StoresIndexed}
-use Rattle.mx_space.specs.Overlays.{OwnWrites, StoresOver, under}
-use Rattle.mx_space.specs.OwnChanges.{HoldsOwnIn, HoldsView, Shows, ShowsSpace, overlaid_in, written_by}
+use Rattle.mx_space.specs.Overlays.{StoresOver, under}
+use Rattle.mx_space.specs.OwnChanges.{HoldsOwnIn, HoldsView, Shows, overlaid_in, written_by}
 use Rattle.mx_space.specs.Reserves.{PlainChange}
 use Rattle.mx_space.specs.Spaces.{space_under}
 use Rattle.mx_space.specs.Stored.{HoldsSpace}

@@ -1,4 +1,4 @@
-use Rattle.std.proofs.Common.{◌≡◌, ℕ, List, Some, None, sym, ap, ◌∙◌, subst, true≢false}
+use Rattle.std.proofs.Common.{ℕ, List, sym, ap, ◌∙◌, subst, true≢false}
 use Rattle.std.specs.FinMap.{empty}
 use Rattle.std.specs.Option.{option_copied}
 use Rattle.mx_key.specs.Keys.{key_cmp}

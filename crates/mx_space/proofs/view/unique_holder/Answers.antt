@@ -1,4 +1,4 @@
-use Rattle.std.proofs.Common.{sym, ap, ◌∙◌}
+use Rattle.std.proofs.Common.{ap, ◌∙◌}
 use Rattle.std.specs.Option.{option_copied}
 use Rattle.mx_space.specs.Overlays.{IsHolder}
 use Rattle.mx_space.proofs.view.unique_holder.Goals as goal

@@ -1,4 +1,4 @@
-use Rattle.std.proofs.Common.{◌≡◌, ℕ, sym, ap, ◌∙◌, subst, eqb-true, nat_eq}
+use Rattle.std.proofs.Common.{◌≡◌, sym, ap, ◌∙◌, subst, eqb-true, nat_eq}
 use Rattle.std.specs.FinMap.{entries}
 use Rattle.mx_schema.specs.Catalogues.{schema_of}
 use Rattle.mx_schema.specs.Picks.{tuples_by_index}

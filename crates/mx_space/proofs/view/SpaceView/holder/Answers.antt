@@ -1,9 +1,9 @@
-use Rattle.std.proofs.Common.{◌≡◌, ℕ, List, Option, None, Some, length, sym, ap, ◌∙◌, subst}
+use Rattle.std.proofs.Common.{◌≡◌, length, sym, ap, ◌∙◌, subst}
 use Rattle.std.specs.FinMap as finite
 use Rattle.std.specs.Option.{option_copied}
 use Rattle.mx_schema.specs.Picks.{tuples_by_index}
 use Rattle.mx_schema.specs.State.{Tuples}
-use Rattle.mx_space.specs.Overlays.{StoresOver, StoresWritten, under}
+use Rattle.mx_space.specs.Overlays.{StoresOver, StoresWritten}
 use Rattle.mx_space.proofs.SpaceLaws.{space_long}
 use Rattle.mx_space.proofs.StateViewLaws.{long_both, one_each_shown, one_each_stored}
 use Rattle.mx_space.proofs.ViewLaws.{each_own, no_writes, own_long}
