@@ -12,7 +12,7 @@ ghost use Rattle.mx_write.specs.Judge.{row_refusal};
 use mx_base::Refusal;
 use mx_row::RowRef;
 use mx_space::State;
-use mx_write::{Scope, Writer, write_of};
+use mx_write::{Notes, Scope, Writer, write_of};
 use std::alloc::Global;
 
 /// Applies a row of a journal.
@@ -32,7 +32,7 @@ pub fn apply_row(state: &mut State, alloc: Global, row: &RowRef<'_>) -> Result<(
         writer: Writer::Journal,
         space: row.space,
     };
-    match scope.judge(&write)? {
+    match scope.judge(&write, &mut Notes::off())? {
         Some(made) => Ok(made.install(alloc, state, row.space)?),
         None => Ok(()),
     }

@@ -13,7 +13,7 @@ use mx_msgpack::Bytes;
 use mx_schema::array_or_empty;
 use mx_space::State;
 use mx_tuple::MAX_TUPLE_SIZE;
-use mx_write::{Scope, Writer};
+use mx_write::{Notes, Scope, Writer};
 use std::alloc::{AllocError, Global};
 use std::process::Abort;
 use std::test::Fail;
@@ -25,7 +25,7 @@ pub(crate) fn put(
     state: &mut State,
     tuple: &[u8],
 ) -> Result<(), AllocError> {
-    let made = replace_in(state, alloc).replace(array_or_empty(tuple));
+    let made = replace_in(state, alloc).replace(array_or_empty(tuple), &mut Notes::off());
     let made = made.expect(rt, "no key");
     made.install(alloc, state, SpaceId(512))
 }
@@ -146,7 +146,7 @@ fn check_fault(
     told: Told<'_>,
 ) -> Result<(), AllocError> {
     let refused = replace_in(state, alloc)
-        .replace(array_or_empty(tuple))
+        .replace(array_or_empty(tuple), &mut Notes::off())
         .err();
     let refusal = refused.expect(rt, "the tuple has a key");
     check_refusal(rt, alloc, &refusal, told)

@@ -5,7 +5,7 @@ use crate::replace::state_of;
 use mx_base::{Refusal, SpaceId, code_of};
 use mx_schema::array_or_empty;
 use mx_space::State;
-use mx_write::{Effect, Made, Scope, Writer};
+use mx_write::{Effect, Made, Notes, Scope, Writer};
 use std::alloc::{AllocError, Global};
 use std::process::Abort;
 use std::test::Fail;
@@ -70,12 +70,12 @@ fn judge_all(rt: &impl Abort, alloc: Global) -> Result<(), AllocError> {
         let scope = scope_in(&state, alloc, Writer::Client, *space);
         let array = array_or_empty(tuple);
         assert_eq!(rt;
-            code_in(scope.insert(array)),
+            code_in(scope.insert(array, &mut Notes::off())),
             *inserted,
             "INSERT of {tuple:?} into {space}"
         );
         assert_eq!(rt;
-            code_in(scope.replace(array)),
+            code_in(scope.replace(array, &mut Notes::off())),
             *replaced,
             "REPLACE of {tuple:?} in {space}"
         );
@@ -89,7 +89,7 @@ fn a_journal_may_set_the_leader(rt: HostRuntime) -> Result<(), Fail> {
     let state = state_of(&rt, alloc, &[])?;
     let scope = scope_in(&state, alloc, Writer::Journal, 272);
     let leader = array_or_empty(b"\x92\xa6leader\x02");
-    assert_eq!(&rt; code_in(scope.replace(leader)), 0);
+    assert_eq!(&rt; code_in(scope.replace(leader, &mut Notes::off())), 0);
     Ok(())
 }
 
@@ -117,7 +117,7 @@ fn a_journal_writes_rows_of_nodes(rt: HostRuntime) -> Result<(), Fail> {
     let scope = scope_in(&state, alloc, Writer::Journal, 320);
     for (tuple, inserted) in NODES {
         let array = array_or_empty(tuple);
-        assert_eq!(&rt; code_in(scope.insert(array)), *inserted, "{tuple:?}");
+        assert_eq!(&rt; code_in(scope.insert(array, &mut Notes::off())), *inserted, "{tuple:?}");
     }
     Ok(())
 }
@@ -127,7 +127,7 @@ fn an_insert_has_its_key_and_its_tuple(rt: HostRuntime) -> Result<(), Fail> {
     let alloc = rt.alloc();
     let state = state_of(&rt, alloc, &[])?;
     let scope = scope_in(&state, alloc, Writer::Client, 512);
-    let made = scope.insert(array_or_empty(b"\x91\xcc\x02"));
+    let made = scope.insert(array_or_empty(b"\x91\xcc\x02"), &mut Notes::off());
     let made = made.expect(&rt, "no key");
     assert_eq!(&rt;
         made.key.as_slice(),

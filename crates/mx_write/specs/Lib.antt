@@ -1,6 +1,7 @@
 pub mod Writes
 pub mod Reads
 pub mod Judged
+pub mod Notes
 pub mod Lookup
 pub mod Writable
 pub mod Checks

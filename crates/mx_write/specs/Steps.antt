@@ -14,6 +14,11 @@ use Rattle.mx_schema.specs.State.{State, index_rows, key_in, tuples_in}
 use Rattle.mx_space.specs.Kept.{StoresIndexed}
 use Rattle.mx_space.specs.Stored.{Holds}
 use Rattle.mx_write.specs.declared.scope.Target.{Target}
+use Rattle.mx_write.specs.declared.writable.Writer.{Writer}
+use Rattle.mx_write.specs.Checks.{tuple_fault}
+use Rattle.mx_write.specs.Judged.{Judged, unless, ◌>>=◌}
+use Rattle.mx_write.specs.Lookup.{the_index, the_space}
+use Rattle.mx_write.specs.Writable.{write_refusal}
 
 -- a check passes, or refuses so, or memory ran out
 abbrev pub Refuses : Refusal → Option Refusal → Type 0
@@ -44,6 +49,15 @@ pub record IsTarget (before : State) (target : Target) : Type 0 where
   pub stored : StoresIndexed (schema_of before target.scope.space.0) target.stored.now (tuples_in before target.scope.space.0)
   pub schema : target.schema.now ≡ target.stored.now.schema
   pub primary : index_with 0 target.schema.now.indexes ≡ Some target.primary.now
+
+-- the stages of a write that puts a tuple, before its own ones
+abbrev pub in_target : {X : Type 0} → Writer → State → (space type : ℕ) → (tuple : List ℕ) → (rest : Schema → IndexDef → Judged X) → Judged X
+in_target writer before space type tuple rest = do
+  schema ← the_space before space
+  _ ← unless (write_refusal writer space type (Some tuple))
+  primary ← the_index space schema 0
+  _ ← unless (tuple_fault schema primary tuple)
+  rest schema primary
 
 -- these are the comparable bytes of this key, where there is one
 abbrev pub IsKeyOf : (bytes : Option (List ℕ)) → Option Key → Type 0

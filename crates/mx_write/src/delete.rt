@@ -9,12 +9,14 @@ ghost use Rattle.mx_schema.specs.State.{key_in};
 ghost use Rattle.mx_space.specs.Stored.{Holds};
 ghost use Rattle.mx_write.specs.Delete.{delete_found, deletes};
 ghost use Rattle.mx_write.specs.Makes.{JudgesFound, JudgesMade};
+ghost use Rattle.mx_write.specs.Notes.{NotesJudged};
 ghost use Rattle.mx_write.specs.Steps.{IsTarget};
 ghost use Rattle.mx_write.specs.Writes as statement;
 
 use crate::descriptions::check_drop;
 use crate::entry::{Entry, row_key};
 use crate::made::{Effect, Made, make};
+use crate::notes::Notes;
 use crate::scope::{Scope, Target};
 use crate::writable::write_refusal;
 use crate::write::{DELETE, Write};
@@ -28,12 +30,19 @@ impl Scope<'_> {
     ///
     /// # Errors
     /// Why it is refused.
-    pub fn delete(self, index: IndexId, key: &[u8]) -> Result<Option<Made>, Refusal>
+    pub fn delete(
+        self,
+        index: IndexId,
+        key: &[u8],
+        notes: &mut Notes,
+    ) -> Result<Option<Made>, Refusal>
         requires array { IsArray key.now }
-        ensures { (before : plain.State) → Holds self.entry.state.now before
+        ensures judges { (before : plain.State) → Holds self.entry.state.now before
             → JudgesFound before self.entry.space.0 (statement.Delete index.0 key.now) result (deletes self.entry.writer before self.entry.space.0 index.0 key.now) }
+        ensures notes { (before : plain.State) → Holds self.entry.state.now before
+            → NotesJudged notes.old notes.new result (deletes self.entry.writer before self.entry.space.0 index.0 key.now) }
     {
-        let (target, found) = self.find(DELETE, index, key)?;
+        let (target, found) = self.find(DELETE, index, key, notes)?;
         match found {
             Some(entry) => Ok(Some(remove(&target, index, key, entry)?)),
             None => Ok(None),

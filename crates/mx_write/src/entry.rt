@@ -1,6 +1,7 @@
 //! The tuple that has a key in a unique index.
 
-ghost use Rattle.std.specs.Prelude.{◌≡◌, ◌∷◌, [], true, Option, None, Some, Ok, IfOk, MatchOption, MatchResult};
+ghost use Rattle.std.specs.Prelude.{◌≡◌, ◌⊎◌, ◌∷◌, [], true, Option, None, Some, Ok, IfOk, MatchOption, MatchResult};
+ghost use Rattle.mx_base.specs.declared.refusal.Refusal.TheVariants.{OutOfMemory};
 ghost use Rattle.mx_key.specs.Arrays.{key_array};
 ghost use Rattle.mx_key.specs.Comparable.{comparable_of};
 ghost use Rattle.mx_key.specs.Keys.{Key, AreFit};
@@ -18,11 +19,13 @@ ghost use Rattle.mx_write.specs.Lookup as lookup;
 ghost use Rattle.mx_write.specs.Lookup.{entry_with, is_unique, the_key, the_primary, the_space, the_unique_index};
 ghost use Rattle.mx_write.specs.Made.{Made};
 ghost use Rattle.mx_write.specs.Makes.{IsRefusedBy};
+ghost use Rattle.mx_write.specs.Notes.{AddsReads, IsNotedUpTo};
 ghost use Rattle.mx_write.specs.Reads.{key_read};
 ghost use Rattle.mx_write.specs.Steps.{IsKeyOf, IsTarget};
 ghost use Rattle.mx_write.specs.Writable as writable;
 
 use crate::lookup::{find_index, find_key, find_space, find_unique_index};
+use crate::notes::Notes;
 use crate::scope::{Scope, Target};
 use crate::writable::{primary_name, write_refusal};
 use mx_base::{IndexId, Refusal};
@@ -49,9 +52,10 @@ impl<'a> Scope<'a> {
         kind: u8,
         index: IndexId,
         key: &[u8],
+        notes: &mut Notes,
     ) -> Result<(Target<'a>, Option<Entry<'a>>), Refusal>
         requires array { IsArray key.now }
-        ensures { (before : plain.State) (rest : Schema → IndexDef → Option Indexed → Judged Made) → Holds self.entry.state.now before →
+        ensures judges { (before : plain.State) (rest : Schema → IndexDef → Option Indexed → Judged Made) → Holds self.entry.state.now before →
             let whole = the_space before self.entry.space.0 and_then λ schema.
             unless (writable.write_refusal self.entry.writer self.entry.space.0 kind (writable.primary_name index.0 key.now)) and_then λ _.
             the_unique_index self.entry.space.0 schema index.0 and_then λ def.
@@ -65,16 +69,33 @@ impl<'a> Scope<'a> {
             (λ entry. (own : Key) × (whole.outcome ≡ (rest found.0.schema.now found.0.primary.now (Some (own, entry.tuple.now))).outcome)
             × AreFit own × (entry.key ≡ comparable_of own) × (key_in found.0.primary.now.key entry.tuple.now ≡ Ok own)))
             (λ refusal. IsRefusedBy refusal whole) }
+        ensures notes { (before : plain.State) (rest : Schema → IndexDef → Option Indexed → Judged Made) → Holds self.entry.state.now before →
+            let whole = the_space before self.entry.space.0 and_then λ schema.
+            unless (writable.write_refusal self.entry.writer self.entry.space.0 kind (writable.primary_name index.0 key.now)) and_then λ _.
+            the_unique_index self.entry.space.0 schema index.0 and_then λ def.
+            the_primary schema and_then λ primary.
+            the_key def key.now and_then λ asked.
+            reads_of (key_read self.entry.space.0 index.0 asked ∷ []) and_then λ _.
+            rest schema primary (entry_with before self.entry.space.0 primary def asked) in
+            MatchResult result
+            (λ found. MatchOption found.1
+            (IsNotedUpTo notes.old notes.new whole (rest found.0.schema.now found.0.primary.now None))
+            (λ entry. (own : Key) → key_in found.0.primary.now.key entry.tuple.now ≡ Ok own
+            → IsNotedUpTo notes.old notes.new whole (rest found.0.schema.now found.0.primary.now (Some (own, entry.tuple.now)))))
+            (λ refusal. (refusal ≡ OutOfMemory) ⊎ AddsReads notes.old notes.new whole.reads) }
     {
+        notes.note_space(self.alloc, self.space)?;
         let stored = find_space(self.state, self.space)?;
         let named = primary_name(index, key);
         if let Some(refusal) = write_refusal(self.writer, self.space, kind, named) {
             return Err(refusal);
         }
+        notes.note_indexes(self.alloc, self.space)?;
         let schema = stored.schema();
         let def = find_unique_index(self.alloc, schema, index)?;
         let primary = find_index(self.alloc, schema, IndexId(0))?;
         let asked = find_key(self.alloc, def, key)?;
+        notes.note_key(self.alloc, self.space, index, asked.as_slice())?;
         let target = Target {
             scope: self,
             stored,

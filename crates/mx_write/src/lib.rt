@@ -11,10 +11,12 @@ mod judge;
 mod laws;
 mod lookup;
 mod made;
+mod notes;
 mod operations;
 mod place;
 mod replace;
 mod scope;
+mod target;
 mod unique;
 mod update;
 mod upsert;
@@ -28,6 +30,7 @@ pub use lookup::{
     find_index, find_key, find_space, find_unique_index, index_missing, not_built, type_of,
 };
 pub use made::{Effect, Made, make, row_of};
+pub use notes::Notes;
 pub use operations::{update_tuple, upsert_tuple};
 pub use scope::Scope;
 pub use writable::{Writer, primary_name, write_refusal};

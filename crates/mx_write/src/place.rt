@@ -7,12 +7,14 @@ ghost use Rattle.mx_key.specs.Keys.{Key, AreFit};
 ghost use Rattle.mx_schema.specs.State as plain;
 ghost use Rattle.mx_write.specs.Made.{row_with};
 ghost use Rattle.mx_write.specs.Makes.{JudgesMade, shown_if};
+ghost use Rattle.mx_write.specs.Notes.{NotesJudged};
 ghost use Rattle.mx_write.specs.Steps.{IsTarget};
 ghost use Rattle.mx_write.specs.Update as spec;
 ghost use Rattle.mx_write.specs.Views.{write_view};
 
 use crate::checks::check_bytes;
 use crate::made::{Effect, Made, make};
+use crate::notes::Notes;
 use crate::scope::Target;
 use crate::unique::duplicate_in_others;
 use crate::write::Write;
@@ -30,10 +32,13 @@ pub(crate) fn put_in_place(
     row_key: Bytes,
     tuple: Bytes,
     is_shown: bool,
+    notes: &mut Notes,
 ) -> Result<Made, Refusal>
-    ensures { (before : plain.State) (own : Key) → IsTarget before target.now → AreFit own → key ≡ comparable_of own
+    ensures judges { (before : plain.State) (own : Key) → IsTarget before target.now → AreFit own → key ≡ comparable_of own
         → row_with target.now.scope.space.0 (write_view write.now) row_key ≡ row_with target.now.scope.space.0 (write_view write.now) (key_array own)
         → JudgesMade before target.now.scope.space.0 (write_view write.now) result
+        (spec.put_in_place before target.now.scope.space.0 target.now.schema.now target.now.primary.now (write_view write.now) own tuple (shown_if is_shown tuple)) }
+    ensures notes { (before : plain.State) (own : Key) → IsTarget before target.now → AreFit own → key ≡ comparable_of own → NotesJudged notes.old notes.new result
         (spec.put_in_place before target.now.scope.space.0 target.now.schema.now target.now.primary.now (write_view write.now) own tuple (shown_if is_shown tuple)) }
 {
     let scope = target.scope;
@@ -42,7 +47,7 @@ pub(crate) fn put_in_place(
         let space = Name::from_slice(scope.alloc, target.schema.def.name.as_slice())?;
         return Err(Refusal::PrimaryKeyChanged { space });
     }
-    if let Some(refusal) = duplicate_in_others(target, Some(&key), tuple.as_slice())? {
+    if let Some(refusal) = duplicate_in_others(target, Some(&key), tuple.as_slice(), notes)? {
         return Err(refusal);
     }
     make(

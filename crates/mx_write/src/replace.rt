@@ -4,17 +4,16 @@ ghost use Rattle.mx_msgpack.specs.Items.{IsArray};
 ghost use Rattle.mx_schema.specs.State as plain;
 ghost use Rattle.mx_space.specs.Stored.{Holds};
 ghost use Rattle.mx_write.specs.Makes.{JudgesMade};
+ghost use Rattle.mx_write.specs.Notes.{NotesJudged};
 ghost use Rattle.mx_write.specs.Replace.{replaces};
 ghost use Rattle.mx_write.specs.Writes as statement;
 
-use crate::checks::check_tuple;
-use crate::lookup::{find_index, find_space};
 use crate::made::{Effect, Made, make};
-use crate::scope::{Scope, Target};
+use crate::notes::Notes;
+use crate::scope::Scope;
 use crate::unique::duplicate_in_others;
-use crate::writable::write_refusal;
 use crate::write::{REPLACE, Write};
-use mx_base::{IndexId, Refusal};
+use mx_base::Refusal;
 use mx_msgpack::Bytes;
 
 impl Scope<'_> {
@@ -22,25 +21,15 @@ impl Scope<'_> {
     ///
     /// # Errors
     /// Why it is refused.
-    pub fn replace(self, tuple: &[u8]) -> Result<Made, Refusal>
+    pub fn replace(self, tuple: &[u8], notes: &mut Notes) -> Result<Made, Refusal>
         requires array { IsArray tuple.now }
-        ensures { (before : plain.State) → Holds self.entry.state.now before
+        ensures judges { (before : plain.State) → Holds self.entry.state.now before
             → JudgesMade before self.entry.space.0 (statement.Replace tuple.now) result (replaces self.entry.writer before self.entry.space.0 tuple.now) }
+        ensures notes { (before : plain.State) → Holds self.entry.state.now before
+            → NotesJudged notes.old notes.new result (replaces self.entry.writer before self.entry.space.0 tuple.now) }
     {
-        let stored = find_space(self.state, self.space)?;
-        if let Some(refusal) = write_refusal(self.writer, self.space, REPLACE, Some(tuple)) {
-            return Err(refusal);
-        }
-        let schema = stored.schema();
-        let primary = find_index(self.alloc, schema, IndexId(0))?;
-        let key = check_tuple(self.alloc, schema, primary, tuple)?;
-        let target = Target {
-            scope: self,
-            stored,
-            schema,
-            primary,
-        };
-        if let Some(refusal) = duplicate_in_others(&target, Some(&key), tuple)? {
+        let (target, key) = self.find_target(REPLACE, tuple, notes)?;
+        if let Some(refusal) = duplicate_in_others(&target, Some(&key), tuple, notes)? {
             return Err(refusal);
         }
         let effect = Effect::Put {

@@ -7,9 +7,11 @@ ghost use Rattle.mx_schema.specs.Catalogues.{index_with};
 ghost use Rattle.mx_schema.specs.State as plain;
 ghost use Rattle.mx_write.specs.Steps.{IsReplaced, IsTarget, refusal_of};
 ghost use Rattle.mx_write.specs.Lookup.{other_indexes};
+ghost use Rattle.mx_write.specs.Notes.{AddsReads};
 ghost use Rattle.mx_write.specs.Unique as spec;
 
 use crate::descriptions::described_space;
+use crate::notes::Notes;
 use crate::scope::Target;
 use mx_base::{Name, Refusal};
 use mx_msgpack::Bytes;
@@ -22,16 +24,20 @@ pub(crate) fn duplicate_in_others(
     target: &Target<'_>,
     replaced: Option<&Bytes>,
     tuple: &[u8],
+    notes: &mut Notes,
 ) -> Result<Option<Refusal>, AllocError>
-    ensures { (before : plain.State) (key : Option Key) → IsTarget before target.now → IsReplaced (option_copied replaced.entry) key
+    ensures finds { (before : plain.State) (key : Option Key) → IsTarget before target.now → IsReplaced (option_copied replaced.entry) key
         → IfOk result (λ found. found ≡ refusal_of (spec.are_free before target.now.scope.space.0 target.now.schema.now target.now.primary.now key tuple.now
         (other_indexes target.now.schema.now.indexes)).outcome) }
+    ensures notes { (before : plain.State) (key : Option Key) → IsTarget before target.now → IsReplaced (option_copied replaced.entry) key
+        → IfOk result (λ found. AddsReads notes.old notes.new (spec.are_free before target.now.scope.space.0 target.now.schema.now target.now.primary.now key tuple.now
+        (other_indexes target.now.schema.now.indexes)).reads) }
 {
     for def in target.schema.indexes.as_slice() {
         if def.id.0 == 0 || !def.unique {
             continue;
         }
-        if let Some(refusal) = duplicate_in(target, replaced, tuple, def)? {
+        if let Some(refusal) = duplicate_in(target, replaced, tuple, def, notes)? {
             return Ok(Some(refusal));
         }
     }
@@ -43,12 +49,17 @@ fn duplicate_in(
     replaced: Option<&Bytes>,
     tuple: &[u8],
     def: &IndexDef,
+    notes: &mut Notes,
 ) -> Result<Option<Refusal>, AllocError>
-    ensures { (before : plain.State) (key : Option Key) → IsTarget before target.now → IsReplaced (option_copied replaced.entry) key
+    ensures finds { (before : plain.State) (key : Option Key) → IsTarget before target.now → IsReplaced (option_copied replaced.entry) key
         → index_with def.now.id.0 target.now.schema.now.indexes ≡ Some def.now → def.now.unique ≡ true
         → IfOk result (λ found. found ≡ refusal_of (spec.is_free before target.now.scope.space.0 target.now.schema.now target.now.primary.now key tuple.now def.now).outcome) }
+    ensures notes { (before : plain.State) (key : Option Key)
+        → IfOk result (λ found. AddsReads notes.old notes.new (spec.is_free before target.now.scope.space.0 target.now.schema.now target.now.primary.now key tuple.now def.now).reads) }
 {
-    let key = parts_or_none(target.scope.alloc, &def.key, tuple)?;
+    let alloc = target.scope.alloc;
+    let key = parts_or_none(alloc, &def.key, tuple)?;
+    notes.note_key(alloc, target.scope.space, def.id, key.as_slice())?;
     let Some(holder) = target.stored.holder(def, &key) else {
         return Ok(None);
     };

@@ -8,12 +8,14 @@ ghost use Rattle.mx_schema.specs.State as plain;
 ghost use Rattle.mx_schema.specs.State.{key_in};
 ghost use Rattle.mx_space.specs.Stored.{Holds};
 ghost use Rattle.mx_write.specs.Makes.{JudgesFound, JudgesMade};
+ghost use Rattle.mx_write.specs.Notes.{NotesJudged};
 ghost use Rattle.mx_write.specs.Steps.{IsTarget};
 ghost use Rattle.mx_write.specs.Update.{update_found, updates};
 ghost use Rattle.mx_write.specs.Writes as statement;
 
 use crate::entry::{Entry, row_key};
 use crate::made::Made;
+use crate::notes::Notes;
 use crate::operations::update_tuple;
 use crate::place::put_in_place;
 use crate::scope::{Scope, Target};
@@ -34,15 +36,21 @@ impl Scope<'_> {
         base: u32,
         key: &[u8],
         operations: &[u8],
+        notes: &mut Notes,
     ) -> Result<Option<Made>, Refusal>
         requires array { IsArray key.now }
-        ensures { (before : plain.State) → Holds self.entry.state.now before
+        ensures judges { (before : plain.State) → Holds self.entry.state.now before
             → JudgesFound before self.entry.space.0 (statement.Update index.0 base key.now operations.now) result
             (updates self.entry.writer before self.entry.space.0 index.0 base key.now operations.now) }
+        ensures notes { (before : plain.State) → Holds self.entry.state.now before
+            → NotesJudged notes.old notes.new result (updates self.entry.writer before self.entry.space.0 index.0 base key.now operations.now) }
     {
-        let (target, found) = self.find(UPDATE, index, key)?;
+        let (target, found) = self.find(UPDATE, index, key, notes)?;
         match found {
-            Some(entry) => Ok(Some(change(&target, index, base, key, operations, entry)?)),
+            Some(entry) => {
+                let made = change(&target, index, base, key, operations, entry, notes)?;
+                Ok(Some(made))
+            }
             None => Ok(None),
         }
     }
@@ -56,10 +64,14 @@ fn change(
     key: &[u8],
     operations: &[u8],
     entry: Entry<'_>,
+    notes: &mut Notes,
 ) -> Result<Made, Refusal>
-    ensures { (before : plain.State) (own : Key) → IsTarget before target.now → AreFit own → entry.entry.key ≡ comparable_of own
+    ensures judges { (before : plain.State) (own : Key) → IsTarget before target.now → AreFit own → entry.entry.key ≡ comparable_of own
         → key_in target.now.primary.now.key entry.entry.tuple.now ≡ Ok own
         → JudgesMade before target.now.scope.space.0 (statement.Update index.0 base key.now operations.now) result
+        (update_found target.now.scope.writer before target.now.scope.space.0 index.0 base key.now operations.now target.now.schema.now target.now.primary.now (Some (own, entry.entry.tuple.now))) }
+    ensures notes { (before : plain.State) (own : Key) → IsTarget before target.now → AreFit own → entry.entry.key ≡ comparable_of own
+        → key_in target.now.primary.now.key entry.entry.tuple.now ≡ Ok own → NotesJudged notes.old notes.new result
         (update_found target.now.scope.writer before target.now.scope.space.0 index.0 base key.now operations.now target.now.schema.now target.now.primary.now (Some (own, entry.entry.tuple.now))) }
 {
     let scope = target.scope;
@@ -76,5 +88,5 @@ fn change(
         key,
         operations,
     };
-    put_in_place(target, &write, entry.key, row_key, new, true)
+    put_in_place(target, &write, entry.key, row_key, new, true, notes)
 }

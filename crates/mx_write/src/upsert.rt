@@ -5,18 +5,18 @@ ghost use Rattle.mx_msgpack.specs.Items.{IsArray};
 ghost use Rattle.mx_schema.specs.State as plain;
 ghost use Rattle.mx_space.specs.Stored.{Holds};
 ghost use Rattle.mx_write.specs.Makes.{JudgesMade};
+ghost use Rattle.mx_write.specs.Notes.{NotesJudged};
 ghost use Rattle.mx_write.specs.Steps.{HasOwnKey, IsTarget};
 ghost use Rattle.mx_write.specs.Upsert.{upsert_found, upserts};
 ghost use Rattle.mx_write.specs.Writes as statement;
 
-use crate::checks::check_tuple;
-use crate::lookup::{find_index, find_space};
 use crate::made::{Effect, Made, make};
+use crate::notes::Notes;
 use crate::operations::upsert_tuple;
 use crate::place::put_in_place;
 use crate::scope::{Scope, Target};
 use crate::unique::duplicate_in_others;
-use crate::writable::{tuple_in_space, write_refusal};
+use crate::writable::tuple_in_space;
 use crate::write::{UPSERT, Write};
 use mx_base::{IndexId, Refusal};
 use mx_msgpack::Bytes;
@@ -29,28 +29,25 @@ impl Scope<'_> {
     /// # Errors
     /// Why it is refused.
     #[tactic(auto, unfolding(crate::specs::Upsert::upserts))]
-    pub fn upsert(self, base: u32, tuple: &[u8], operations: &[u8]) -> Result<Made, Refusal>
+    pub fn upsert(
+        self,
+        base: u32,
+        tuple: &[u8],
+        operations: &[u8],
+        notes: &mut Notes,
+    ) -> Result<Made, Refusal>
         requires array { IsArray tuple.now }
-        ensures { (before : plain.State) → Holds self.entry.state.now before
+        ensures judges { (before : plain.State) → Holds self.entry.state.now before
             → JudgesMade before self.entry.space.0 (statement.Upsert base tuple.now operations.now) result
             (upserts self.entry.writer before self.entry.space.0 base tuple.now operations.now) }
+        ensures notes { (before : plain.State) → Holds self.entry.state.now before
+            → NotesJudged notes.old notes.new result (upserts self.entry.writer before self.entry.space.0 base tuple.now operations.now) }
     {
-        let stored = find_space(self.state, self.space)?;
-        if let Some(refusal) = write_refusal(self.writer, self.space, UPSERT, Some(tuple)) {
-            return Err(refusal);
-        }
-        let schema = stored.schema();
-        let primary = find_index(self.alloc, schema, IndexId(0))?;
-        let key = check_tuple(self.alloc, schema, primary, tuple)?;
-        let target = Target {
-            scope: self,
-            stored,
-            schema,
-            primary,
-        };
-        match stored.tuple(&key) {
-            Some(old) => change(&target, base, tuple, operations, key, old),
-            None => put(&target, base, tuple, operations, key),
+        let (target, key) = self.find_target(UPSERT, tuple, notes)?;
+        notes.note_key(self.alloc, self.space, IndexId(0), key.as_slice())?;
+        match target.stored.tuple(&key) {
+            Some(old) => change(&target, base, tuple, operations, key, old, notes),
+            None => put(&target, base, tuple, operations, key, notes),
         }
     }
 }
@@ -62,12 +59,15 @@ fn put(
     tuple: &[u8],
     operations: &[u8],
     key: Bytes,
+    notes: &mut Notes,
 ) -> Result<Made, Refusal>
-    ensures { (before : plain.State) → IsTarget before target.now → HasOwnKey target.now.primary.now tuple.now key
+    ensures judges { (before : plain.State) → IsTarget before target.now → HasOwnKey target.now.primary.now tuple.now key
         → JudgesMade before target.now.scope.space.0 (statement.Upsert base tuple.now operations.now) result
         (upsert_found target.now.scope.writer before target.now.scope.space.0 base tuple.now operations.now target.now.schema.now target.now.primary.now None) }
+    ensures notes { (before : plain.State) → IsTarget before target.now → HasOwnKey target.now.primary.now tuple.now key → NotesJudged notes.old notes.new result
+        (upsert_found target.now.scope.writer before target.now.scope.space.0 base tuple.now operations.now target.now.schema.now target.now.primary.now None) }
 {
-    if let Some(refusal) = duplicate_in_others(target, Some(&key), tuple)? {
+    if let Some(refusal) = duplicate_in_others(target, Some(&key), tuple, notes)? {
         return Err(refusal);
     }
     let alloc = target.scope.alloc;
@@ -91,9 +91,12 @@ fn change(
     operations: &[u8],
     key: Bytes,
     old: &[u8],
+    notes: &mut Notes,
 ) -> Result<Made, Refusal>
-    ensures { (before : plain.State) → IsTarget before target.now → HasOwnKey target.now.primary.now tuple.now key
+    ensures judges { (before : plain.State) → IsTarget before target.now → HasOwnKey target.now.primary.now tuple.now key
         → JudgesMade before target.now.scope.space.0 (statement.Upsert base tuple.now operations.now) result
+        (upsert_found target.now.scope.writer before target.now.scope.space.0 base tuple.now operations.now target.now.schema.now target.now.primary.now (Some old.now)) }
+    ensures notes { (before : plain.State) → IsTarget before target.now → HasOwnKey target.now.primary.now tuple.now key → NotesJudged notes.old notes.new result
         (upsert_found target.now.scope.writer before target.now.scope.space.0 base tuple.now operations.now target.now.schema.now target.now.primary.now (Some old.now)) }
 {
     let scope = target.scope;
@@ -105,5 +108,5 @@ fn change(
         operations,
     };
     let no_key = Bytes::new(scope.alloc);
-    put_in_place(target, &write, key, no_key, new, false)
+    put_in_place(target, &write, key, no_key, new, false, notes)
 }

@@ -22,7 +22,7 @@ use mx_model::{WRITABLE_NODE, next_lsn};
 use mx_msgpack::Tuples;
 use mx_row::{RowRef, Tx, TxRef, to_owned};
 use mx_schema::{INDEX_ROWS, SPACE_ROWS};
-use mx_write::{Effect, Made, Scope, Write, Writer, row_of};
+use mx_write::{Effect, Made, Notes, Scope, Write, Writer, row_of};
 use std::alloc::{AllocError, Global};
 
 impl Engine {
@@ -44,7 +44,7 @@ impl Engine {
             writer: Writer::Client,
             space,
         };
-        match scope.judge(write)? {
+        match scope.judge(write, &mut Notes::off())? {
             Some(made) => self.put(space, write, made, found),
             None => {
                 found.clear();
