@@ -1,7 +1,11 @@
 mod AskedLaws
 pub mod ViewLaws
 pub mod StageLaws
+pub mod NoteLaws
+mod NumberKeyLaws
 pub mod TargetLaws
+mod NotedTargetLaws
+mod NotedFreeLaws
 pub mod MadeLaws
 pub mod UniqueLaws
 pub mod WrittenLaws
@@ -14,6 +18,7 @@ pub mod CheckedLaws
 pub mod DescriptionLaws
 pub mod SoundLaws
 mod EntryLaws
+mod EntryStageLaws
 pub mod MemberLaws
 pub mod PlaceLaws
 pub mod FieldLaws

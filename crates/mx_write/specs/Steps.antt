@@ -16,9 +16,11 @@ use Rattle.mx_space.specs.Stored.{Holds}
 use Rattle.mx_write.specs.declared.scope.Target.{Target}
 use Rattle.mx_write.specs.declared.writable.Writer.{Writer}
 use Rattle.mx_write.specs.Checks.{tuple_fault}
-use Rattle.mx_write.specs.Judged.{Judged, unless, ◌>>=◌}
-use Rattle.mx_write.specs.Lookup.{the_index, the_space}
-use Rattle.mx_write.specs.Writable.{write_refusal}
+use Rattle.mx_schema.specs.Picks.{Indexed}
+use Rattle.mx_write.specs.Judged.{Judged, reads_of, unless, ◌>>=◌}
+use Rattle.mx_write.specs.Lookup.{entry_with, the_index, the_key, the_primary, the_space, the_unique_index}
+use Rattle.mx_write.specs.Reads.{key_read}
+use Rattle.mx_write.specs.Writable.{primary_name, write_refusal}
 
 -- a check passes, or refuses so, or memory ran out
 abbrev pub Refuses : Refusal → Option Refusal → Type 0
@@ -58,6 +60,17 @@ in_target writer before space type tuple rest = do
   primary ← the_index space schema 0
   _ ← unless (tuple_fault schema primary tuple)
   rest schema primary
+
+-- the stages of a write by a key of a unique index, before its own ones
+abbrev pub in_entry : {X : Type 0} → Writer → State → (space type index : ℕ) → (key : List ℕ) → (rest : Schema → IndexDef → Option Indexed → Judged X) → Judged X
+in_entry writer before space type index key rest = do
+  schema ← the_space before space
+  _ ← unless (write_refusal writer space type (primary_name index key))
+  def ← the_unique_index space schema index
+  primary ← the_primary schema
+  asked ← the_key def key
+  _ ← reads_of (key_read space index asked ∷ [])
+  rest schema primary (entry_with before space primary def asked)
 
 -- these are the comparable bytes of this key, where there is one
 abbrev pub IsKeyOf : (bytes : Option (List ℕ)) → Option Key → Type 0

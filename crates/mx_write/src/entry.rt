@@ -21,7 +21,7 @@ ghost use Rattle.mx_write.specs.Made.{Made};
 ghost use Rattle.mx_write.specs.Makes.{IsRefusedBy};
 ghost use Rattle.mx_write.specs.Notes.{AddsReads, IsNotedUpTo};
 ghost use Rattle.mx_write.specs.Reads.{key_read};
-ghost use Rattle.mx_write.specs.Steps.{IsKeyOf, IsTarget};
+ghost use Rattle.mx_write.specs.Steps.{IsKeyOf, IsTarget, in_entry};
 ghost use Rattle.mx_write.specs.Writable as writable;
 
 use crate::lookup::{find_index, find_key, find_space, find_unique_index};
@@ -55,34 +55,18 @@ impl<'a> Scope<'a> {
         notes: &mut Notes,
     ) -> Result<(Target<'a>, Option<Entry<'a>>), Refusal>
         requires array { IsArray key.now }
-        ensures judges { (before : plain.State) (rest : Schema → IndexDef → Option Indexed → Judged Made) → Holds self.entry.state.now before →
-            let whole = the_space before self.entry.space.0 and_then λ schema.
-            unless (writable.write_refusal self.entry.writer self.entry.space.0 kind (writable.primary_name index.0 key.now)) and_then λ _.
-            the_unique_index self.entry.space.0 schema index.0 and_then λ def.
-            the_primary schema and_then λ primary.
-            the_key def key.now and_then λ asked.
-            reads_of (key_read self.entry.space.0 index.0 asked ∷ []) and_then λ _.
-            rest schema primary (entry_with before self.entry.space.0 primary def asked) in
-            MatchResult result
+        ensures judges { (before : plain.State) (rest : Schema → IndexDef → Option Indexed → Judged Made) → Holds self.entry.state.now before → MatchResult result
             (λ found. (found.0.scope ≡ self.entry) × IsTarget before found.0 × MatchOption found.1
-            (whole.outcome ≡ (rest found.0.schema.now found.0.primary.now None).outcome)
-            (λ entry. (own : Key) × (whole.outcome ≡ (rest found.0.schema.now found.0.primary.now (Some (own, entry.tuple.now))).outcome)
+            ((in_entry self.entry.writer before self.entry.space.0 kind index.0 key.now rest).outcome ≡ (rest found.0.schema.now found.0.primary.now None).outcome)
+            (λ entry. (own : Key) × ((in_entry self.entry.writer before self.entry.space.0 kind index.0 key.now rest).outcome ≡ (rest found.0.schema.now found.0.primary.now (Some (own, entry.tuple.now))).outcome)
             × AreFit own × (entry.key ≡ comparable_of own) × (key_in found.0.primary.now.key entry.tuple.now ≡ Ok own)))
-            (λ refusal. IsRefusedBy refusal whole) }
-        ensures notes { (before : plain.State) (rest : Schema → IndexDef → Option Indexed → Judged Made) → Holds self.entry.state.now before →
-            let whole = the_space before self.entry.space.0 and_then λ schema.
-            unless (writable.write_refusal self.entry.writer self.entry.space.0 kind (writable.primary_name index.0 key.now)) and_then λ _.
-            the_unique_index self.entry.space.0 schema index.0 and_then λ def.
-            the_primary schema and_then λ primary.
-            the_key def key.now and_then λ asked.
-            reads_of (key_read self.entry.space.0 index.0 asked ∷ []) and_then λ _.
-            rest schema primary (entry_with before self.entry.space.0 primary def asked) in
-            MatchResult result
+            (λ refusal. IsRefusedBy refusal (in_entry self.entry.writer before self.entry.space.0 kind index.0 key.now rest)) }
+        ensures notes { (before : plain.State) (rest : Schema → IndexDef → Option Indexed → Judged Made) → Holds self.entry.state.now before → MatchResult result
             (λ found. MatchOption found.1
-            (IsNotedUpTo notes.old notes.new whole (rest found.0.schema.now found.0.primary.now None))
+            (IsNotedUpTo notes.old notes.new (in_entry self.entry.writer before self.entry.space.0 kind index.0 key.now rest) (rest found.0.schema.now found.0.primary.now None))
             (λ entry. (own : Key) → key_in found.0.primary.now.key entry.tuple.now ≡ Ok own
-            → IsNotedUpTo notes.old notes.new whole (rest found.0.schema.now found.0.primary.now (Some (own, entry.tuple.now)))))
-            (λ refusal. (refusal ≡ OutOfMemory) ⊎ AddsReads notes.old notes.new whole.reads) }
+            → IsNotedUpTo notes.old notes.new (in_entry self.entry.writer before self.entry.space.0 kind index.0 key.now rest) (rest found.0.schema.now found.0.primary.now (Some (own, entry.tuple.now)))))
+            (λ refusal. (refusal ≡ OutOfMemory) ⊎ AddsReads notes.old notes.new (in_entry self.entry.writer before self.entry.space.0 kind index.0 key.now rest).reads) }
     {
         notes.note_space(self.alloc, self.space)?;
         let stored = find_space(self.state, self.space)?;

@@ -157,7 +157,7 @@ fn prefix_range(alloc: Global, key: &[u8]) -> Result<KeyRange, AllocError>
 
 /// The comparable bytes of a key of one number.
 fn number_key(number: u32) -> [u8; 10]
-    ensures { result.buf ≡ comparable_of (Integer (pos number) ∷ []) }
+    ensures { result ≡ comparable_of (Integer (pos number) ∷ []) }
 {
     let [first, second, third, fourth] = number.to_be_bytes();
     [3, 0, 0x80, 0, 0, 0, first, second, third, fourth]

@@ -15,8 +15,8 @@ use Rattle.mx_write.proofs.TargetLaws.{has_key}
 use Rattle.mx_write.proofs.WrittenLaws.{own_free}
 use Rattle.mx_write.proofs.insert.add.Goals as goal
 
-pub returns-in_err-check_new_index : goal.returns-in_err-check_new_index
-returns-in_err-check_new_index c = λ before target own fits bytes.
+pub returns-in_err-check_new_index-clause-judges : goal.returns-in_err-check_new_index-clause-judges
+returns-in_err-check_new_index-clause-judges c = λ before target own fits bytes.
     let p = err_from_is_err_and c.from_residual-in_err-check_new_index.result c.from_residual-in_err-check_new_index.ensures.1 in
     let t = c.args.target.now in
     let space = t.scope.space.0 in
@@ -25,7 +25,7 @@ returns-in_err-check_new_index c = λ before target own fits bytes.
     let tuple = c.args.tuple.now in
     let key = own_key primary tuple in
     let described = c.in_ok-check_description.ensures before target in
-    let free = went_on (are_free before space schema primary None tuple (all_indexes primary schema)) (sym c.in_default.is ∙ c.in_ok-refusal.ensures before target fits bytes) in
+    let free = went_on (are_free before space schema primary None tuple (all_indexes primary schema)) (sym c.in_default.is ∙ c.in_ok-refusal.ensures.finds before target fits bytes) in
     let build = can_build before target.holds.sound space schema primary key tuple (target.stored.holds.is ∙ ap Some (sym target.schema)) target.primary own described
     (own_free before space schema primary key tuple target.primary own free) in
     let last = made space (Insert tuple) key (Some tuple) (tuple ∷ []) in
@@ -34,8 +34,8 @@ returns-in_err-check_new_index c = λ before target own fits bytes.
     (refused_later (are_free before space schema primary None tuple (all_indexes primary schema)) (λ _. unless (new_index_fault before space tuple) >>= λ _. last) tt _ free
     (refused_here (unless (new_index_fault before space tuple)) (λ _. last) _ (refuses_so _ _ (c.in_err-check_new_index.ensures before target build)))))
 
-pub returns : goal.returns
-returns c = λ before target own fits bytes.
+pub returns-clause-judges : goal.returns-clause-judges
+returns-clause-judges c = λ before target own fits bytes.
     let t = c.args.target.now in
     let space = t.scope.space.0 in
     let schema = t.schema.now in
@@ -45,7 +45,7 @@ returns c = λ before target own fits bytes.
     let copy = c.in_ok-from_slice.field-0 in
     let is = target.stored.holds.is ∙ ap Some (sym target.schema) in
     let described = c.in_ok-check_description.ensures before target in
-    let free = went_on (are_free before space schema primary None tuple (all_indexes primary schema)) (sym c.in_default.is ∙ c.in_ok-refusal.ensures before target fits bytes) in
+    let free = went_on (are_free before space schema primary None tuple (all_indexes primary schema)) (sym c.in_default.is ∙ c.in_ok-refusal.ensures.finds before target fits bytes) in
     let build = can_build before target.holds.sound space schema primary key tuple is target.primary own described (own_free before space schema primary key tuple target.primary own free) in
     let last = made space (Insert tuple) key (Some tuple) (tuple ∷ []) in
     judged_by before space (Insert tuple) c.make.result (inserts_taken before space schema primary tuple) (made space (Insert tuple) key (Some copy) (copy ∷ []))

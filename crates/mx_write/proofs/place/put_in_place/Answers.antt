@@ -12,8 +12,8 @@ use Rattle.mx_write.proofs.StageLaws.{judged_by, stopped_so, went_on}
 use Rattle.mx_write.proofs.TargetLaws.{has_key}
 use Rattle.mx_write.proofs.place.put_in_place.Goals as goal
 
-pub returns-then-ne : goal.returns-then-ne
-returns-then-ne c = λ before own target fit bytes same_row.
+pub returns-then-ne-clause-judges : goal.returns-then-ne-clause-judges
+returns-then-ne-clause-judges c = λ before own target fit bytes same_row.
     let t = c.args.target.now in
     let tuple = c.args.tuple in
     let schema = t.schema.now in
@@ -24,21 +24,21 @@ returns-then-ne c = λ before own target fit bytes same_row.
     (key_changes schema primary tuple c.in_ok-new_key.new_key c.args.key own checked.1 fit bytes (sym c.ne.ensures ∙ c.if-ne.true)
     ∙ ap (λ n. Some (PrimaryKeyChanged n)) (sym name))
 
-pub returns-in-Some : goal.returns-in-Some
-returns-in-Some c = λ before own target fit bytes same_row.
+pub returns-in-Some-clause-judges : goal.returns-in-Some-clause-judges
+returns-in-Some-clause-judges c = λ before own target fit bytes same_row.
     let t = c.args.target.now in
     let tuple = c.args.tuple in
     let schema = t.schema.now in
     let primary = t.primary.now in
     let space = t.scope.space.0 in
     let checked = rw c.as_slice.ensures at c.in_ok-new_key.ensures in
-    let told = rw c.as_slice-2.ensures at (c.in_ok-refusal.ensures before (Some own) target (fit, bytes)) in
+    let told = rw c.as_slice-2.ensures at (c.in_ok-refusal.ensures.finds before (Some own) target (fit, bytes)) in
     not_free before space schema primary (write_view c.args.write.now) own tuple (shown_if c.args.is_shown tuple) checked.0
     (key_stays schema primary tuple c.in_ok-new_key.new_key c.args.key own checked.1 fit bytes (sym c.ne.ensures ∙ c.if-ne.false)) c.in-Some.refusal
     (stopped_so (are_free before space schema primary (Some own) tuple (other_indexes schema.indexes)) c.in-Some.refusal (sym c.in-Some.is ∙ told))
 
-pub returns : goal.returns
-returns c = λ before own target fit bytes same_row.
+pub returns-clause-judges : goal.returns-clause-judges
+returns-clause-judges c = λ before own target fit bytes same_row.
     let t = c.args.target.now in
     let tuple = c.args.tuple in
     let schema = t.schema.now in
@@ -47,7 +47,7 @@ returns c = λ before own target fit bytes same_row.
     let write = write_view c.args.write.now in
     let shown = shown_if c.args.is_shown tuple in
     let checked = rw c.as_slice.ensures at c.in_ok-new_key.ensures in
-    let told = rw c.as_slice-2.ensures at (c.in_ok-refusal.ensures before (Some own) target (fit, bytes)) in
+    let told = rw c.as_slice-2.ensures at (c.in_ok-refusal.ensures.finds before (Some own) target (fit, bytes)) in
     let free = went_on (are_free before space schema primary (Some own) tuple (other_indexes schema.indexes)) (sym c.in_default.is ∙ told) in
     let test = sym c.ne.ensures ∙ c.if-ne.false in
     judged_by before space write c.make.result (put_in_place before space schema primary write own tuple shown) (made space write own (Some tuple) shown)

@@ -5,8 +5,8 @@ use Rattle.mx_write.proofs.EntryLaws.{held_so, unique_is}
 use Rattle.mx_write.proofs.UniqueLaws.{free_by, held_by_another, held_by_same, none_held}
 use Rattle.mx_write.proofs.unique.duplicate_in.Goals as goal
 
-pub returns-in_default : goal.returns-in_default
-returns-in_default c = λ before key target replaced there unique.
+pub returns-in_default-clause-finds : goal.returns-in_default-clause-finds
+returns-in_default-clause-finds c = λ before key target replaced there unique.
     let t = c.args.target.now in
     let def = c.args.def.now in
     let tuple = c.args.tuple.now in
@@ -16,8 +16,8 @@ returns-in_default c = λ before key target replaced there unique.
     (λ schema all first stored at here each. c.holder.ensures schema all first (own_key def tuple) stored at here each c.in_ok-key.ensures.1 c.in_ok-key.ensures.0))
     (none_held before t.scope.space.0 t.schema.now t.primary.now key tuple def)
 
-pub returns-then-not-branch : goal.returns-then-not-branch
-returns-then-not-branch c = λ before key target replaced there unique.
+pub returns-then-not-branch-clause-finds : goal.returns-then-not-branch-clause-finds
+returns-then-not-branch-clause-finds c = λ before key target replaced there unique.
     let t = c.args.target.now in
     let def = c.args.def.now in
     let tuple = c.args.tuple.now in
@@ -28,8 +28,8 @@ returns-then-not-branch c = λ before key target replaced there unique.
     (λ schema all first stored at here each. c.holder.ensures schema all first (own_key def tuple) stored at here each c.in_ok-key.ensures.1 c.in_ok-key.ensures.0))
     (held_by_same before t.scope.space.0 t.schema.now t.primary.now key tuple def held _ (c.in_ok-is_another.ensures key replaced) c.if-not-branch.true)
 
-pub returns : goal.returns
-returns c = λ before key target replaced there unique.
+pub returns-clause-finds : goal.returns-clause-finds
+returns-clause-finds c = λ before key target replaced there unique.
     let t = c.args.target.now in
     let def = c.args.def.now in
     let tuple = c.args.tuple.now in

@@ -15,8 +15,8 @@ use Rattle.mx_write.proofs.MemberLaws.{made_so, refused_anywhere}
 use Rattle.mx_write.proofs.StageLaws.{goes_on, goes_on_after, judged_by, none_refuses, refused_before, refused_later}
 use Rattle.mx_write.proofs.update.change.Goals as goal
 
-pub returns-in_err-updated : goal.returns-in_err-updated
-returns-in_err-updated c = λ before own target fit bytes has.
+pub returns-in_err-updated-clause-judges : goal.returns-in_err-updated-clause-judges
+returns-in_err-updated-clause-judges c = λ before own target fit bytes has.
     let p = err_from_is_err_and c.from_residual.result c.from_residual.ensures.1 in
     let t = c.args.target.now in
     let space = t.scope.space.0 in
@@ -35,8 +35,8 @@ returns-in_err-updated c = λ before own target fit bytes has.
     (subst (λ (o : Result (List ℕ) Refusal). (o ≡ Err why) ⊎ (why ≡ OutOfMemory)) (same_update c.array_or_empty-old.result.now old c.array_or_empty-old.ensures.items base operations)
     c.in_err-updated.ensures))))
 
-pub returns-in_err-new : goal.returns-in_err-new
-returns-in_err-new c = λ before own target fit bytes has.
+pub returns-in_err-new-clause-judges : goal.returns-in_err-new-clause-judges
+returns-in_err-new-clause-judges c = λ before own target fit bytes has.
     let p = err_from_is_err_and c.from_residual-in_err-new.result c.from_residual-in_err-new.ensures.1 in
     let t = c.args.target.now in
     let space = t.scope.space.0 in
@@ -54,8 +54,8 @@ returns-in_err-new c = λ before own target fit bytes has.
     (inl (made_so t.scope.writer space (the_operations operations) (λ applied. tuple_or_refusal (updated base old applied)) c.in_ok-updated.updated (Err why)
     (sym (same_update c.array_or_empty-old.result.now old c.array_or_empty-old.ensures.items base operations) ∙ c.in_ok-updated.ensures) c.in_err-new.ensures))))
 
-pub returns : goal.returns
-returns c = λ before own target fit bytes has.
+pub returns-clause-judges : goal.returns-clause-judges
+returns-clause-judges c = λ before own target fit bytes has.
     let t = c.args.target.now in
     let space = t.scope.space.0 in
     let old = c.args.entry.tuple.now in
@@ -73,4 +73,4 @@ returns c = λ before own target fit bytes has.
     ∙ goes_on_after (the_operations operations) apply put new
     (made_so t.scope.writer space (the_operations operations) (λ applied. tuple_or_refusal (updated base old applied)) c.in_ok-updated.updated (Ok new)
     (sym (same_update c.array_or_empty-old.result.now old c.array_or_empty-old.ensures.items base operations) ∙ c.in_ok-updated.ensures) c.in_ok-new.ensures))
-    (c.put_in_place.ensures before own target fit bytes (ap (row_with space write) array))
+    (c.put_in_place.ensures.judges before own target fit bytes (ap (row_with space write) array))

@@ -15,8 +15,8 @@ use Rattle.mx_write.proofs.StageLaws.{goes_on_after, judged_by, refused_before}
 use Rattle.mx_write.proofs.TargetLaws.{own_bytes, own_fits}
 use Rattle.mx_write.proofs.upsert.change.Goals as goal
 
-pub returns-in_err-updated : goal.returns-in_err-updated
-returns-in_err-updated c = λ before target has.
+pub returns-in_err-updated-clause-judges : goal.returns-in_err-updated-clause-judges
+returns-in_err-updated-clause-judges c = λ before target has.
     let p = err_from_is_err_and c.from_residual.result c.from_residual.ensures.1 in
     let t = c.args.target.now in
     let space = t.scope.space.0 in
@@ -33,8 +33,8 @@ returns-in_err-updated c = λ before target has.
     (subst (λ (o : Result (List ℕ) Refusal). (o ≡ Err why) ⊎ (why ≡ OutOfMemory)) (same_upsert c.array_or_empty.result.now old c.array_or_empty.ensures.items base operations)
     c.in_err-updated.ensures)))
 
-pub returns-in_err-new : goal.returns-in_err-new
-returns-in_err-new c = λ before target has.
+pub returns-in_err-new-clause-judges : goal.returns-in_err-new-clause-judges
+returns-in_err-new-clause-judges c = λ before target has.
     let p = err_from_is_err_and c.from_residual-in_err-new.result c.from_residual-in_err-new.ensures.1 in
     let t = c.args.target.now in
     let space = t.scope.space.0 in
@@ -50,8 +50,8 @@ returns-in_err-new c = λ before target has.
     (inl (made_so t.scope.writer space (the_operations operations) (λ applied. tuple_or_refusal (upserted base old applied)) c.in_ok-updated.updated (Err why)
     (sym (same_upsert c.array_or_empty.result.now old c.array_or_empty.ensures.items base operations) ∙ c.in_ok-updated.ensures) c.in_err-new.ensures)))
 
-pub returns : goal.returns
-returns c = λ before target has.
+pub returns-clause-judges : goal.returns-clause-judges
+returns-clause-judges c = λ before target has.
     let t = c.args.target.now in
     let space = t.scope.space.0 in
     let primary = t.primary.now in
@@ -67,4 +67,4 @@ returns c = λ before target has.
     (goes_on_after (the_operations operations) apply put new
     (made_so t.scope.writer space (the_operations operations) (λ applied. tuple_or_refusal (upserted base old applied)) c.in_ok-updated.updated (Ok new)
     (sym (same_upsert c.array_or_empty.result.now old c.array_or_empty.ensures.items base operations) ∙ c.in_ok-updated.ensures) c.in_ok-new.ensures))
-    (c.put_in_place.ensures before (own_key primary tuple) target (own_fits primary tuple c.args.key has) (own_bytes primary tuple c.args.key has) refl)
+    (c.put_in_place.ensures.judges before (own_key primary tuple) target (own_fits primary tuple c.args.key has) (own_bytes primary tuple c.args.key has) refl)

@@ -10,8 +10,8 @@ use Rattle.mx_write.proofs.StageLaws.{goes_on, judged_by, went_on}
 use Rattle.mx_write.proofs.TargetLaws.{has_key, own_bytes, own_fits, own_has}
 use Rattle.mx_write.proofs.upsert.put.Goals as goal
 
-pub returns : goal.returns
-returns c = λ before target has.
+pub returns-clause-judges : goal.returns-clause-judges
+returns-clause-judges c = λ before target has.
     let t = c.args.target.now in
     let space = t.scope.space.0 in
     let schema = t.schema.now in
@@ -22,7 +22,7 @@ returns c = λ before target has.
     let fits = own_fits primary tuple c.args.key has in
     let bytes = own_bytes primary tuple c.args.key has in
     let stage = are_free before space schema primary (Some own) tuple (other_indexes schema.indexes) in
-    let free = went_on stage (sym c.in_default.is ∙ c.in_ok-refusal.ensures before (Some own) target (fits, bytes)) in
+    let free = went_on stage (sym c.in_default.is ∙ c.in_ok-refusal.ensures.finds before (Some own) target (fits, bytes)) in
     let copy = c.in_ok-from_slice.field-0 in
     judged_by before space write c.make.result (stage >>= λ _. made space write own (Some tuple) []) (made space write own (Some copy) [])
     (goes_on stage (λ _. made space write own (Some tuple) []) tt free ∙ ap (λ o. (made space write own (Some o) []).outcome) (sym c.in_ok-from_slice.ensures))
