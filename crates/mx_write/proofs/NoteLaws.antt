@@ -1,19 +1,31 @@
 -- What was noted, stage by stage.
-use Rattle.std.proofs.Common.{◌≡◌, ◌⊎◌, inl, inr, ℕ, List, [], ◌∷◌, ◌++◌, Option, Some, None, Result, Ok, Err, refl, sym, ap, ◌∙◌, subst}
+use Rattle.std.proofs.Common.{◌≡◌, ◌⊎◌, inl, inr, ℕ, Bool, true, false, List, [], ◌∷◌, ◌++◌, Option, Some, None, Result, Ok, Err, refl, sym, ap, ◌∙◌, subst}
+use Rattle.std.specs.Prelude.{length, nat_lt, if◌then◌else◌}
 use Rattle.std.proofs.lemmas.List.{append-nil, append_assoc}
 use Rattle.std.specs.List.{AllZip}
 use Rattle.mx_base.specs.declared.refusal.Refusal.{Refusal}
-use Rattle.mx_base.specs.declared.refusal.Refusal.TheVariants.{IndexMissing, OutOfMemory, SpaceMissing}
+use Rattle.mx_base.specs.declared.refusal.Refusal.TheVariants.{IndexMissing, OutOfMemory, SpaceMissing, TransactionTooLong}
+use Rattle.mx_key.specs.Arrays.{key_array}
+use Rattle.mx_key.specs.Keys.{Key}
+use Rattle.mx_row.specs.Rows.{delete_type, max_body_size, row_body_text}
 use Rattle.mx_schema.specs.declared.index_def.IndexDef.{IndexDef}
 use Rattle.mx_schema.specs.declared.schema.Schema.{Schema}
 use Rattle.mx_schema.specs.Catalogues.{index_with, schema_of}
+use Rattle.mx_schema.specs.Picks.{Indexed}
 use Rattle.mx_schema.specs.State.{State}
 use Rattle.mx_tracker.specs.declared.read.Read as noted
-use Rattle.mx_write.specs.Judged.{Judged, found_or, next_stage, unless, ◌>>=◌}
+use Rattle.mx_write.specs.declared.writable.Writer.{Writer}
+use Rattle.mx_write.specs.Delete.{delete_found}
+use Rattle.mx_write.specs.Descriptions.{drop_fault}
+use Rattle.mx_write.specs.Judged.{Judged, found, found_or, next_stage, stopped, unless, ◌>>=◌}
 use Rattle.mx_write.specs.Lookup.{the_index, the_primary, the_space, the_unique_index, unless_unique}
+use Rattle.mx_write.specs.Made.{Made, made, row_with}
 use Rattle.mx_write.specs.Makes.{IsRefusedBy}
-use Rattle.mx_write.specs.Notes.{AddsReads, Noted, SpellsRead}
+use Rattle.mx_write.specs.Notes.{AddsReads, IsNotedUpTo, Noted, NotesJudged, SpellsRead}
 use Rattle.mx_write.specs.Reads.{Read, index_read, space_read}
+use Rattle.mx_write.specs.Writable.{write_refusal}
+use Rattle.mx_write.specs.Writes.{Delete, Write}
+use Rattle.mx_write.proofs.StageLaws.{came_by}
 
 -- ---- notes of reads in a row
 
@@ -77,7 +89,64 @@ module _ {X Y : Type 0} (judged : Judged X) (stage : X → Judged Y) (quiet : ju
   pub quiet_later : {P : Type 0} (x : X) (last : Noted) → judged.outcome ≡ Ok x → P ⊎ AddsReads now last (stage x).reads → P ⊎ AddsReads now last (judged >>= stage).reads
   quiet_later x last is = noted_later judged stage now now x last is none_noted
 
+-- the same of stages after this one that read nothing
+pub then_quiet : {X Y : Type 0} (judged : Judged X) (stage : X → Judged Y) → ((x : X) → (stage x).reads ≡ []) → (judged >>= stage).reads ≡ judged.reads
+then_quiet {X = X} judged stage quiet = by_outcome judged.outcome
+  where
+    by_outcome : (outcome : Result X Refusal) → (next_stage judged.reads outcome stage).reads ≡ judged.reads
+    by_outcome (Err why) = refl
+    by_outcome (Ok x) = ap (λ l. judged.reads ++ l) (quiet x) ∙ append-nil judged.reads
+
+-- two stages that read nothing, and then others
+module _ {X Y Z : Type 0} (judged : Judged X) (stage : X → Judged Y) (rest : Y → Judged Z) (quiet : judged.reads ≡ []) (each : (x : X) → (stage x).reads ≡ []) (now : Noted) where
+  abbrev in_three : Judged Z
+  in_three = judged >>= λ x. (stage x >>= rest)
+
+  pub quiet_before : (why : Refusal) → IsRefusedBy why (judged >>= stage) → (why ≡ OutOfMemory) ⊎ AddsReads now now in_three.reads
+  quiet_before why (inr none) = inl none
+  quiet_before why (inl is) = by_outcome judged.outcome refl is
+    where
+      by_outcome : (outcome : Result X Refusal) → judged.outcome ≡ outcome → (next_stage judged.reads outcome stage).outcome ≡ Err why
+          → (why ≡ OutOfMemory) ⊎ AddsReads now now in_three.reads
+      by_outcome (Err other) e is = inr (quiet_here judged (λ x. stage x >>= rest) quiet now other e)
+      by_outcome (Ok x) e is = inr (quiet_on judged (λ x. stage x >>= rest) quiet now x now e (quiet_here (stage x) rest (each x) now why is))
+
+  pub quiet_through : {P : Type 0} (y : Y) (last : Noted) → (judged >>= stage).outcome ≡ Ok y → P ⊎ AddsReads now last (rest y).reads → P ⊎ AddsReads now last in_three.reads
+  quiet_through y last is noted =
+      let (x, first, second) = came_by judged stage y is in
+      quiet_later judged (λ x. stage x >>= rest) quiet now x last first (quiet_later (stage x) rest (each x) now y last second noted)
+
+-- what a stage notes after earlier ones
+pub noted_result : {A X Y : Type 0} (old now last : Noted) (result : Result A Refusal) (whole : Judged X) (rest : Judged Y) → IsNotedUpTo old now whole rest
+    → NotesJudged now last result rest → NotesJudged old last result whole
+noted_result old now last result whole rest up_to (inl none) = inl none
+noted_result old now last result whole rest up_to (inr noted) = inr (up_to last noted)
+
+-- what was found as another result
+pub noted_ok : {A B X : Type 0} (old new : Noted) (found : A) (other : B) (judged : Judged X) → NotesJudged old new (Ok found) judged → NotesJudged old new (Ok other) judged
+noted_ok old new found other judged (inl none) = absurd cc
+noted_ok old new found other judged (inr noted) = inr noted
+
+-- a refusal of what was found as one of another result
+pub noted_err : {A B X : Type 0} (old new : Noted) (why : Refusal) (judged : Judged X) → NotesJudged {A = A} old new (Err why) judged → NotesJudged {A = B} old new (Err why) judged
+noted_err old new why judged (inl none) = let same : why ≡ OutOfMemory = cc in inl (ap (λ w. Err w) same)
+noted_err old new why judged (inr noted) = inr noted
+
+-- a refusal as a result
+pub as_result : {A N : Type 0} (why : Refusal) → (why ≡ OutOfMemory) ⊎ N → (◌≡◌ {A = Result A Refusal} (Err why) (Err OutOfMemory)) ⊎ N
+as_result why (inl none) = inl (ap (λ w. Err w) none)
+as_result why (inr noted) = inr noted
+
 -- ---- what one stage reads
+
+pub made_quiet : (space : ℕ) (write : Write) (key : Key) (tuple : Option (List ℕ)) (shown : List (List ℕ)) → (made space write key tuple shown).reads ≡ []
+made_quiet space write key tuple shown = by_test (nat_lt max_body_size (length (row_body_text (row_with space write (key_array key)))))
+  where
+    by_test : (long : Bool)
+        → (if long then stopped {X = Made} TransactionTooLong
+        else found {X = Made} (record { row = Some (row_with space write (key_array key)); change = Some (record { space = space; key = key; tuple = tuple }); shown = shown })).reads ≡ []
+    by_test true = refl
+    by_test false = refl
 
 pub unless_quiet : (fault : Option Refusal) → (unless fault).reads ≡ []
 unless_quiet None = refl
@@ -110,3 +179,12 @@ unique_index_reads space schema index = by_index (index_with index schema.indexe
         ≡ index_read space ∷ []
     by_index None = refl
     by_index (Some def) = ap (λ l. index_read space ∷ l) (unique_quiet def (unless_unique schema def))
+
+-- a DELETE reads nothing but the key
+pub delete_quiet : (writer : Writer) (before : State) (space index : ℕ) (key : List ℕ) (entry : Option Indexed) → (delete_found writer before space index key entry).reads ≡ []
+delete_quiet writer before space index key None = refl
+delete_quiet writer before space index key (Some (own, old)) =
+    let last = λ (u : Unit {0}). made space (Delete index key) own None (old ∷ []) in
+    then_quiet (unless (write_refusal writer space delete_type (Some old))) (λ _. unless (drop_fault before space old) >>= last)
+    (λ u. then_quiet (unless (drop_fault before space old)) last (λ v. made_quiet space (Delete index key) own None (old ∷ [])) ∙ unless_quiet (drop_fault before space old))
+    ∙ unless_quiet (write_refusal writer space delete_type (Some old))

@@ -1,4 +1,4 @@
-use Rattle.std.proofs.Common.{[], ◌∷◌, None, Some, sym, ap, ◌∙◌, refl}
+use Rattle.std.proofs.Common.{inr, [], ◌∷◌, None, Some, sym, ap, ◌∙◌, refl}
 use Rattle.std.proofs.lemmas.Result.{err_from_is_err_and}
 use Rattle.mx_schema.specs.State.{key_in}
 use Rattle.mx_write.specs.Descriptions.{description_fault, new_index_fault}
@@ -13,6 +13,7 @@ use Rattle.mx_write.proofs.MadeLaws.{judged_made}
 use Rattle.mx_write.proofs.StageLaws.{goes_on, judged_by, none_refuses, refused_here, refused_later, refuses_so, went_on}
 use Rattle.mx_write.proofs.TargetLaws.{has_key}
 use Rattle.mx_write.proofs.WrittenLaws.{own_free}
+use Rattle.mx_write.proofs.NotedFreeLaws.{noted_added}
 use Rattle.mx_write.proofs.insert.add.Goals as goal
 
 pub returns-in_err-check_new_index-clause-judges : goal.returns-in_err-check_new_index-clause-judges
@@ -56,3 +57,15 @@ returns-clause-judges c = λ before target own fits bytes.
     ∙ ap (λ t. (made space (Insert tuple) key (Some t) (t ∷ [])).outcome) (sym c.in_ok-from_slice.ensures))
     (judged_made before space (Insert tuple) schema key _ _ _ is fits bytes
     (has_key schema primary key copy target.primary (ap (λ t. key_in primary.key t) c.in_ok-from_slice.ensures ∙ own)) refl c.make.result c.make.ensures)
+
+pub returns-in_err-check_new_index-clause-notes : goal.returns-in_err-check_new_index-clause-notes
+returns-in_err-check_new_index-clause-notes c = λ before target own fits bytes.
+    let t = c.args.target.now in
+    inr (noted_added before t.scope.space.0 t.schema.now t.primary.now c.args.tuple.now c.args.notes.now _
+    (c.in_ok-check_description.ensures before target) (c.in_ok-refusal.ensures.notes before target fits bytes))
+
+pub returns-clause-notes : goal.returns-clause-notes
+returns-clause-notes c = λ before target own fits bytes.
+    let t = c.args.target.now in
+    inr (noted_added before t.scope.space.0 t.schema.now t.primary.now c.args.tuple.now c.args.notes.now _
+    (c.in_ok-check_description.ensures before target) (c.in_ok-refusal.ensures.notes before target fits bytes))

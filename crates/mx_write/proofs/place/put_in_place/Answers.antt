@@ -1,4 +1,4 @@
-use Rattle.std.proofs.Common.{Some, sym, ap, ◌∙◌}
+use Rattle.std.proofs.Common.{inr, Some, sym, ap, ◌∙◌}
 use Rattle.mx_base.specs.declared.refusal.Refusal.TheVariants.{PrimaryKeyChanged}
 use Rattle.mx_write.specs.Lookup.{other_indexes}
 use Rattle.mx_write.specs.Made.{made}
@@ -10,6 +10,7 @@ use Rattle.mx_write.proofs.MadeLaws.{judged_made}
 use Rattle.mx_write.proofs.PlaceLaws.{key_changes, key_is, key_stays, not_free, not_same, reaches}
 use Rattle.mx_write.proofs.StageLaws.{judged_by, stopped_so, went_on}
 use Rattle.mx_write.proofs.TargetLaws.{has_key}
+use Rattle.mx_write.proofs.NotedFreeLaws.{noted_other_key, noted_same_key}
 use Rattle.mx_write.proofs.place.put_in_place.Goals as goal
 
 pub returns-then-ne-clause-judges : goal.returns-then-ne-clause-judges
@@ -55,3 +56,29 @@ returns-clause-judges c = λ before own target fit bytes same_row.
     (key_stays schema primary tuple c.in_ok-new_key.new_key c.args.key own checked.1 fit bytes test) free)
     (judged_made before space write schema own _ _ _ (target.stored.holds.is ∙ ap Some (sym target.schema)) fit bytes
     (has_key schema primary own tuple target.primary (key_is schema primary tuple c.in_ok-new_key.new_key c.args.key own checked.1 fit bytes test)) same_row c.make.result c.make.ensures)
+
+pub returns-then-ne-clause-notes : goal.returns-then-ne-clause-notes
+returns-then-ne-clause-notes c = λ before own target fit bytes.
+    let t = c.args.target.now in
+    let tuple = c.args.tuple in
+    let checked = rw c.as_slice.ensures at c.in_ok-new_key.ensures in
+    inr (noted_other_key before t.scope.space.0 t.schema.now t.primary.now (write_view c.args.write.now) own tuple (shown_if c.args.is_shown tuple) c.args.notes.now checked.0 _
+    (key_changes t.schema.now t.primary.now tuple c.in_ok-new_key.new_key c.args.key own checked.1 fit bytes (sym c.ne.ensures ∙ c.if-ne.true)))
+
+pub returns-in-Some-clause-notes : goal.returns-in-Some-clause-notes
+returns-in-Some-clause-notes c = λ before own target fit bytes.
+    let t = c.args.target.now in
+    let tuple = c.args.tuple in
+    let checked = rw c.as_slice.ensures at c.in_ok-new_key.ensures in
+    inr (noted_same_key before t.scope.space.0 t.schema.now t.primary.now (write_view c.args.write.now) own tuple (shown_if c.args.is_shown tuple) c.args.notes.now checked.0 _
+    (key_stays t.schema.now t.primary.now tuple c.in_ok-new_key.new_key c.args.key own checked.1 fit bytes (sym c.ne.ensures ∙ c.if-ne.false))
+    (rw c.as_slice-2.ensures at (c.in_ok-refusal.ensures.notes before (Some own) target (fit, bytes))))
+
+pub returns-clause-notes : goal.returns-clause-notes
+returns-clause-notes c = λ before own target fit bytes.
+    let t = c.args.target.now in
+    let tuple = c.args.tuple in
+    let checked = rw c.as_slice.ensures at c.in_ok-new_key.ensures in
+    inr (noted_same_key before t.scope.space.0 t.schema.now t.primary.now (write_view c.args.write.now) own tuple (shown_if c.args.is_shown tuple) c.args.notes.now checked.0 _
+    (key_stays t.schema.now t.primary.now tuple c.in_ok-new_key.new_key c.args.key own checked.1 fit bytes (sym c.ne.ensures ∙ c.if-ne.false))
+    (rw c.as_slice-2.ensures at (c.in_ok-refusal.ensures.notes before (Some own) target (fit, bytes))))
