@@ -36,7 +36,8 @@ pub struct StateView<'a> {
 impl<'a> StateView<'a> {
     /// A state without own writes.
     pub fn of(state: &'a State) -> StateView<'a>
-        ensures { (seen : plain.State) → Holds state.now seen → HoldsView result seen }
+        ensures shown { (seen : plain.State) → Holds state.now seen → HoldsView result seen }
+        ensures no_writes { result.over ≡ None }
     {
         StateView { state, over: None }
     }
