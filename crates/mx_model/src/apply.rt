@@ -11,7 +11,7 @@ ghost use Rattle.mx_write.specs.Judge.{row_refusal};
 
 use mx_base::Refusal;
 use mx_row::RowRef;
-use mx_space::State;
+use mx_space::{State, StateView};
 use mx_write::{Notes, Scope, Writer, write_of};
 use std::alloc::Global;
 
@@ -27,7 +27,7 @@ pub fn apply_row(state: &mut State, alloc: Global, row: &RowRef<'_>) -> Result<(
 {
     let write = write_of(row);
     let scope = Scope {
-        state,
+        view: StateView::of(state),
         alloc,
         writer: Writer::Journal,
         space: row.space,

@@ -11,7 +11,7 @@ use mx_base::SpaceId;
 use mx_model::bootstrap;
 use mx_msgpack::Bytes;
 use mx_schema::array_or_empty;
-use mx_space::State;
+use mx_space::{State, StateView};
 use mx_tuple::MAX_TUPLE_SIZE;
 use mx_write::{Notes, Scope, Writer};
 use std::alloc::{AllocError, Global};
@@ -33,7 +33,7 @@ pub(crate) fn put(
 /// A REPLACE by a client in the space 512 of a state.
 fn replace_in(state: &State, alloc: Global) -> Scope<'_> {
     Scope {
-        state,
+        view: StateView::of(state),
         alloc,
         writer: Writer::Client,
         space: SpaceId(512),

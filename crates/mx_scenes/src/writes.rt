@@ -4,7 +4,7 @@ use crate::database::{Asked, NO_KEY, Step, Told, play_at, play_both};
 use crate::replace::state_of;
 use mx_base::{Refusal, SpaceId, code_of};
 use mx_schema::array_or_empty;
-use mx_space::State;
+use mx_space::{State, StateView};
 use mx_write::{Effect, Made, Notes, Scope, Writer};
 use std::alloc::{AllocError, Global};
 use std::process::Abort;
@@ -42,7 +42,7 @@ const CASES: &[Case] = &[
 
 fn scope_in(state: &State, alloc: Global, writer: Writer, space: u32) -> Scope<'_> {
     Scope {
-        state,
+        view: StateView::of(state),
         alloc,
         writer,
         space: SpaceId(space),

@@ -23,7 +23,7 @@ use Rattle.mx_schema.specs.Stored.{StandByPrimary}
 use Rattle.mx_write.specs.declared.scope.Target.{Target}
 use Rattle.mx_schema.proofs.AloneLaws.{Alone}
 use Rattle.mx_schema.proofs.DescribedLaws.{its_keyed}
-use Rattle.mx_space.specs.Kept.{HoldsOneEach, StoresIndexed}
+use Rattle.mx_space.specs.OwnChanges.{Shows}
 use Rattle.mx_write.specs.Lookup.{entry_under, holder_of, is_unique}
 use Rattle.mx_write.specs.Steps.{IsKeyOf, IsTarget}
 
@@ -75,29 +75,17 @@ module _ (before : State) (target : Target) (is : IsTarget before target) where
   abbrev pair : Key → List ℕ → Indexed
   pair key tuple = (key, tuple)
 
-  -- the key of a unique index that a tuple has it has alone
-  pub one_each : (def : IndexDef) → index_with def.id.0 target.schema.now.indexes ≡ Some def → is_unique def ≡ true → HoldsOneEach def (tuples_in before space)
-  one_each def there unique = by_number (def.id.0 == 0) refl unique
-    where
-      keyed : AreIndexed target.schema.now (tuples_in before space)
-      keyed = subst (λ s. AreIndexed s (tuples_in before space)) (sym is.schema) (its_keyed before is.holds.sound space target.stored.now.schema is.stored.holds.is).2
-
-      by_number : (b : Bool) → (def.id.0 == 0) ≡ b → (b || def.unique) ≡ true → HoldsOneEach def (tuples_in before space)
-      by_number true zero unique = inl (eqb-true def.id.0 0 zero)
-      by_number false other unique = inr (
-        unique,
-        found_has (Alone (tuples_in before space)) def.id.0 target.schema.now.indexes def there keyed.unique unique,
-        found_has (λ d. HaveKeys d (tuples_in before space)) def.id.0 target.schema.now.indexes def there keyed.have,
-      )
-
-  -- so a lookup finds what the definition says
+  -- a lookup finds what the definition says
   pub held_so : (def : IndexDef) (wanted : Key) (key : List ℕ) (found : Option (List ℕ)) → index_with def.id.0 target.schema.now.indexes ≡ Some def → is_unique def ≡ true
-      → ((schema : Option Schema) (all : Tuples) (primary : IndexDef) → StoresIndexed schema target.stored.now all → index_with 0 target.stored.now.schema.indexes ≡ Some primary
-      → index_with def.id.0 target.stored.now.schema.indexes ≡ Some def → HoldsOneEach def all → found ≡ get (tuples_by_index def all) wanted)
+      → ((schema : Option Schema) (tuples : Tuples) → Shows schema target.stored tuples → index_with def.id.0 target.stored.space.now.schema.indexes ≡ Some def
+      → (def.id.0 ≡ 0) ⊎ (def.unique ≡ true) → found ≡ get (tuples_by_index def tuples) wanted)
       → found ≡ holder_of before space def wanted
   held_so def wanted key found there unique told =
-      told (schema_of before space) (tuples_in before space) target.primary.now is.stored (ap (λ (s : Schema). index_with 0 s.indexes) (sym is.schema) ∙ is.primary)
-      (ap (λ (s : Schema). index_with def.id.0 s.indexes) (sym is.schema) ∙ there) (one_each def there unique)
+      told (schema_of before space) (tuples_in before space) is.stored (ap (λ (s : Schema). index_with def.id.0 s.indexes) (sym is.schema) ∙ there) (by_unique (def.id.0 == 0) refl unique)
+    where
+      by_unique : (b : Bool) → (def.id.0 == 0) ≡ b → (b || def.unique) ≡ true → (def.id.0 ≡ 0) ⊎ (def.unique ≡ true)
+      by_unique true zero unique = inl (eqb-true def.id.0 0 zero)
+      by_unique false other unique = inr unique
 
   pub entry_is : (bytes tuple : List ℕ) (own : Option Key) → IsKeyOf (Some bytes) own
       → ((key : Key) → AreFit key → bytes ≡ comparable_of key → Some tuple ≡ get (tuples_in before space) key)
@@ -109,5 +97,5 @@ module _ (before : State) (target : Target) (is : IsTarget before target) where
         ap (option_map (pair key)) (sym e),
         fit,
         same,
-        own_key_is target.schema.now target.primary.now (tuples_in before space) key tuple is.primary (subst (λ s. StandByPrimary s (tuples_in before space)) (sym is.schema) is.stored.holds.stands) (sym e),
+        own_key_is target.schema.now target.primary.now (tuples_in before space) key tuple is.primary (subst (λ s. StandByPrimary s (tuples_in before space)) (sym is.schema) (its_keyed before is.holds.sound space target.stored.space.now.schema is.stored.sees.state.holds.is).0) (sym e),
       )

@@ -40,7 +40,7 @@ pub there_at : (before : State) (target : Target) (place : ℕ) (def : IndexDef)
     → drop place target.schema.now.indexes ≡ def ∷ others → index_with def.id.0 target.schema.now.indexes ≡ Some def
 there_at before target place def others is next =
     let indexes = target.schema.now.indexes in
-    let keyed = (its_keyed before is.holds.sound target.scope.space.0 target.stored.now.schema is.stored.holds.is).2 in
+    let keyed = (its_keyed before is.holds.sound target.scope.space.0 target.stored.space.now.schema is.stored.sees.state.holds.is).2 in
     let apart = subst (λ (s : Schema). AllByRecursion (λ d. index_with d.id.0 s.indexes ≡ Some d) s.indexes) (sym is.schema) keyed.apart in
     (subst (AllByRecursion (λ d. index_with d.id.0 indexes ≡ Some d)) next (all_dropped (λ d. index_with d.id.0 indexes ≡ Some d) place indexes apart)).0
 

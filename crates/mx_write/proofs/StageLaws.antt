@@ -9,11 +9,7 @@ use Rattle.mx_schema.specs.declared.index_def.IndexDef.{IndexDef}
 use Rattle.mx_schema.specs.declared.schema.Schema.{Schema}
 use Rattle.mx_schema.specs.Catalogues.{index_with, schema_of}
 use Rattle.mx_schema.specs.State.{State, tuples_in}
-use Rattle.mx_space.specs.Kept.{StoresIndexed}
-use Rattle.mx_space.specs.declared.space.Space.{Space}
-use Rattle.mx_space.specs.declared.state.State as coded
-use Rattle.mx_space.specs.Spaces.{space_under}
-use Rattle.mx_space.specs.Stored.{Holds, HoldsSpace}
+use Rattle.mx_space.specs.OwnChanges.{Shows}
 use Rattle.mx_write.specs.declared.made.Made as code
 use Rattle.mx_write.specs.declared.scope.Target.{Target}
 use Rattle.mx_write.specs.Lookup.{the_index, the_space}
@@ -21,7 +17,7 @@ use Rattle.mx_write.specs.Made.{Made}
 use Rattle.mx_write.specs.Writes.{Write}
 use Rattle.mx_write.specs.Judged.{Judged, found_or, judged_as, next_stage, unless, ◌>>=◌}
 use Rattle.mx_write.specs.Makes.{IsRefusedBy, JudgesFound, JudgesMade}
-use Rattle.mx_write.specs.Steps.{IsTarget, Refuses, refusal_of}
+use Rattle.mx_write.specs.Steps.{IsTarget, Refuses, SeesState, refusal_of}
 
 module _ {X Y : Type 0} (judged : Judged X) (stage : X → Judged Y) where
   -- it goes on with what was found
@@ -108,18 +104,13 @@ module _ (space : ℕ) (schema : Schema) (index : IndexId) where
 
 -- ---- a space as the code has it
 
--- a space that memory has is stored with its indexes
-pub space_stored : (before : State) (memory : coded.State) (id : ℕ) (found : Option Space) (space : Space) → Holds memory before
-    → found ≡ space_under id memory.spaces.entries.items → found ≡ Some space → StoresIndexed (schema_of before id) space (tuples_in before id)
-space_stored before memory id found space holds is there =
-    subst (λ o. HoldsSpace (schema_of before id) o (tuples_in before id)) (sym is ∙ there) (holds.spaces id)
-
 -- a space that was found, with its primary index
-pub is_target : (before : State) (target : Target) → Holds target.scope.state.now before
-    → StoresIndexed (schema_of before target.scope.space.0) target.stored.now (tuples_in before target.scope.space.0)
-    → target.schema.now ≡ target.stored.now.schema → index_with 0 target.schema.now.indexes ≡ Some target.primary.now → IsTarget before target
-is_target before target holds stored same there = record {
-  holds = holds;
+pub is_target : (before : State) (target : Target) → SeesState before target.scope
+    → Shows (schema_of before target.scope.space.0) target.stored (tuples_in before target.scope.space.0)
+    → target.schema.now ≡ target.stored.space.now.schema → index_with 0 target.schema.now.indexes ≡ Some target.primary.now → IsTarget before target
+is_target before target sees stored same there = record {
+  holds = sees.holds;
+  alone = sees.alone;
   stored = stored;
   schema = same;
   primary = there;

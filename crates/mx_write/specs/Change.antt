@@ -1,16 +1,14 @@
 -- What a statement changes of a state: what stands under one primary key of a space.
-use Rattle.std.specs.Prelude.{ℕ, ◌&&◌, List, Option, Some, None, is_none, ◌==◌, if◌then◌else◌}
-use Rattle.mx_key.specs.Keys.{Key}
+use Rattle.std.specs.Prelude.{◌&&◌, Option, Some, None, is_none, ◌==◌, if◌then◌else◌}
 use Rattle.mx_schema.specs.SchemaChanges.{without_index}
 use Rattle.mx_schema.specs.State.{State, index_rows}
+use Rattle.mx_space.specs.Reserves.{PlainChange}
 pub use Rattle.mx_space.specs.Reserves.{state_with}
 use Rattle.mx_write.specs.Descriptions.{index_named_by, space_named_by}
 
 -- the tuple that stands under a primary key of a space afterwards, or none
-pub record Change : Type 0 where
-  pub space : ℕ
-  pub key : Key
-  pub tuple : Option (List ℕ)
+abbrev pub Change : Type 0
+Change = PlainChange
 
 -- a space's tuples go before the row of its primary index
 abbrev pub without_dropped : State → Change → State

@@ -11,8 +11,8 @@ use Rattle.mx_schema.specs.declared.schema.Schema.{Schema}
 use Rattle.mx_schema.specs.Catalogues.{index_with, schema_of}
 use Rattle.mx_schema.specs.IndexRows.{index_in}
 use Rattle.mx_schema.specs.State.{State, index_rows, key_in, tuples_in}
-use Rattle.mx_space.specs.Kept.{StoresIndexed}
-use Rattle.mx_space.specs.Stored.{Holds}
+use Rattle.mx_space.specs.OwnChanges.{HoldsView, Shows}
+use Rattle.mx_write.specs.declared.scope.Scope.{Scope}
 use Rattle.mx_write.specs.declared.scope.Target.{Target}
 use Rattle.mx_write.specs.declared.writable.Writer.{Writer}
 use Rattle.mx_write.specs.Checks.{tuple_fault}
@@ -20,7 +20,7 @@ use Rattle.mx_schema.specs.Picks.{Indexed}
 use Rattle.mx_write.specs.Judged.{Judged, reads_of, unless, ◌>>=◌}
 use Rattle.mx_write.specs.Lookup.{entry_with, the_index, the_key, the_primary, the_space, the_unique_index}
 use Rattle.mx_write.specs.Reads.{key_read}
-use Rattle.mx_write.specs.Writable.{primary_name, write_refusal}
+use Rattle.mx_write.specs.Writable.{describes_schema, primary_name, write_refusal}
 
 -- a check passes, or refuses so, or memory ran out
 abbrev pub Refuses : Refusal → Option Refusal → Type 0
@@ -45,11 +45,17 @@ refusal_of (Err why) = Some why
 abbrev pub JudgesAs : {X : Type 0} → Result X Refusal → Result X Refusal → Type 0
 JudgesAs result outcome = MatchResult result (λ x. outcome ≡ Ok x) (λ why. (outcome ≡ Err why) ⊎ (why ≡ OutOfMemory))
 
+-- a write is judged over a view of this state; one of a row that describes a space or an index without own changes
+pub record SeesState (before : State) (scope : Scope) : Type 0 where
+  pub holds : HoldsView scope.view before
+  pub alone : describes_schema scope.space.0 ≡ true → scope.view.over ≡ None
+
 -- a space that is there and has a primary index
 pub record IsTarget (before : State) (target : Target) : Type 0 where
-  pub holds : Holds target.scope.state.now before
-  pub stored : StoresIndexed (schema_of before target.scope.space.0) target.stored.now (tuples_in before target.scope.space.0)
-  pub schema : target.schema.now ≡ target.stored.now.schema
+  pub holds : HoldsView target.scope.view before
+  pub alone : describes_schema target.scope.space.0 ≡ true → target.scope.view.over ≡ None
+  pub stored : Shows (schema_of before target.scope.space.0) target.stored (tuples_in before target.scope.space.0)
+  pub schema : target.schema.now ≡ target.stored.space.now.schema
   pub primary : index_with 0 target.schema.now.indexes ≡ Some target.primary.now
 
 -- the stages of a write that puts a tuple, before its own ones

@@ -6,7 +6,7 @@ ghost use Rattle.mx_schema.specs.IndexRows.{index_in};
 ghost use Rattle.mx_schema.specs.SchemaChecks.{fields_in, first_number};
 ghost use Rattle.mx_schema.specs.SpaceRows.{space_in};
 ghost use Rattle.mx_schema.specs.State as plain;
-ghost use Rattle.mx_space.specs.Stored.{Holds};
+ghost use Rattle.mx_space.specs.OwnChanges.{HoldsView};
 ghost use Rattle.mx_write.specs.Descriptions as spec;
 ghost use Rattle.mx_write.specs.Lookup.{other_indexes};
 ghost use Rattle.mx_write.specs.Steps.{CanBeMade, CanBuild, Checks, IsTarget, has_one};
@@ -77,12 +77,12 @@ fn check_space_row(alloc: Global, row: &[u8]) -> Result<(), Refusal>
 }
 
 fn check_index_row(scope: &Scope<'_>, row: &[u8]) -> Result<(), Refusal>
-    ensures { (before : plain.State) → Holds scope.now.state.now before → Checks result (spec.index_row_fault before row.now) }
+    ensures { (before : plain.State) → HoldsView scope.now.view before → Checks result (spec.index_row_fault before row.now) }
 {
     let Some(space) = first_space(scope.alloc, row)? else {
         return Err(Refusal::BadIndexRow);
     };
-    let indexed = find_space(scope.state, space)?;
+    let indexed = find_space(scope.view, space)?;
     let index = described_index(scope.alloc, row)?;
     check_beside(&indexed.schema().indexes, index)
 }
@@ -135,9 +135,9 @@ pub(crate) fn check_new_index(target: &Target<'_>, tuple: &[u8]) -> Result<(), R
 }
 
 fn check_build(scope: &Scope<'_>, row: &IndexRow) -> Result<(), Refusal>
-    ensures { (before : plain.State) → Holds scope.now.state.now before → CanBeMade before row.now → Checks result (spec.build_fault_by before (Some row.now)) }
+    ensures { (before : plain.State) → HoldsView scope.now.view before → scope.now.view.over ≡ None → CanBeMade before row.now → Checks result (spec.build_fault_by before (Some row.now)) }
 {
-    let Some(space) = scope.state.space(row.space) else {
+    let Some(space) = scope.view.space(row.space) else {
         return Ok(());
     };
     match space.check_index(scope.alloc, &row.def) {
@@ -169,7 +169,7 @@ fn build_refusal(
 /// # Errors
 /// It describes a space that has indexes, or a primary index that isn't the last one of its space.
 pub(crate) fn check_drop(scope: &Scope<'_>, tuple: &[u8]) -> Result<(), Refusal>
-    ensures { (before : plain.State) → Holds scope.now.state.now before → Checks result (spec.drop_fault before scope.now.space.0 tuple.now) }
+    ensures { (before : plain.State) → HoldsView scope.now.view before → Checks result (spec.drop_fault before scope.now.space.0 tuple.now) }
 {
     match scope.space.0 {
         SPACE_ROWS => check_space_drop(scope, tuple),
@@ -179,12 +179,12 @@ pub(crate) fn check_drop(scope: &Scope<'_>, tuple: &[u8]) -> Result<(), Refusal>
 }
 
 fn check_space_drop(scope: &Scope<'_>, row: &[u8]) -> Result<(), Refusal>
-    ensures { (before : plain.State) → Holds scope.now.state.now before → Checks result (spec.space_drop_fault before (space_in row.now)) }
+    ensures { (before : plain.State) → HoldsView scope.now.view before → Checks result (spec.space_drop_fault before (space_in row.now)) }
 {
     let Some(def) = described_space(scope.alloc, row)? else {
         return Ok(());
     };
-    match scope.state.space(def.id) {
+    match scope.view.space(def.id) {
         Some(space) => check_without_indexes(scope.alloc, space.schema()),
         None => Ok(()),
     }
@@ -201,12 +201,12 @@ fn check_without_indexes(alloc: Global, schema: &Schema) -> Result<(), Refusal>
 }
 
 fn check_index_drop(scope: &Scope<'_>, row: &[u8]) -> Result<(), Refusal>
-    ensures { (before : plain.State) → Holds scope.now.state.now before → Checks result (spec.index_drop_fault before (index_in row.now)) }
+    ensures { (before : plain.State) → HoldsView scope.now.view before → Checks result (spec.index_drop_fault before (index_in row.now)) }
 {
     let Some(row) = described_index(scope.alloc, row)? else {
         return Ok(());
     };
-    match scope.state.space(row.space) {
+    match scope.view.space(row.space) {
         Some(space) => check_dropped_last(scope.alloc, row.def.id, space.schema()),
         None => Ok(()),
     }

@@ -13,7 +13,6 @@ ghost use Rattle.mx_schema.specs.declared.schema.Schema.{Schema};
 ghost use Rattle.mx_schema.specs.Picks.{Indexed};
 ghost use Rattle.mx_schema.specs.State as plain;
 ghost use Rattle.mx_schema.specs.State.{key_in};
-ghost use Rattle.mx_space.specs.Stored.{Holds};
 ghost use Rattle.mx_write.specs.Judged.{Judged, reads_of, unless, ◌>>=◌ as ◌and_then◌};
 ghost use Rattle.mx_write.specs.Lookup as lookup;
 ghost use Rattle.mx_write.specs.Lookup.{entry_with, is_unique, the_key, the_primary, the_space, the_unique_index};
@@ -21,7 +20,7 @@ ghost use Rattle.mx_write.specs.Made.{Made};
 ghost use Rattle.mx_write.specs.Makes.{IsRefusedBy};
 ghost use Rattle.mx_write.specs.Notes.{AddsReads, IsNotedUpTo};
 ghost use Rattle.mx_write.specs.Reads.{key_read};
-ghost use Rattle.mx_write.specs.Steps.{IsKeyOf, IsTarget, in_entry};
+ghost use Rattle.mx_write.specs.Steps.{IsKeyOf, IsTarget, SeesState, in_entry};
 ghost use Rattle.mx_write.specs.Writable as writable;
 
 use crate::lookup::{find_index, find_key, find_space, find_unique_index};
@@ -55,13 +54,13 @@ impl<'a> Scope<'a> {
         notes: &mut Notes,
     ) -> Result<(Target<'a>, Option<Entry<'a>>), Refusal>
         requires array { IsArray key.now }
-        ensures judges { (before : plain.State) (rest : Schema → IndexDef → Option Indexed → Judged Made) → Holds self.entry.state.now before → MatchResult result
+        ensures judges { (before : plain.State) (rest : Schema → IndexDef → Option Indexed → Judged Made) → SeesState before self.entry → MatchResult result
             (λ found. (found.0.scope ≡ self.entry) × IsTarget before found.0 × MatchOption found.1
             ((in_entry self.entry.writer before self.entry.space.0 kind index.0 key.now rest).outcome ≡ (rest found.0.schema.now found.0.primary.now None).outcome)
             (λ entry. (own : Key) × ((in_entry self.entry.writer before self.entry.space.0 kind index.0 key.now rest).outcome ≡ (rest found.0.schema.now found.0.primary.now (Some (own, entry.tuple.now))).outcome)
             × AreFit own × (entry.key ≡ comparable_of own) × (key_in found.0.primary.now.key entry.tuple.now ≡ Ok own)))
             (λ refusal. IsRefusedBy refusal (in_entry self.entry.writer before self.entry.space.0 kind index.0 key.now rest)) }
-        ensures notes { (before : plain.State) (rest : Schema → IndexDef → Option Indexed → Judged Made) → Holds self.entry.state.now before → MatchResult result
+        ensures notes { (before : plain.State) (rest : Schema → IndexDef → Option Indexed → Judged Made) → SeesState before self.entry → MatchResult result
             (λ found. MatchOption found.1
             (IsNotedUpTo notes.old notes.new (in_entry self.entry.writer before self.entry.space.0 kind index.0 key.now rest) (rest found.0.schema.now found.0.primary.now None))
             (λ entry. (own : Key) → key_in found.0.primary.now.key entry.tuple.now ≡ Ok own
@@ -69,7 +68,7 @@ impl<'a> Scope<'a> {
             (λ refusal. (refusal ≡ OutOfMemory) ⊎ AddsReads notes.old notes.new (in_entry self.entry.writer before self.entry.space.0 kind index.0 key.now rest).reads) }
     {
         notes.note_space(self.alloc, self.space)?;
-        let stored = find_space(self.state, self.space)?;
+        let stored = find_space(self.view, self.space)?;
         let named = primary_name(index, key);
         if let Some(refusal) = write_refusal(self.writer, self.space, kind, named) {
             return Err(refusal);

@@ -6,13 +6,12 @@ ghost use Rattle.mx_key.specs.Comparable.{comparable_of};
 ghost use Rattle.mx_msgpack.specs.Items.{IsArray};
 ghost use Rattle.mx_schema.specs.State as plain;
 ghost use Rattle.mx_schema.specs.State.{key_in};
-ghost use Rattle.mx_space.specs.Stored.{Holds};
 ghost use Rattle.mx_write.specs.Insert.{inserts, inserts_taken};
 ghost use Rattle.mx_write.specs.Lookup.{all_indexes, own_key};
 ghost use Rattle.mx_write.specs.Makes.{JudgesMade};
 ghost use Rattle.mx_write.specs.Notes.{AddsReads, NotesJudged};
 ghost use Rattle.mx_write.specs.Writes as statement;
-ghost use Rattle.mx_write.specs.Steps.{IsTarget, refusal_of};
+ghost use Rattle.mx_write.specs.Steps.{IsTarget, SeesState, refusal_of};
 ghost use Rattle.mx_write.specs.Unique.{are_free};
 
 use crate::descriptions::{check_description, check_new_index};
@@ -32,9 +31,9 @@ impl Scope<'_> {
     /// Why it is refused.
     pub fn insert(self, tuple: &[u8], notes: &mut Notes) -> Result<Made, Refusal>
         requires array { IsArray tuple.now }
-        ensures judges { (before : plain.State) → Holds self.entry.state.now before
+        ensures judges { (before : plain.State) → SeesState before self.entry
             → JudgesMade before self.entry.space.0 (statement.Insert tuple.now) result (inserts self.entry.writer before self.entry.space.0 tuple.now) }
-        ensures notes { (before : plain.State) → Holds self.entry.state.now before
+        ensures notes { (before : plain.State) → SeesState before self.entry
             → NotesJudged notes.old notes.new result (inserts self.entry.writer before self.entry.space.0 tuple.now) }
     {
         let (target, key) = self.find_target(INSERT, tuple, notes)?;

@@ -1,10 +1,10 @@
 //! Any write.
 
 ghost use Rattle.mx_schema.specs.State as plain;
-ghost use Rattle.mx_space.specs.Stored.{Holds};
 ghost use Rattle.mx_write.specs.Judge.{judged_write};
 ghost use Rattle.mx_write.specs.Makes.{JudgesFound};
 ghost use Rattle.mx_write.specs.Notes.{NotesJudged};
+ghost use Rattle.mx_write.specs.Steps.{SeesState};
 ghost use Rattle.mx_write.specs.Views.{AreArrays, write_view};
 
 use crate::made::Made;
@@ -21,9 +21,9 @@ impl Scope<'_> {
     /// Why it is refused.
     pub fn judge(self, write: &Write<'_>, notes: &mut Notes) -> Result<Option<Made>, Refusal>
         requires arrays { AreArrays write.now }
-        ensures judges { (before : plain.State) → Holds self.entry.state.now before
+        ensures judges { (before : plain.State) → SeesState before self.entry
             → JudgesFound before self.entry.space.0 (write_view write.now) result (judged_write self.entry.writer before self.entry.space.0 (write_view write.now)) }
-        ensures notes { (before : plain.State) → Holds self.entry.state.now before
+        ensures notes { (before : plain.State) → SeesState before self.entry
             → NotesJudged notes.old notes.new result (judged_write self.entry.writer before self.entry.space.0 (write_view write.now)) }
     {
         match *write {

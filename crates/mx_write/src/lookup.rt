@@ -9,7 +9,7 @@ ghost use Rattle.mx_msgpack.specs.Items.{IsArray};
 ghost use Rattle.mx_schema.specs.Catalogues.{index_with, schema_of};
 ghost use Rattle.mx_schema.specs.State as plain;
 ghost use Rattle.mx_schema.specs.State.{tuples_in};
-ghost use Rattle.mx_space.specs.Stored.{Holds, HoldsSpace};
+ghost use Rattle.mx_space.specs.OwnChanges.{HoldsView, Shows};
 ghost use Rattle.mx_write.specs.Lookup as lookup;
 ghost use Rattle.mx_write.specs.Lookup.{is_unique, the_key, the_unique_index};
 ghost use Rattle.mx_write.specs.Makes.{IsRefusedBy};
@@ -18,7 +18,7 @@ use mx_base::{IndexId, Name, Refusal, SpaceId, TypeName};
 use mx_key::{Misfit, PartKind, RangeFault, whole_key};
 use mx_msgpack::Bytes;
 use mx_schema::{IndexDef, Schema};
-use mx_space::{Space, State};
+use mx_space::{SpaceView, StateView};
 use std::alloc::{AllocError, Global};
 
 /// The refusal of a request of this type, which isn't built yet: as if the type were unknown.
@@ -34,12 +34,12 @@ pub fn not_built(kind: u8) -> Refusal
 ///
 /// # Errors
 /// The refusal of a statement on it, where there is none.
-pub fn find_space(state: &State, id: SpaceId) -> Result<&Space, Refusal>
-    ensures { (before : plain.State) → Holds state.now before → MatchResult result
-        (λ space. HoldsSpace (schema_of before id.0) (Some space.now) (tuples_in before id.0))
+pub fn find_space(view: StateView<'_>, id: SpaceId) -> Result<SpaceView<'_>, Refusal>
+    ensures { (before : plain.State) → HoldsView view.entry before → MatchResult result
+        (λ space. Shows (schema_of before id.0) space (tuples_in before id.0))
         (λ refusal. (schema_of before id.0 ≡ None) × (refusal ≡ SpaceMissing id)) }
 {
-    match state.space(id) {
+    match view.space(id) {
         Some(space) => Ok(space),
         None => Err(Refusal::SpaceMissing { space: id }),
     }

@@ -2,11 +2,10 @@
 
 ghost use Rattle.mx_msgpack.specs.Items.{IsArray};
 ghost use Rattle.mx_schema.specs.State as plain;
-ghost use Rattle.mx_space.specs.Stored.{Holds};
 ghost use Rattle.mx_write.specs.Makes.{JudgesMade};
 ghost use Rattle.mx_write.specs.Notes.{NotesJudged};
 ghost use Rattle.mx_write.specs.Replace.{replaces, replaces_taken};
-ghost use Rattle.mx_write.specs.Steps.{HasOwnKey, IsTarget};
+ghost use Rattle.mx_write.specs.Steps.{HasOwnKey, IsTarget, SeesState};
 ghost use Rattle.mx_write.specs.Writes as statement;
 
 use crate::made::{Effect, Made, make};
@@ -24,9 +23,9 @@ impl Scope<'_> {
     /// Why it is refused.
     pub fn replace(self, tuple: &[u8], notes: &mut Notes) -> Result<Made, Refusal>
         requires array { IsArray tuple.now }
-        ensures judges { (before : plain.State) → Holds self.entry.state.now before
+        ensures judges { (before : plain.State) → SeesState before self.entry
             → JudgesMade before self.entry.space.0 (statement.Replace tuple.now) result (replaces self.entry.writer before self.entry.space.0 tuple.now) }
-        ensures notes { (before : plain.State) → Holds self.entry.state.now before
+        ensures notes { (before : plain.State) → SeesState before self.entry
             → NotesJudged notes.old notes.new result (replaces self.entry.writer before self.entry.space.0 tuple.now) }
     {
         let (target, key) = self.find_target(REPLACE, tuple, notes)?;

@@ -3,13 +3,13 @@
 use crate::writable::Writer;
 use mx_base::SpaceId;
 use mx_schema::{IndexDef, Schema};
-use mx_space::{Space, State};
+use mx_space::{SpaceView, StateView};
 use std::alloc::Global;
 
-/// A space of a state, and who writes there.
+/// A space of a state as it is seen, and who writes there.
 #[derive(Clone, Copy)]
 pub struct Scope<'a> {
-    pub state: &'a State,
+    pub view: StateView<'a>,
     pub alloc: Global,
     pub writer: Writer,
     pub space: SpaceId,
@@ -19,7 +19,7 @@ pub struct Scope<'a> {
 #[derive(Clone, Copy)]
 pub(crate) struct Target<'a> {
     pub scope: Scope<'a>,
-    pub stored: &'a Space,
+    pub stored: SpaceView<'a>,
     pub schema: &'a Schema,
     pub primary: &'a IndexDef,
 }

@@ -6,12 +6,11 @@ ghost use Rattle.mx_msgpack.specs.Items.{IsArray};
 ghost use Rattle.mx_schema.specs.declared.index_def.IndexDef.{IndexDef};
 ghost use Rattle.mx_schema.specs.declared.schema.Schema.{Schema};
 ghost use Rattle.mx_schema.specs.State as plain;
-ghost use Rattle.mx_space.specs.Stored.{Holds};
 ghost use Rattle.mx_write.specs.Judged.{Judged};
 ghost use Rattle.mx_write.specs.Made.{Made};
 ghost use Rattle.mx_write.specs.Makes.{IsRefusedBy};
 ghost use Rattle.mx_write.specs.Notes.{AddsReads, IsNotedUpTo};
-ghost use Rattle.mx_write.specs.Steps.{HasOwnKey, IsTarget, in_target};
+ghost use Rattle.mx_write.specs.Steps.{HasOwnKey, IsTarget, SeesState, in_target};
 
 use crate::checks::check_tuple;
 use crate::lookup::{find_index, find_space};
@@ -33,16 +32,16 @@ impl<'a> Scope<'a> {
         notes: &mut Notes,
     ) -> Result<(Target<'a>, Bytes), Refusal>
         requires array { IsArray tuple.now }
-        ensures judges { (before : plain.State) (rest : Schema → IndexDef → Judged Made) → Holds self.entry.state.now before → MatchResult result
+        ensures judges { (before : plain.State) (rest : Schema → IndexDef → Judged Made) → SeesState before self.entry → MatchResult result
             (λ found. (found.0.scope ≡ self.entry) × IsTarget before found.0 × HasOwnKey found.0.primary.now tuple.now found.1
             × ((in_target self.entry.writer before self.entry.space.0 kind tuple.now rest).outcome ≡ (rest found.0.schema.now found.0.primary.now).outcome))
             (λ refusal. IsRefusedBy refusal (in_target self.entry.writer before self.entry.space.0 kind tuple.now rest)) }
-        ensures notes { (before : plain.State) (rest : Schema → IndexDef → Judged Made) → Holds self.entry.state.now before → MatchResult result
+        ensures notes { (before : plain.State) (rest : Schema → IndexDef → Judged Made) → SeesState before self.entry → MatchResult result
             (λ found. IsNotedUpTo notes.old notes.new (in_target self.entry.writer before self.entry.space.0 kind tuple.now rest) (rest found.0.schema.now found.0.primary.now))
             (λ refusal. (refusal ≡ OutOfMemory) ⊎ AddsReads notes.old notes.new (in_target self.entry.writer before self.entry.space.0 kind tuple.now rest).reads) }
     {
         notes.note_space(self.alloc, self.space)?;
-        let stored = find_space(self.state, self.space)?;
+        let stored = find_space(self.view, self.space)?;
         if let Some(refusal) = write_refusal(self.writer, self.space, kind, Some(tuple)) {
             return Err(refusal);
         }

@@ -6,10 +6,9 @@ ghost use Rattle.mx_key.specs.Keys.{Key, AreFit};
 ghost use Rattle.mx_msgpack.specs.Items.{IsArray};
 ghost use Rattle.mx_schema.specs.State as plain;
 ghost use Rattle.mx_schema.specs.State.{key_in};
-ghost use Rattle.mx_space.specs.Stored.{Holds};
 ghost use Rattle.mx_write.specs.Makes.{JudgesFound, JudgesMade};
 ghost use Rattle.mx_write.specs.Notes.{NotesJudged};
-ghost use Rattle.mx_write.specs.Steps.{IsTarget};
+ghost use Rattle.mx_write.specs.Steps.{IsTarget, SeesState};
 ghost use Rattle.mx_write.specs.Update.{update_found, updates};
 ghost use Rattle.mx_write.specs.Writes as statement;
 
@@ -39,10 +38,10 @@ impl Scope<'_> {
         notes: &mut Notes,
     ) -> Result<Option<Made>, Refusal>
         requires array { IsArray key.now }
-        ensures judges { (before : plain.State) → Holds self.entry.state.now before
+        ensures judges { (before : plain.State) → SeesState before self.entry
             → JudgesFound before self.entry.space.0 (statement.Update index.0 base key.now operations.now) result
             (updates self.entry.writer before self.entry.space.0 index.0 base key.now operations.now) }
-        ensures notes { (before : plain.State) → Holds self.entry.state.now before
+        ensures notes { (before : plain.State) → SeesState before self.entry
             → NotesJudged notes.old notes.new result (updates self.entry.writer before self.entry.space.0 index.0 base key.now operations.now) }
     {
         let (target, found) = self.find(UPDATE, index, key, notes)?;

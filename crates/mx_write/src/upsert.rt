@@ -3,10 +3,9 @@
 ghost use Rattle.std.specs.Prelude.{None, Some};
 ghost use Rattle.mx_msgpack.specs.Items.{IsArray};
 ghost use Rattle.mx_schema.specs.State as plain;
-ghost use Rattle.mx_space.specs.Stored.{Holds};
 ghost use Rattle.mx_write.specs.Makes.{JudgesMade};
 ghost use Rattle.mx_write.specs.Notes.{NotesJudged};
-ghost use Rattle.mx_write.specs.Steps.{HasOwnKey, IsTarget};
+ghost use Rattle.mx_write.specs.Steps.{HasOwnKey, IsTarget, SeesState};
 ghost use Rattle.mx_write.specs.Upsert.{upsert_found, upserts};
 ghost use Rattle.mx_write.specs.Writes as statement;
 
@@ -37,10 +36,10 @@ impl Scope<'_> {
         notes: &mut Notes,
     ) -> Result<Made, Refusal>
         requires array { IsArray tuple.now }
-        ensures judges { (before : plain.State) → Holds self.entry.state.now before
+        ensures judges { (before : plain.State) → SeesState before self.entry
             → JudgesMade before self.entry.space.0 (statement.Upsert base tuple.now operations.now) result
             (upserts self.entry.writer before self.entry.space.0 base tuple.now operations.now) }
-        ensures notes { (before : plain.State) → Holds self.entry.state.now before
+        ensures notes { (before : plain.State) → SeesState before self.entry
             → NotesJudged notes.old notes.new result (upserts self.entry.writer before self.entry.space.0 base tuple.now operations.now) }
     {
         let (target, key) = self.find_target(UPSERT, tuple, notes)?;

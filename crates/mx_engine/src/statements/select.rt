@@ -18,7 +18,7 @@ use mx_key::IterKind;
 use mx_model::{misfit_refusal, part_count_refusal, takes_iterator};
 use mx_msgpack::{Tuples, known_array};
 use mx_schema::{IndexDef, IndexKind};
-use mx_space::{Pick, SelectFault};
+use mx_space::{Pick, SelectFault, StateView};
 use mx_write::{find_index, find_space};
 
 impl Engine {
@@ -34,13 +34,11 @@ impl Engine {
         ensures { (state : plain.State) → Holds self.now.state state → IsReplyOf (reply_of result found.new)
             (select_answer_in state space.0 index.0 pick.now.limit pick.now.offset pick.now.iterator pick.now.key.now) }
     {
-        let stored = find_space(&self.state, space)?;
+        let view = StateView::of(&self.state);
+        let stored = find_space(view, space)?;
         let def = find_index(self.alloc, stored.schema(), index)?;
         check_key(def, pick.iterator, pick.key)?;
-        match self
-            .state
-            .select(self.alloc, space, stored, def, pick, found)
-        {
+        match view.select(self.alloc, space, stored, def, pick, found) {
             Ok(_read) => Ok(Answered::Tuples),
             Err(SelectFault::Misfit(misfit)) => Err(misfit_refusal(def, misfit)),
             Err(SelectFault::TooLong) => Err(Refusal::ResultTooLong),

@@ -22,6 +22,7 @@ use mx_model::{WRITABLE_NODE, next_lsn};
 use mx_msgpack::Tuples;
 use mx_row::{RowRef, Tx, TxRef, to_owned};
 use mx_schema::{INDEX_ROWS, SPACE_ROWS};
+use mx_space::StateView;
 use mx_write::{Effect, Made, Notes, Scope, Write, Writer, row_of};
 use std::alloc::{AllocError, Global};
 
@@ -39,7 +40,7 @@ impl Engine {
         ensures keeps { SameNode self.old self.new }
     {
         let scope = Scope {
-            state: &self.state,
+            view: StateView::of(&self.state),
             alloc: self.alloc,
             writer: Writer::Client,
             space,

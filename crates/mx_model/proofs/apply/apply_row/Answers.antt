@@ -16,14 +16,14 @@ pub returns-in_err-install-in-Some : goal.returns-in_err-install-in-Some
 returns-in_err-install-in-Some c = λ before holds.
     let p = err_from_is_err_and c.from_residual-in_err-install-in-Some.result c.from_residual-in_err-install-in-Some.ensures.1 in
     let write = write_view c.write_of-write.result in
-    let (made, outcome, makes) = rw c.in-Some.is at (c.in_ok-made.ensures before holds) in
+    let (made, outcome, makes) = rw c.in-Some.is at (c.in_ok-made.ensures.judges before (record { holds = c.of.ensures.shown before holds; alone = λ _. c.of.ensures.no_writes })) in
     rw (p.1, p.2) (inr refl, c.in_err-install-in-Some.ensures before Journal write made holds outcome makes)
 
 pub returns-in_ok-install-in-Some : goal.returns-in_ok-install-in-Some
 returns-in_ok-install-in-Some c = λ before holds.
     let row = row_value c.args.row.now in
     let write = write_view c.write_of-write.result in
-    let (made, outcome, makes) = rw c.in-Some.is at (c.in_ok-made.ensures before holds) in
+    let (made, outcome, makes) = rw c.in-Some.is at (c.in_ok-made.ensures.judges before (record { holds = c.of.ensures.shown before holds; alone = λ _. c.of.ensures.no_writes })) in
     let (takes, after) = row_applied before row write c.write_of-write.ensures made outcome in
     (takes, subst (Holds c.install.new.state) after (c.in_ok-install-in-Some.ensures before Journal write made holds outcome makes))
 
@@ -31,5 +31,5 @@ pub returns-in-None : goal.returns-in-None
 returns-in-None c = λ before holds.
     let row = row_value c.args.row.now in
     let write = write_view c.write_of-write.result in
-    let (takes, after) = row_applied before row write c.write_of-write.ensures nothing (rw c.in-None.is at (c.in_ok-made.ensures before holds)) in
+    let (takes, after) = row_applied before row write c.write_of-write.ensures nothing (rw c.in-None.is at (c.in_ok-made.ensures.judges before (record { holds = c.of.ensures.shown before holds; alone = λ _. c.of.ensures.no_writes }))) in
     (takes, subst (Holds c.args.state.now) after holds)

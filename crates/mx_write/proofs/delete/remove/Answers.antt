@@ -39,4 +39,4 @@ returns c = λ before own target fit bytes has.
     (goes_on stage (λ _. next >>= λ _. made space write own None (old ∷ [])) tt (none_refuses _ writable)
     ∙ goes_on next (λ _. made space write own None (old ∷ [])) tt (none_refuses _ (c.in_ok-check_drop.ensures before target.holds))
     ∙ ap (λ o. (made space write own None (o ∷ [])).outcome) (sym c.in_ok-tuple.ensures))
-    (judged_made before space write t.schema.now own _ _ _ (target.stored.holds.is ∙ ap Some (sym target.schema)) fit bytes tt (ap (row_with space write) array) c.make.result c.make.ensures)
+    (judged_made before space write t.schema.now own _ _ _ (target.stored.sees.state.holds.is ∙ ap Some (sym target.schema)) fit bytes tt (ap (row_with space write) array) c.make.result c.make.ensures)

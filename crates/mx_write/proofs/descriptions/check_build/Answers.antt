@@ -1,5 +1,5 @@
 use Rattle.std.proofs.Common.{◌≡◌, ◌⊎◌, inl, inr, Option, Some, sym, ap, ◌∙◌}
-use Rattle.std.specs.Option.{option_copied, option_map}
+use Rattle.std.specs.Option.{option_map}
 use Rattle.mx_base.specs.declared.refusal.Refusal.{Refusal}
 use Rattle.mx_schema.specs.declared.index_def.IndexDef.{IndexDef}
 use Rattle.mx_schema.specs.declared.schema.Schema.{Schema}
@@ -9,7 +9,6 @@ use Rattle.mx_space.specs.declared.build.BuildFault.TheVariants.{NoMemory}
 use Rattle.mx_space.specs.Builds.{build_fault}
 use Rattle.mx_write.specs.Descriptions.{build_fault_on, build_refusal}
 use Rattle.mx_write.specs.Steps.{Refuses}
-use Rattle.mx_write.proofs.StageLaws.{space_stored}
 use Rattle.mx_write.proofs.descriptions.check_build.Goals as goal
 
 refused_so : (tuples : Tuples) (def : IndexDef) (described : Option Schema) (schema : Schema) (fault : BuildFault) (why : Refusal) → described ≡ Some schema
@@ -19,10 +18,12 @@ refused_so tuples def described schema fault why is told (inl found) =
 refused_so tuples def described schema fault why is told (inr none) = inr (told ∙ ap (build_refusal schema def) none)
 
 pub returns-in_ok-build_refusal-in-Err : goal.returns-in_ok-build_refusal-in-Err
-returns-in_ok-build_refusal-in-Err c = λ before holds may.
+returns-in_ok-build_refusal-in-Err c = λ before holds none may.
     let row = c.args.row.now in
     let tuples = tuples_in before row.space.0 in
-    let stored = space_stored before c.args.scope.now.state.now row.space.0 (option_copied c.space.result) c.in-Some.space.now holds c.space.ensures (ap option_copied c.in-Some.is) in
-    refused_so tuples row.def _ c.in-Some.space.now.schema c.in-Err.fault _ stored.holds.is
+    let schema = c.in-Some.space.space.now.schema in
+    let shows = rw c.in-Some.is at (c.space.ensures.shown before holds) in
+    let alone = rw c.in-Some.is at (c.space.ensures.no_writes none) in
+    refused_so tuples row.def _ schema c.in-Err.fault _ shows.sees.state.holds.is
     (c.in_ok-build_refusal-in-Err.ensures ∙ ap (λ s. build_refusal s row.def c.in-Err.fault) c.schema.ensures)
-    (c.in-Err.ensures _ tuples stored may.first (may.other c.in-Some.space.now.schema stored.holds.is))
+    (c.in-Err.ensures _ tuples shows alone may.first (may.other schema shows.sees.state.holds.is))

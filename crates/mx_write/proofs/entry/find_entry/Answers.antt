@@ -11,4 +11,4 @@ returns c = λ before wanted target there unique fit is.
     let space = t.scope.space.0 in
     entry_is before t target c.in-Some.key c.in-Some-tuple.tuple.now (primary_key_with before space t.primary.now c.args.def.now wanted)
     (rw c.in-Some.is at (c.in_ok-key.ensures before wanted target there unique fit is))
-    (λ key fits same. ap option_copied (sym c.in-Some-tuple.is) ∙ c.tuple.ensures (tuples_in before space) key target.stored.holds.keeps fits same)
+    (λ key fits same. ap option_copied (sym c.in-Some-tuple.is) ∙ c.tuple.ensures.shown _ (tuples_in before space) key target.stored fits same)

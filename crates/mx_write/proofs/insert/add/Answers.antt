@@ -27,7 +27,7 @@ returns-in_err-check_new_index-clause-judges c = λ before target own fits bytes
     let key = own_key primary tuple in
     let described = c.in_ok-check_description.ensures before target in
     let free = went_on (are_free before space schema primary None tuple (all_indexes primary schema)) (sym c.in_default.is ∙ c.in_ok-refusal.ensures.finds before target fits bytes) in
-    let build = can_build before target.holds.sound space schema primary key tuple (target.stored.holds.is ∙ ap Some (sym target.schema)) target.primary own described
+    let build = can_build before target.holds.sound space schema primary key tuple (target.stored.sees.state.holds.is ∙ ap Some (sym target.schema)) target.primary own described
     (own_free before space schema primary key tuple target.primary own free) in
     let last = made space (Insert tuple) key (Some tuple) (tuple ∷ []) in
     rw (p.1, p.2) (refused_later (unless (description_fault before space tuple)) (λ _. are_free before space schema primary None tuple (all_indexes primary schema) >>= λ _. unless (new_index_fault before space tuple) >>= λ _. last) tt _
@@ -44,7 +44,7 @@ returns-clause-judges c = λ before target own fits bytes.
     let tuple = c.args.tuple.now in
     let key = own_key primary tuple in
     let copy = c.in_ok-from_slice.field-0 in
-    let is = target.stored.holds.is ∙ ap Some (sym target.schema) in
+    let is = target.stored.sees.state.holds.is ∙ ap Some (sym target.schema) in
     let described = c.in_ok-check_description.ensures before target in
     let free = went_on (are_free before space schema primary None tuple (all_indexes primary schema)) (sym c.in_default.is ∙ c.in_ok-refusal.ensures.finds before target fits bytes) in
     let build = can_build before target.holds.sound space schema primary key tuple is target.primary own described (own_free before space schema primary key tuple target.primary own free) in

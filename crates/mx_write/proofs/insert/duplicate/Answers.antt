@@ -16,7 +16,7 @@ returns-in_ok-duplicate_refusal-in-Some-clause-finds c = λ before target fits b
     let primary = t.primary.now in
     let tuple = c.args.tuple.now in
     key_is_taken before t.scope.space.0 t.schema.now primary tuple target.primary c.in_ok-duplicate_refusal-in-Some.field-0 _
-    (sym (c.tuple.ensures _ (own_key primary tuple) target.stored.holds.keeps fits bytes) ∙ ap option_copied c.in-Some.is) c.in_ok-duplicate_refusal-in-Some.ensures (other_indexes t.schema.now.indexes)
+    (sym (c.tuple.ensures.shown _ _ (own_key primary tuple) target.stored fits bytes) ∙ ap option_copied c.in-Some.is) c.in_ok-duplicate_refusal-in-Some.ensures (other_indexes t.schema.now.indexes)
 
 pub returns-in-None-clause-finds : goal.returns-in-None-clause-finds
 returns-in-None-clause-finds c = λ before target fits bytes.
@@ -25,7 +25,7 @@ returns-in-None-clause-finds c = λ before target fits bytes.
     let tuple = c.args.tuple.now in
     subst (λ r. IfOk c.duplicate_in_others.result (λ found. found ≡ r))
     (sym (key_is_free before t.scope.space.0 t.schema.now primary tuple target.primary
-    (sym (c.tuple.ensures _ (own_key primary tuple) target.stored.holds.keeps fits bytes) ∙ ap option_copied c.in-None.is) (other_indexes t.schema.now.indexes)))
+    (sym (c.tuple.ensures.shown _ _ (own_key primary tuple) target.stored fits bytes) ∙ ap option_copied c.in-None.is) (other_indexes t.schema.now.indexes)))
     (c.duplicate_in_others.ensures.finds before None target tt)
 
 pub returns-in_ok-duplicate_refusal-in-Some-clause-notes : goal.returns-in_ok-duplicate_refusal-in-Some-clause-notes
@@ -35,7 +35,7 @@ returns-in_ok-duplicate_refusal-in-Some-clause-notes c = λ before target fits b
     let tuple = c.args.tuple.now in
     noted_taken before t.scope.space.0 t.schema.now primary tuple target.primary (other_indexes t.schema.now.indexes) c.args.notes.now _
     (c.in_ok-note_key.ensures (own_key primary tuple) fits (c.as_slice.ensures ∙ bytes)) _
-    (sym (c.tuple.ensures _ (own_key primary tuple) target.stored.holds.keeps fits bytes) ∙ ap option_copied c.in-Some.is)
+    (sym (c.tuple.ensures.shown _ _ (own_key primary tuple) target.stored fits bytes) ∙ ap option_copied c.in-Some.is)
 
 pub returns-in-None-clause-notes : goal.returns-in-None-clause-notes
 returns-in-None-clause-notes c = λ before target fits bytes.
@@ -48,5 +48,5 @@ returns-in-None-clause-notes c = λ before target fits bytes.
     (λ _. AddsReads c.args.notes.now c.duplicate_in_others.new.notes (all (primary ∷ others)).reads)
     (λ _. noted_free before t.scope.space.0 t.schema.now primary tuple target.primary others c.args.notes.now _
     (c.in_ok-note_key.ensures (own_key primary tuple) fits (c.as_slice.ensures ∙ bytes))
-    (sym (c.tuple.ensures _ (own_key primary tuple) target.stored.holds.keeps fits bytes) ∙ ap option_copied c.in-None.is) c.duplicate_in_others.new.notes)
+    (sym (c.tuple.ensures.shown _ _ (own_key primary tuple) target.stored fits bytes) ∙ ap option_copied c.in-None.is) c.duplicate_in_others.new.notes)
     (c.duplicate_in_others.ensures.notes before None target tt)

@@ -54,7 +54,7 @@ returns-clause-judges c = λ before own target fit bytes same_row.
     judged_by before space write c.make.result (put_in_place before space schema primary write own tuple shown) (made space write own (Some tuple) shown)
     (reaches before space schema primary write own tuple shown checked.0
     (key_stays schema primary tuple c.in_ok-new_key.new_key c.args.key own checked.1 fit bytes test) free)
-    (judged_made before space write schema own _ _ _ (target.stored.holds.is ∙ ap Some (sym target.schema)) fit bytes
+    (judged_made before space write schema own _ _ _ (target.stored.sees.state.holds.is ∙ ap Some (sym target.schema)) fit bytes
     (has_key schema primary own tuple target.primary (key_is schema primary tuple c.in_ok-new_key.new_key c.args.key own checked.1 fit bytes test)) same_row c.make.result c.make.ensures)
 
 pub returns-then-ne-clause-notes : goal.returns-then-ne-clause-notes

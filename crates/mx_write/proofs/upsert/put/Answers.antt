@@ -26,5 +26,5 @@ returns-clause-judges c = λ before target has.
     let copy = c.in_ok-from_slice.field-0 in
     judged_by before space write c.make.result (stage >>= λ _. made space write own (Some tuple) []) (made space write own (Some copy) [])
     (goes_on stage (λ _. made space write own (Some tuple) []) tt free ∙ ap (λ o. (made space write own (Some o) []).outcome) (sym c.in_ok-from_slice.ensures))
-    (judged_made before space write schema own _ _ _ (target.stored.holds.is ∙ ap Some (sym target.schema)) fits bytes
+    (judged_made before space write schema own _ _ _ (target.stored.sees.state.holds.is ∙ ap Some (sym target.schema)) fits bytes
     (has_key schema primary own copy target.primary (ap (key_in primary.key) c.in_ok-from_slice.ensures ∙ own_has primary tuple c.args.key has)) refl c.make.result c.make.ensures)

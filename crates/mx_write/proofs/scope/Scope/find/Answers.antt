@@ -11,8 +11,8 @@ pub returns-in_err-def-clause-notes : goal.returns-in_err-def-clause-notes
 returns-in_err-def-clause-notes c = λ before rest holds.
     let self = c.args.self in
     let schema = c.schema-schema.result.now in
-    let stored = c.in_ok-stored.ensures before holds in
-    let described = stored.holds.is ∙ ap Some (sym c.schema-schema.ensures) in
+    let stored = c.in_ok-stored.ensures before holds.holds in
+    let described = stored.sees.state.holds.is ∙ ap Some (sym c.schema-schema.ensures) in
     let writable = ap (write_refusal self.writer self.space.0 c.args.kind) (sym c.primary_name-named.ensures) ∙ sym c.write_refusal.ensures ∙ c.in_default.is in
     let p = err_from_is_err_and c.from_residual-in_err-def.result c.from_residual-in_err-def.ensures.1 in
     rw (p.1, p.2) (noted_no_index self.writer before self.space c.args.kind c.args.index.0 c.args.key.now rest schema described writable
@@ -22,8 +22,8 @@ pub returns-in_err-primary-clause-notes : goal.returns-in_err-primary-clause-not
 returns-in_err-primary-clause-notes c = λ before rest holds.
     let self = c.args.self in
     let schema = c.schema-schema.result.now in
-    let stored = c.in_ok-stored.ensures before holds in
-    let described = stored.holds.is ∙ ap Some (sym c.schema-schema.ensures) in
+    let stored = c.in_ok-stored.ensures before holds.holds in
+    let described = stored.sees.state.holds.is ∙ ap Some (sym c.schema-schema.ensures) in
     let writable = ap (write_refusal self.writer self.space.0 c.args.kind) (sym c.primary_name-named.ensures) ∙ sym c.write_refusal.ensures ∙ c.in_default.is in
     let p = err_from_is_err_and c.from_residual-in_err-primary.result c.from_residual-in_err-primary.ensures.1 in
     rw (p.1, p.2) (noted_no_primary self.writer before self.space c.args.kind c.args.index.0 c.args.key.now rest schema described writable
@@ -33,8 +33,8 @@ pub returns-in_err-asked-clause-notes : goal.returns-in_err-asked-clause-notes
 returns-in_err-asked-clause-notes c = λ before rest holds.
     let self = c.args.self in
     let schema = c.schema-schema.result.now in
-    let stored = c.in_ok-stored.ensures before holds in
-    let described = stored.holds.is ∙ ap Some (sym c.schema-schema.ensures) in
+    let stored = c.in_ok-stored.ensures before holds.holds in
+    let described = stored.sees.state.holds.is ∙ ap Some (sym c.schema-schema.ensures) in
     let writable = ap (write_refusal self.writer self.space.0 c.args.kind) (sym c.primary_name-named.ensures) ∙ sym c.write_refusal.ensures ∙ c.in_default.is in
     let p = err_from_is_err_and c.from_residual-in_err-asked.result c.from_residual-in_err-asked.ensures.1 in
     rw (p.1, p.2) (noted_no_key self.writer before self.space c.args.kind c.args.index.0 c.args.key.now rest schema described writable
@@ -44,8 +44,8 @@ pub returns-clause-judges : goal.returns-clause-judges
 returns-clause-judges c = λ before rest holds.
     let self = c.args.self in
     let schema = c.schema-schema.result.now in
-    let stored = c.in_ok-stored.ensures before holds in
-    let described = stored.holds.is ∙ ap Some (sym c.schema-schema.ensures) in
+    let stored = c.in_ok-stored.ensures before holds.holds in
+    let described = stored.sees.state.holds.is ∙ ap Some (sym c.schema-schema.ensures) in
     let writable = ap (write_refusal self.writer self.space.0 c.args.kind) (sym c.primary_name-named.ensures) ∙ sym c.write_refusal.ensures ∙ c.in_default.is in
     let def = c.in_ok-def.def.now in
     let primary = c.in_ok-primary.primary.now in
@@ -66,8 +66,8 @@ pub returns-clause-notes : goal.returns-clause-notes
 returns-clause-notes c = λ before rest holds.
     let self = c.args.self in
     let schema = c.schema-schema.result.now in
-    let stored = c.in_ok-stored.ensures before holds in
-    let described = stored.holds.is ∙ ap Some (sym c.schema-schema.ensures) in
+    let stored = c.in_ok-stored.ensures before holds.holds in
+    let described = stored.sees.state.holds.is ∙ ap Some (sym c.schema-schema.ensures) in
     let writable = ap (write_refusal self.writer self.space.0 c.args.kind) (sym c.primary_name-named.ensures) ∙ sym c.write_refusal.ensures ∙ c.in_default.is in
     let def = c.in_ok-def.def.now in
     let primary = c.in_ok-primary.primary.now in

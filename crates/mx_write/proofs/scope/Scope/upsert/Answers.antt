@@ -60,7 +60,7 @@ returns-in-Some-clause-judges c = λ before holds.
     let (scope, is_target, has, reaches) = c.in_ok-target.ensures.judges before (rest self) holds in
     let under : tuple_under before self.space.0 own ≡ (Some c.in-Some.old.now) =
     subst (λ (s : Scope). tuple_under before s.space.0 own ≡ (Some c.in-Some.old.now)) scope
-    (sym (c.tuple.ensures (tuples_in before target.scope.space.0) own is_target.stored.holds.keeps (own_fits primary tuple _ has) (own_bytes primary tuple _ has)) ∙ ap option_copied c.in-Some.is) in
+    (sym (c.tuple.ensures.shown _ (tuples_in before target.scope.space.0) own is_target.stored (own_fits primary tuple _ has) (own_bytes primary tuple _ has)) ∙ ap option_copied c.in-Some.is) in
     judged_by before self.space.0 (Upsert base tuple operations) c.change.result (upserts self.writer before self.space.0 base tuple operations) (found self (Some c.in-Some.old.now))
     (reaches ∙ ap (λ (old : Option (List ℕ)). (found self old).outcome) under)
     (subst (λ (s : Scope). JudgesMade before s.space.0 (Upsert base tuple operations) c.change.result (found s (Some c.in-Some.old.now))) scope (c.change.ensures.judges before is_target has))
@@ -82,7 +82,7 @@ returns-in-Some-clause-notes c = λ before holds.
     let (scope, is_target, has, reaches) = c.in_ok-target.ensures.judges before (rest self) holds in
     let under : tuple_under before self.space.0 own ≡ (Some c.in-Some.old.now) =
     subst (λ (s : Scope). tuple_under before s.space.0 own ≡ (Some c.in-Some.old.now)) scope
-    (sym (c.tuple.ensures (tuples_in before target.scope.space.0) own is_target.stored.holds.keeps (own_fits primary tuple _ has) (own_bytes primary tuple _ has)) ∙ ap option_copied c.in-Some.is) in
+    (sym (c.tuple.ensures.shown _ (tuples_in before target.scope.space.0) own is_target.stored (own_fits primary tuple _ has) (own_bytes primary tuple _ has)) ∙ ap option_copied c.in-Some.is) in
     let noted = subst (λ (s : Scope). NotesJudged c.note_key.new.self c.change.new.notes c.change.result (found s (Some c.in-Some.old.now))) scope (c.change.ensures.notes before is_target has) in
     noted_result c.args.notes.now c.find_target.new.notes c.change.new.notes c.change.result (in_target self.writer before self.space.0 upsert_type tuple (rest self)) (rest self schema primary)
     (c.in_ok-target.ensures.notes before (rest self) holds)
@@ -107,7 +107,7 @@ returns-in-None-clause-judges c = λ before holds.
     let (scope, is_target, has, reaches) = c.in_ok-target.ensures.judges before (rest self) holds in
     let under : tuple_under before self.space.0 own ≡ None =
     subst (λ (s : Scope). tuple_under before s.space.0 own ≡ None) scope
-    (sym (c.tuple.ensures (tuples_in before target.scope.space.0) own is_target.stored.holds.keeps (own_fits primary tuple _ has) (own_bytes primary tuple _ has)) ∙ ap option_copied c.in-None.is) in
+    (sym (c.tuple.ensures.shown _ (tuples_in before target.scope.space.0) own is_target.stored (own_fits primary tuple _ has) (own_bytes primary tuple _ has)) ∙ ap option_copied c.in-None.is) in
     judged_by before self.space.0 (Upsert base tuple operations) c.put.result (upserts self.writer before self.space.0 base tuple operations) (found self None)
     (reaches ∙ ap (λ (old : Option (List ℕ)). (found self old).outcome) under)
     (subst (λ (s : Scope). JudgesMade before s.space.0 (Upsert base tuple operations) c.put.result (found s None)) scope (c.put.ensures.judges before is_target has))
@@ -129,7 +129,7 @@ returns-in-None-clause-notes c = λ before holds.
     let (scope, is_target, has, reaches) = c.in_ok-target.ensures.judges before (rest self) holds in
     let under : tuple_under before self.space.0 own ≡ None =
     subst (λ (s : Scope). tuple_under before s.space.0 own ≡ None) scope
-    (sym (c.tuple.ensures (tuples_in before target.scope.space.0) own is_target.stored.holds.keeps (own_fits primary tuple _ has) (own_bytes primary tuple _ has)) ∙ ap option_copied c.in-None.is) in
+    (sym (c.tuple.ensures.shown _ (tuples_in before target.scope.space.0) own is_target.stored (own_fits primary tuple _ has) (own_bytes primary tuple _ has)) ∙ ap option_copied c.in-None.is) in
     let noted = subst (λ (s : Scope). NotesJudged c.note_key.new.self c.put.new.notes c.put.result (found s None)) scope (c.put.ensures.notes before is_target has) in
     noted_result c.args.notes.now c.find_target.new.notes c.put.new.notes c.put.result (in_target self.writer before self.space.0 upsert_type tuple (rest self)) (rest self schema primary)
     (c.in_ok-target.ensures.notes before (rest self) holds)
