@@ -15,7 +15,7 @@ use Rattle.mx_write.specs.declared.scope.Target.{Target}
 use Rattle.mx_write.specs.Checks.{tuple_fault}
 use Rattle.mx_write.specs.Descriptions.{description_fault, new_index_fault}
 use Rattle.mx_write.specs.Insert.{inserts_taken}
-use Rattle.mx_write.specs.Judged.{Judged, found, unless, ◌>>=◌}
+use Rattle.mx_write.specs.Judged.{Judged, found, next_stage, unless, ◌>>=◌}
 use Rattle.mx_write.specs.Lookup.{all_indexes, holder_of, other_indexes, own_key}
 use Rattle.mx_write.specs.Made.{Made, made}
 use Rattle.mx_write.specs.Notes.{AddsReads, IsNotedUpTo, Noted}
@@ -60,6 +60,24 @@ module _ (before : State) (space : ℕ) (schema : Schema) (primary : IndexDef) (
     tested other =
         ap (λ b. all_free (if not b then def ∷ other_indexes others else other_indexes others)) (ne_eqb def.id.0 0 other)
         ∙ ap (λ b. (if b then free def else found tt) >>= λ _. all_free (other_indexes others)) (unique_is def unique)
+
+    refused_by : (why : Refusal) → Some why ≡ refusal_of (free def).outcome → (free def).outcome ≡ Err why
+    refused_by why is = by_outcome (free def).outcome is
+      where
+        by_outcome : (outcome : Result (Unit {0}) Refusal) → Some why ≡ refusal_of outcome → outcome ≡ Err why
+        by_outcome (Ok found) e = absurd cc
+        by_outcome (Err other) e = cc
+
+    -- another tuple has its key, and the others aren't tested
+    pub free_stops : def.id.0 ≢ 0 → (why : Refusal) → Some why ≡ refusal_of (free def).outcome → Some why ≡ refusal_of (all_free (other_indexes (def ∷ others))).outcome
+    free_stops other why is =
+        ap refusal_of (sym (ap (λ j. j.outcome) (tested other)
+        ∙ ap (λ outcome. (next_stage (free def).reads outcome (λ _. all_free (other_indexes others))).outcome) (refused_by why is)))
+
+    pub noted_stop : (old now : Noted) → def.id.0 ≢ 0 → (why : Refusal) → Some why ≡ refusal_of (free def).outcome → AddsReads old now (free def).reads
+        → AddsReads old now (all_free (other_indexes (def ∷ others))).reads
+    noted_stop old now other why is noted =
+        subst (λ j. AddsReads old now j.reads) (sym (tested other)) (noted_here (free def) (λ _. all_free (other_indexes others)) old now why (refused_by why is) noted)
 
     -- it is free, and the others are tested
     pub free_next : def.id.0 ≢ 0 → None ≡ refusal_of (free def).outcome → (all_free (other_indexes (def ∷ others))).outcome ≡ (all_free (other_indexes others)).outcome

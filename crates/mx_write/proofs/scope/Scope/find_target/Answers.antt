@@ -1,15 +1,8 @@
-use Rattle.std.proofs.Common.{◌≡◌, ◌⊎◌, inl, inr, ap, sym, ◌∙◌, subst, Some}
+use Rattle.std.proofs.Common.{refl, ap, sym, ◌∙◌, Some}
 use Rattle.std.proofs.lemmas.Result.{err_from_is_err_and}
-use Rattle.mx_schema.specs.declared.index_def.IndexDef.{IndexDef}
-use Rattle.mx_schema.specs.declared.schema.Schema.{Schema}
-use Rattle.mx_write.specs.Checks.{tuple_fault}
-use Rattle.mx_write.specs.Judged.{Judged, unless, ◌>>=◌}
-use Rattle.mx_write.specs.Lookup.{the_index, the_space}
-use Rattle.mx_write.specs.Made.{Made}
-use Rattle.mx_write.specs.Notes.{AddsReads}
-use Rattle.mx_write.specs.Writable.{write_refusal}
-use Rattle.mx_write.proofs.NoteLaws.{index_reads, noted_later, noted_on, noted_refusal, quiet_later, quiet_on, quiet_refusal, space_reads, unless_quiet}
 use Rattle.mx_write.proofs.NotedTargetLaws.{noted_absent, noted_target, noted_untaken}
+use Rattle.mx_write.proofs.StageLaws.{is_target}
+use Rattle.mx_write.proofs.TargetLaws.{reaches}
 use Rattle.mx_write.proofs.scope.Scope.find_target.Goals as goal
 
 pub returns-in_err-primary-clause-notes : goal.returns-in_err-primary-clause-notes
@@ -29,6 +22,18 @@ returns-in_err-key-clause-notes c = λ before rest holds.
     rw (p.1, p.2) (noted_untaken self.writer before self.space c.args.kind c.args.tuple.now rest c.args.notes.now _ _
     c.in_ok-note_space.ensures c.in_ok-note_indexes.ensures c.schema-schema.result.now (stored.sees.state.holds.is ∙ ap Some (sym c.schema-schema.ensures)) (sym c.write_refusal.ensures ∙ c.in_default.is)
     c.in_ok-primary.primary.now c.in_ok-primary.ensures _ c.in_err-key.ensures)
+
+pub returns-clause-judges : goal.returns-clause-judges
+returns-clause-judges c = λ before rest holds.
+    let self = c.args.self in
+    let stored = c.in_ok-stored.ensures before holds.holds in
+    (
+      refl,
+      is_target before _ holds stored c.schema-schema.ensures c.in_ok-primary.ensures,
+      c.in_ok-key.ensures.1,
+      reaches self.writer before self.space (record { 0 = 0 }) c.args.kind c.args.tuple.now rest c.schema-schema.result.now (stored.sees.state.holds.is ∙ ap Some (sym c.schema-schema.ensures))
+      (sym c.write_refusal.ensures ∙ c.in_default.is) c.in_ok-primary.primary.now c.in_ok-primary.ensures c.in_ok-key.ensures.0,
+    )
 
 pub returns-clause-notes : goal.returns-clause-notes
 returns-clause-notes c = λ before rest holds.
