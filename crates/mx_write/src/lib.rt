@@ -16,6 +16,7 @@ mod operations;
 mod place;
 mod replace;
 mod scope;
+mod stage;
 mod target;
 mod unique;
 mod update;
