@@ -1,6 +1,6 @@
 -- The tuple that has a key in a unique index.
 use Rattle.std.proofs.Common.{◌≡◌, ◌⊎◌, inl, inr, ℕ, Bool, true, false, cond, List, [], ◌∷◌, Option, Some, None, Ok, refl, sym, ap, ◌∙◌, subst, eqb-true}
-use Rattle.std.specs.Prelude.{IfSome, ◌==◌, ◌||◌, if◌then◌else◌}
+use Rattle.std.specs.Prelude.{IfSome, ◌==◌, ◌||◌}
 use Rattle.std.specs.declared.cmp.Ordering.{Ordering}
 use Rattle.std.specs.declared.cmp.Ordering.TheVariants.{Less, Equal, Greater}
 use Rattle.std.specs.FinMap.{entries, get, get-entries}
@@ -17,11 +17,9 @@ use Rattle.mx_schema.specs.declared.index_def.IndexDef.{IndexDef}
 use Rattle.mx_schema.specs.declared.schema.Schema.{Schema}
 use Rattle.mx_schema.specs.Catalogues.{StandByKey, index_with, schema_of}
 use Rattle.mx_schema.specs.Picks.{Indexed, tuples_by_index}
-use Rattle.mx_schema.specs.Sound.{AreIndexed, HaveKeys}
 use Rattle.mx_schema.specs.State.{State, Tuples, key_in, tuples_in}
 use Rattle.mx_schema.specs.Stored.{StandByPrimary}
 use Rattle.mx_write.specs.declared.scope.Target.{Target}
-use Rattle.mx_schema.proofs.AloneLaws.{Alone}
 use Rattle.mx_schema.proofs.DescribedLaws.{its_keyed}
 use Rattle.mx_space.specs.OwnChanges.{Shows}
 use Rattle.mx_write.specs.Lookup.{entry_under, holder_of, is_unique}
@@ -55,15 +53,6 @@ unique_is def unique = by_number (def.id.0 == 0)
     by_number : (b : Bool) → (b || def.unique) ≡ true
     by_number true = refl
     by_number false = unique
-
--- what each index has, an index has that is found
-found_has : (P : IndexDef → Type 0) (id : ℕ) (defs : List IndexDef) (def : IndexDef) → index_with id defs ≡ Some def → AllByRecursion P defs → P def
-found_has P id [] def there have = absurd cc
-found_has P id (other ∷ others) def there (first, rest) = by_test (other.id.0 == id) there (λ later. found_has P id others def later rest)
-  where
-    by_test : (b : Bool) → (if b then Some other else index_with id others) ≡ Some def → (index_with id others ≡ Some def → P def) → P def
-    by_test true there later = let same : other ≡ def = cc in subst P same first
-    by_test false there later = later there
 
 module _ (before : State) (target : Target) (is : IsTarget before target) where
   abbrev space : ℕ

@@ -1,5 +1,5 @@
 -- The stages that writes have in common which name a tuple by a key of a unique index: where they go on, and what they note.
-use Rattle.std.proofs.Common.{◌≡◌, ◌⊎◌, inl, inr, ℕ, List, [], ◌∷◌, Option, Some, None, Result, Ok, Err, refl, sym, ap, ◌∙◌, subst}
+use Rattle.std.proofs.Common.{◌≡◌, ◌⊎◌, inl, inr, ℕ, List, [], ◌∷◌, Option, Some, None, Ok, Err, refl, sym, ap, ◌∙◌, subst}
 use Rattle.std.specs.Prelude.{length, MatchOption}
 use Rattle.mx_base.specs.declared.ids.SpaceId.{SpaceId}
 use Rattle.mx_base.specs.declared.refusal.Refusal.{Refusal}
@@ -14,7 +14,7 @@ use Rattle.mx_schema.specs.Picks.{Indexed}
 use Rattle.mx_schema.specs.State.{State, key_in}
 use Rattle.mx_write.specs.declared.entry.Entry.{Entry}
 use Rattle.mx_write.specs.declared.writable.Writer.{Writer}
-use Rattle.mx_write.specs.Judged.{Judged, found_or, reads_of, unless, ◌>>=◌}
+use Rattle.mx_write.specs.Judged.{Judged, reads_of, unless, ◌>>=◌}
 use Rattle.mx_write.specs.Lookup.{entry_with, key_or_refusal, the_key, the_primary, the_space, the_unique_index}
 use Rattle.mx_write.specs.Makes.{IsRefusedBy}
 use Rattle.mx_write.specs.Notes.{AddsReads, IsNotedUpTo, Noted}

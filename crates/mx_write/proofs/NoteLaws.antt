@@ -181,10 +181,14 @@ unique_index_reads space schema index = by_index (index_with index schema.indexe
     by_index (Some def) = ap (λ l. index_read space ∷ l) (unique_quiet def (unless_unique schema def))
 
 -- a DELETE reads nothing but the key
-pub delete_quiet : (writer : Writer) (before : State) (space index : ℕ) (key : List ℕ) (entry : Option Indexed) → (delete_found writer before space index key entry).reads ≡ []
+delete_quiet : (writer : Writer) (before : State) (space index : ℕ) (key : List ℕ) (entry : Option Indexed) → (delete_found writer before space index key entry).reads ≡ []
 delete_quiet writer before space index key None = refl
 delete_quiet writer before space index key (Some (own, old)) =
     let last = λ (u : Unit {0}). made space (Delete index key) own None (old ∷ []) in
     then_quiet (unless (write_refusal writer space delete_type (Some old))) (λ _. unless (drop_fault before space old) >>= last)
     (λ u. then_quiet (unless (drop_fault before space old)) last (λ v. made_quiet space (Delete index key) own None (old ∷ [])) ∙ unless_quiet (drop_fault before space old))
     ∙ unless_quiet (write_refusal writer space delete_type (Some old))
+
+pub delete_noted : (writer : Writer) (before : State) (space index : ℕ) (key : List ℕ) (entry : Option Indexed) (now : Noted)
+    → AddsReads now now (delete_found writer before space index key entry).reads
+delete_noted writer before space index key entry now = subst (AddsReads now now) (sym (delete_quiet writer before space index key entry)) (adds_nothing now)

@@ -1,5 +1,5 @@
 -- What the stages note that writes have in common which put a tuple.
-use Rattle.std.proofs.Common.{◌≡◌, ◌⊎◌, inl, inr, ℕ, List, [], ◌∷◌, Option, Some, None, sym, subst}
+use Rattle.std.proofs.Common.{◌≡◌, ◌⊎◌, inl, inr, ℕ, List, [], ◌∷◌, Some, None, sym, subst}
 use Rattle.mx_base.specs.declared.ids.SpaceId.{SpaceId}
 use Rattle.mx_base.specs.declared.refusal.Refusal.{Refusal}
 use Rattle.mx_base.specs.declared.refusal.Refusal.TheVariants.{IndexMissing, OutOfMemory}
@@ -15,7 +15,7 @@ use Rattle.mx_write.specs.Notes.{AddsReads, IsNotedUpTo, Noted}
 use Rattle.mx_write.specs.Reads.{index_read, space_read}
 use Rattle.mx_write.specs.Steps.{Refuses, in_target}
 use Rattle.mx_write.specs.Writable.{write_refusal}
-use Rattle.mx_write.proofs.NoteLaws.{index_reads, noted_later, noted_on, noted_refusal, quiet_later, quiet_on, quiet_refusal, space_reads, unless_quiet}
+use Rattle.mx_write.proofs.NoteLaws.{index_reads, noted_later, noted_refusal, quiet_later, quiet_on, quiet_refusal, space_reads, unless_quiet}
 use Rattle.mx_write.proofs.StageLaws.{index_absent, index_there, none_refuses, refuses_so, space_there}
 
 module _ {X : Type 0} (writer : Writer) (before : State) (space : SpaceId) (type : ℕ) (tuple : List ℕ) (rest : Schema → IndexDef → Judged X)

@@ -90,9 +90,6 @@ module _ (before : State) (space : SpaceId) where
   pub space_there : (schema : Schema) → schema_of before space.0 ≡ Some schema → (the_space before space.0).outcome ≡ Ok schema
   space_there schema is = is_found (SpaceMissing space) (schema_of before space.0) schema is
 
-  pub space_missing : (why : Refusal) → (schema_of before space.0 ≡ None) × (why ≡ SpaceMissing space) → IsRefusedBy why (the_space before space.0)
-  space_missing why (none, is) = inl (is_missing (SpaceMissing space) (schema_of before space.0) none ∙ ap (λ w. Err w) (sym is))
-
 module _ (space : ℕ) (schema : Schema) (index : IndexId) where
   pub index_there : (def : IndexDef) → index_with index.0 schema.indexes ≡ Some def → (the_index space schema index.0).outcome ≡ Ok def
   index_there def is = is_found (IndexMissing index schema.def.name) (index_with index.0 schema.indexes) def is

@@ -42,12 +42,7 @@ impl Scope<'_> {
 }
 
 /// What an INSERT of a tuple makes that the space takes, where this is its primary key.
-fn add(
-    target: &Target<'_>,
-    key: Bytes,
-    tuple: &[u8],
-    notes: &mut Notes,
-) -> Result<Made, Refusal>
+fn add(target: &Target<'_>, key: Bytes, tuple: &[u8], notes: &mut Notes) -> Result<Made, Refusal>
     ensures judges { (before : plain.State) → IsTarget before target.now → key_in target.now.primary.now.key tuple.now ≡ Ok (own_key target.now.primary.now tuple.now)
         → AreFit (own_key target.now.primary.now tuple.now) → key ≡ comparable_of (own_key target.now.primary.now tuple.now)
         → JudgesMade before target.now.scope.space.0 (statement.Insert tuple.now) result

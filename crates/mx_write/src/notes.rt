@@ -102,24 +102,14 @@ impl Notes {
     pub fn note_space(&mut self, alloc: Global, space: SpaceId) -> Result<(), AllocError>
         ensures { OnOk result (AddsReads self.old self.new (space_read space.0 ∷ [])) }
     {
-        self.note_key(
-            alloc,
-            SpaceId(SPACE_ROWS),
-            IndexId(0),
-            &number_key(space.0),
-        )
+        self.note_key(alloc, SpaceId(SPACE_ROWS), IndexId(0), &number_key(space.0))
     }
 
     /// Notes a read of the rows that describe a space's indexes.
     pub fn note_indexes(&mut self, alloc: Global, space: SpaceId) -> Result<(), AllocError>
         ensures { OnOk result (AddsReads self.old self.new (index_read space.0 ∷ [])) }
     {
-        self.note_key(
-            alloc,
-            SpaceId(INDEX_ROWS),
-            IndexId(0),
-            &number_key(space.0),
-        )
+        self.note_key(alloc, SpaceId(INDEX_ROWS), IndexId(0), &number_key(space.0))
     }
 }
 

@@ -34,12 +34,7 @@ impl Scope<'_> {
 }
 
 /// What a REPLACE of a tuple makes that the space takes, where this is its primary key.
-fn put(
-    target: &Target<'_>,
-    key: Bytes,
-    tuple: &[u8],
-    notes: &mut Notes,
-) -> Result<Made, Refusal>
+fn put(target: &Target<'_>, key: Bytes, tuple: &[u8], notes: &mut Notes) -> Result<Made, Refusal>
     ensures judges { (before : plain.State) → IsTarget before target.now → HasOwnKey target.now.primary.now tuple.now key
         → JudgesMade before target.now.scope.space.0 (statement.Replace tuple.now) result
         (replaces_taken before target.now.scope.space.0 target.now.schema.now target.now.primary.now tuple.now) }

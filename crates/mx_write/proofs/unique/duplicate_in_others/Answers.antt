@@ -25,12 +25,11 @@ loop-def-preserved c = λ before key target replaced.
     let other : def.id.0 ≢ 0 = c.if-def-eq0.false in
     let unique : def.unique ≡ true = search rules in
     let free = sym c.in_default.is ∙ c.in_ok-refusal.ensures.finds before key target replaced there unique in
-    let (same, up_to) = c.loop-def.invariant before key target replaced in
-    (
+    let (same, up_to) = c.loop-def.invariant before key target replaced in (
       ap refusal_of (sym (free_next before space schema primary key tuple def others unique other free))
-      ∙ ap (λ l. refusal_of (are_free before space schema primary key tuple (other_indexes l)).outcome) (sym next) ∙ same,
+          ∙ ap (λ l. refusal_of (are_free before space schema primary key tuple (other_indexes l)).outcome) (sym next) ∙ same,
       λ last rest. up_to last (subst (λ l. AddsReads c.loop-def.notes last (are_free before space schema primary key tuple (other_indexes l)).reads) (sym next)
-      (noted_next before space schema primary key tuple def others unique c.loop-def.notes _ other free (c.in_ok-refusal.ensures.notes before key) last rest)),
+          (noted_next before space schema primary key tuple def others unique c.loop-def.notes _ other free (c.in_ok-refusal.ensures.notes before key) last rest)),
     )
 
 pub returns-in-Some-clause-finds : goal.returns-in-Some-clause-finds

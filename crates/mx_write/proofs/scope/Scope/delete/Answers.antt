@@ -1,4 +1,4 @@
-use Rattle.std.proofs.Common.{inr, sym, subst}
+use Rattle.std.proofs.Common.{inr, subst}
 use Rattle.std.specs.Prelude.{Option, Some, Ok, Err}
 use Rattle.std.proofs.lemmas.Result.{err_from_is_err_and}
 use Rattle.mx_schema.specs.declared.index_def.IndexDef.{IndexDef}
@@ -8,8 +8,7 @@ use Rattle.mx_write.specs.declared.scope.Scope.{Scope}
 use Rattle.mx_write.specs.Delete.{delete_found, deletes}
 use Rattle.mx_write.specs.Makes.{JudgesFound}
 use Rattle.mx_write.specs.Writes.{Delete}
-use Rattle.mx_write.specs.Notes.{AddsReads}
-use Rattle.mx_write.proofs.NoteLaws.{adds_nothing, as_result, delete_quiet}
+use Rattle.mx_write.proofs.NoteLaws.{adds_nothing, as_result, delete_noted}
 use Rattle.mx_write.proofs.StageLaws.{judged_by_found}
 use Rattle.mx_write.proofs.scope.Scope.delete.Goals as goal
 
@@ -76,7 +75,7 @@ returns-in_err-remove-in-Some-clause-notes c = λ before holds.
     let (own, reaches, fit, bytes, has) = rw c.in-Some.is at found in
     let last = λ (s : Scope). rest s target.schema.now target.primary.now (Some (own, c.in-Some.entry.tuple.now)) in
     let up_to = (rw c.in-Some.is at (c.in_ok-target.ensures.notes before (rest self) holds)) own has in
-    inr (up_to _ (subst (AddsReads c.find.new.notes c.find.new.notes) (sym (delete_quiet self.writer before self.space.0 c.args.index.0 c.args.key.now (Some (own, c.in-Some.entry.tuple.now)))) (adds_nothing c.find.new.notes)))
+    inr (up_to _ (delete_noted self.writer before self.space.0 c.args.index.0 c.args.key.now (Some (own, c.in-Some.entry.tuple.now)) c.find.new.notes))
 
 pub returns-in_ok-remove-in-Some-clause-notes : goal.returns-in_ok-remove-in-Some-clause-notes
 unfolding deletes
@@ -88,7 +87,7 @@ returns-in_ok-remove-in-Some-clause-notes c = λ before holds.
     let (own, reaches, fit, bytes, has) = rw c.in-Some.is at found in
     let last = λ (s : Scope). rest s target.schema.now target.primary.now (Some (own, c.in-Some.entry.tuple.now)) in
     let up_to = (rw c.in-Some.is at (c.in_ok-target.ensures.notes before (rest self) holds)) own has in
-    inr (up_to _ (subst (AddsReads c.find.new.notes c.find.new.notes) (sym (delete_quiet self.writer before self.space.0 c.args.index.0 c.args.key.now (Some (own, c.in-Some.entry.tuple.now)))) (adds_nothing c.find.new.notes)))
+    inr (up_to _ (delete_noted self.writer before self.space.0 c.args.index.0 c.args.key.now (Some (own, c.in-Some.entry.tuple.now)) c.find.new.notes))
 
 pub returns-in-None-clause-notes : goal.returns-in-None-clause-notes
 unfolding deletes

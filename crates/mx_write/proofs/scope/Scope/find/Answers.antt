@@ -53,13 +53,12 @@ returns-clause-judges c = λ before rest holds.
     let target = is_target before _ holds stored c.schema-schema.ensures c.in_ok-primary.ensures in
     let (there, unique) = c.in_ok-def.ensures.found in
     let found = c.in_ok-entry.ensures before asked target there unique fit bytes in
-    let place = in_entry self.writer before self.space.0 c.args.kind c.args.index.0 c.args.key.now rest in
-    (
+    let place = in_entry self.writer before self.space.0 c.args.kind c.args.index.0 c.args.key.now rest in (
       refl,
       target,
       judged_found place primary (rest schema primary) (entry_with before self.space.0 primary def asked) c.in_ok-entry.entry
-      (reaches_entry self.writer before self.space c.args.kind c.args.index.0 c.args.key.now rest schema described writable
-      def primary asked (c.in_ok-def.ensures.outcome self.space.0) c.in_ok-primary.ensures whole) found,
+          (reaches_entry self.writer before self.space c.args.kind c.args.index.0 c.args.key.now rest schema described writable
+          def primary asked (c.in_ok-def.ensures.outcome self.space.0) c.in_ok-primary.ensures whole) found,
     )
 
 pub returns-clause-notes : goal.returns-clause-notes

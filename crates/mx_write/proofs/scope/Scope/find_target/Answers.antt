@@ -26,13 +26,12 @@ returns-in_err-key-clause-notes c = λ before rest holds.
 pub returns-clause-judges : goal.returns-clause-judges
 returns-clause-judges c = λ before rest holds.
     let self = c.args.self in
-    let stored = c.in_ok-stored.ensures before holds.holds in
-    (
+    let stored = c.in_ok-stored.ensures before holds.holds in (
       refl,
       is_target before _ holds stored c.schema-schema.ensures c.in_ok-primary.ensures,
       c.in_ok-key.ensures.1,
       reaches self.writer before self.space (record { 0 = 0 }) c.args.kind c.args.tuple.now rest c.schema-schema.result.now (stored.sees.state.holds.is ∙ ap Some (sym c.schema-schema.ensures))
-      (sym c.write_refusal.ensures ∙ c.in_default.is) c.in_ok-primary.primary.now c.in_ok-primary.ensures c.in_ok-key.ensures.0,
+          (sym c.write_refusal.ensures ∙ c.in_default.is) c.in_ok-primary.primary.now c.in_ok-primary.ensures c.in_ok-key.ensures.0,
     )
 
 pub returns-clause-notes : goal.returns-clause-notes
