@@ -32,7 +32,8 @@ pub fn apply_row(state: &mut State, alloc: Global, row: &RowRef<'_>) -> Result<(
         writer: Writer::Journal,
         space: row.space,
     };
-    match scope.judge(&write, &mut Notes::off())? {
+    let made = scope.judge(&write, &mut Notes::off())?;
+    match made {
         Some(made) => Ok(made.install(alloc, state, row.space)?),
         None => Ok(()),
     }

@@ -45,7 +45,8 @@ impl Engine {
             writer: Writer::Client,
             space,
         };
-        match scope.judge(write, &mut Notes::off())? {
+        let made = scope.judge(write, &mut Notes::off())?;
+        match made {
             Some(made) => self.put(space, write, made, found),
             None => {
                 found.clear();
