@@ -1,12 +1,12 @@
 -- The pairs of a map by the grammar, and as they are read.
-use Rattle.std.proofs.Common.{◌≡◌, ℕ, suc, ◌+◌, ◌-◌, ◌≤◌, Bool, true, false, List, [], ◌∷◌, ◌++◌, length, take, drop, Option, Some, None, Ok, refl, sym, ap, ◌∙◌, subst, append_assoc, inl, inr, arith}
-use Rattle.std.specs.Prelude.{⊤, pos, ◌==◌, if◌then◌else◌}
+use Rattle.std.proofs.Common.{◌≡◌, ℕ, suc, ◌-◌, ◌≤◌, Bool, true, false, List, [], ◌∷◌, ◌++◌, length, take, drop, Option, Some, None, Ok, refl, sym, ap, ◌∙◌, subst, append_assoc, inl, inr, arith}
+use Rattle.std.specs.Prelude.{⊤, pos, if◌then◌else◌}
 use Rattle.std.specs.Option.{option_map, option_or}
 use Rattle.std.proofs.lemmas.Bool.{eqb-true, eq-eqb, le-ltb, false≢true}
 use Rattle.std.proofs.lemmas.List.{append-nil, take_at, drop_at, take-append-drop, length-append}
 use Rattle.mx_msgpack.specs.Grammar as grammar
 use Rattle.mx_msgpack.specs.Grammar.{Value, Pairs, NoPair, MorePairs, pair_count, MapHead, max_length, Spells, SpellsPairs}
-use Rattle.mx_msgpack.specs.Items.{first_value, after_value}
+use Rattle.mx_msgpack.specs.Items.{after_value}
 use Rattle.mx_msgpack.specs.Maps.{Pair, is_key, map_at, pairs_from, pairs_in, value_under}
 use Rattle.mx_msgpack.specs.Reading.{head_at, after_first, reading_of, Shown, ShownMap, shown}
 use Rattle.mx_msgpack.specs.Readers.{unsigned_at, unsigned_in}
@@ -20,10 +20,10 @@ use Rattle.mx_msgpack.proofs.Measured.{front_is}
 use Rattle.mx_msgpack.proofs.Options.{mapped_some, same_some}
 use Rattle.mx_msgpack.proofs.PrefixLaws.{one_value}
 use Rattle.mx_msgpack.proofs.Results.{bind_ok, ok_is}
-use Rattle.mx_msgpack.proofs.Shown.{Seen, reads, value_seen}
+use Rattle.mx_msgpack.proofs.Shown.{Seen, value_seen}
 use Rattle.mx_msgpack.proofs.UnsignedLaws.{int_read, unsigned_spelled}
 use Rattle.mx_msgpack.proofs.ValueLaws.{measured_ok}
-use Rattle.mx_row.specs.Grammar.{KeyValue, pairs_of, SpellEntries, SpellsMap, HasNone, IsUnder, HasNumber}
+use Rattle.mx_row.specs.Grammar.{KeyValue, pairs_of, SpellEntries, SpellsMap, HasNone, IsUnder}
 use Rattle.mx_row.proofs.PairLaws.{map_known, pairs_known, map_parts}
 
 -- ---- keys that are numbers

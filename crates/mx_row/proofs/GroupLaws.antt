@@ -7,7 +7,8 @@ use Rattle.mx_msgpack.specs.Readers.{all_from, in_front}
 use Rattle.mx_msgpack.proofs.ReaderLaws.{all_from_some}
 use Rattle.mx_row.specs.declared.tx.Tx.{Tx}
 use Rattle.mx_row.specs.Rows.{IsTransaction, transaction_text, transactions_text, transactions_of, transaction_at, only_whole, transactions_in}
-use Rattle.mx_row.proofs.RowLaws.{transaction_again, transaction_at-Advances}
+use Rattle.mx_row.proofs.BehindLaws.{transaction_at-Advances}
+use Rattle.mx_row.proofs.GrammarLaws.{transaction_again}
 
 pub transactions_text-append : (xs ys : List Tx) → transactions_text (xs ++ ys) ≡ transactions_text xs ++ transactions_text ys
 transactions_text-append xs ys =

@@ -2,7 +2,9 @@ pub mod ClockLaws
 pub mod SizeLaws
 pub mod PairLaws
 pub mod ReadLaws
+pub mod BehindLaws
 pub mod RowLaws
-pub mod GroupLaws
 pub mod EntryLaws
 pub mod GrammarLaws
+pub mod GroupLaws
+pub mod TextLaws

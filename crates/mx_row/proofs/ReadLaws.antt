@@ -1,6 +1,6 @@
 -- What is read of a row is a row: its steps taken apart and put together.
-use Rattle.std.proofs.Common.{◌≡◌, ◌⊎◌, ℕ, ◌<◌, ◌≤◌, ◌^◌, ◌-◌, List, [], ◌∷◌, length, Option, Some, None, refl, sym, ap, ◌∙◌, subst, inl, inr, arith}
-use Rattle.std.specs.Prelude.{true, false, nat_le, ◌==◌, is_some, if◌then◌else◌, Bool}
+use Rattle.std.proofs.Common.{◌≡◌, ℕ, ◌<◌, ◌≤◌, ◌^◌, ◌-◌, List, length, Option, Some, None, refl, sym, ap, ◌∙◌, subst, inl, inr, arith}
+use Rattle.std.specs.Prelude.{false, nat_le, ◌==◌, is_some, if◌then◌else◌}
 use Rattle.std.proofs.lemmas.Bool.{cond_both, eqb-true, eqb-false, leb-true, le-leb}
 use Rattle.mx_base.specs.declared.refusal.Refusal.{Refusal}
 use Rattle.mx_msgpack.specs.Projections.{as_array, first_as}
@@ -12,16 +12,15 @@ use Rattle.mx_msgpack.proofs.InnerLaws.{IsInner, AreInner, under_inner, body_inn
 use Rattle.mx_msgpack.proofs.Options.{bind_some, passed, allowed, mapped_some, same_some}
 use Rattle.mx_msgpack.proofs.ProjectionLaws.{first_as_read, array_is}
 use Rattle.mx_vclock.specs.Vclocks.{max_lsn}
-use Rattle.mx_base.specs.Keys.{type_key, replica_key, lsn_key, row_number_key, is_last_key, space_key, base_key, parts_key, tuple_key, operations_key}
+use Rattle.mx_base.specs.Keys.{replica_key, lsn_key, space_key, base_key, parts_key, tuple_key, operations_key}
 use Rattle.mx_request.specs.Operators.{shape_fault}
 use Rattle.mx_request.specs.Spelling.{IsInnerArray, AreOperations}
 use Rattle.mx_request.specs.Values.{number_to, number_32, array_in}
 use Rattle.mx_request.proofs.InnerLaws.{array_inner}
 use Rattle.mx_row.specs.declared.header.Header.{Header}
 use Rattle.mx_row.specs.declared.row.Row.{Row}
-use Rattle.mx_row.specs.declared.tx.Tx.{Tx}
 use Rattle.mx_row.specs.Values.{value_held, lsn_in, base_in, row_operations_in}
-use Rattle.mx_row.specs.Rows.{insert_type, replace_type, update_type, delete_type, upsert_type, max_body_size, tuple_row, insert_row, replace_row, update_row, delete_row, upsert_row, row_body_text, IsInsert, IsReplace, IsUpdate, IsDelete, IsUpsert, IsRow, IsTransaction, is_alone, header_by, header_in, header_at, short_enough, tuple_by, update_by, delete_by, upsert_by, row_in, row_at, transaction_at}
+use Rattle.mx_row.specs.Rows.{insert_type, replace_type, update_type, delete_type, upsert_type, max_body_size, tuple_row, update_row, delete_row, upsert_row, row_body_text, IsRow, place_by, header_by, header_in, header_at, short_enough, tuple_by, update_by, delete_by, upsert_by, row_in, row_at, whole_row_at}
 
 -- ---- values
 
@@ -97,7 +96,7 @@ pub record HeaderParts (type replica lsn row_number is_last : Option (List ℕ))
   pub kind : value_held unsigned_in type ≡ Some header.kind
   pub replica_is : value_held (number_to 31) replica ≡ Some header.replica.0
   pub lsn_is : value_held lsn_in lsn ≡ Some header.lsn.0
-  pub alone : is_alone row_number is_last ≡ true
+  pub place_is : place_by row_number is_last ≡ Some header.place
 
 pub header_parts : (type replica lsn row_number is_last : Option (List ℕ)) (header : Header) → header_by type replica lsn row_number is_last ≡ Some header
     → HeaderParts type replica lsn row_number is_last header
@@ -106,19 +105,19 @@ header_parts type replica lsn row_number is_last header e =
     let kind = bind_some (value_held unsigned_in type) _ header e in
     let id = bind_some (value_held (number_to 31) replica) _ header kind.2 in
     let number = bind_some (value_held lsn_in lsn) _ header id.2 in
-    let alone = allowed (is_alone row_number is_last) _ header number.2 in
-    let same : record { kind = kind.0; replica = record { 0 = id.0 }; lsn = record { 0 = number.0 } } ≡ header = same_some _ header alone.1 in
+    let place = bind_some (place_by row_number is_last) _ header number.2 in
+    let same : record { kind = kind.0; replica = record { 0 = id.0 }; lsn = record { 0 = number.0 }; place = place.0 } ≡ header = same_some _ header place.2 in
     record {
       kind = kind.1 ∙ ap (λ (h : Header). Some h.kind) same;
       replica_is = id.1 ∙ ap (λ (h : Header). Some h.replica.0) same;
       lsn_is = number.1 ∙ ap (λ (h : Header). Some h.lsn.0) same;
-      alone = alone.0;
+      place_is = place.1 ∙ ap (λ (h : Header). Some h.place) same;
     }
 
 pub header_from : (type replica lsn row_number is_last : Option (List ℕ)) (header : Header) → HeaderParts type replica lsn row_number is_last header
     → header_by type replica lsn row_number is_last ≡ Some header
 unfolding header_by
-header_from type replica lsn row_number is_last header p = rw (p.kind, p.replica_is, p.lsn_is, p.alone) refl
+header_from type replica lsn row_number is_last header p = rw (p.kind, p.replica_is, p.lsn_is, p.place_is) refl
 
 pub header_within : (header : Header) (pairs : List Pair) → header_in pairs ≡ Some header → (header.replica.0 < 32) × (1 ≤ header.lsn.0) × (header.lsn.0 ≤ max_lsn)
 header_within header pairs e =
@@ -309,7 +308,7 @@ row_is kind body row inner (Upserts k p) =
       short = p.short;
     }
 
--- ---- a transaction
+-- ---- a row with its header
 
 header_first_parts : (bytes : List ℕ) (found : Header × List ℕ) → header_at bytes ≡ Some found
     → (map : List ℕ × List ℕ) × (map_at bytes ≡ Some map) × (header_in (pairs_in bytes) ≡ Some found.0) × (map.1 ≡ found.1)
@@ -329,58 +328,51 @@ row_first_parts kind bytes found e =
     let same = same_some (row.0, first.0.1) found row.2 in
     (first.0, first.1, row.1 ∙ ap (λ (x : Row × List ℕ). Some x.0) same, ap (λ (x : Row × List ℕ). x.1) same)
 
--- what is read of a body is a row
-pub row_read : (kind : ℕ) (bytes : List ℕ) (found : Row × List ℕ) → row_at kind bytes ≡ Some found → IsRow found.0
-row_read kind bytes found e =
-    let p = row_first_parts kind bytes found e in
-    row_is kind (pairs_in bytes) found.0 (body_inner bytes) (row_parts kind (pairs_in bytes) found.0 p.2)
-
--- what is read of a header and of a body is a transaction
-pub parts_sound : (bytes : List ℕ) (header : Header × List ℕ) (row : Row × List ℕ) → header_at bytes ≡ Some header → row_at header.0.kind header.1 ≡ Some row
-    → IsTransaction (record { replica = header.0.replica; first = header.0.lsn; rows = row.0 ∷ [] })
-parts_sound bytes header row e f =
-    let h = header_within header.0 (pairs_in bytes) (header_first_parts bytes header e).2 in
-    record { replica = h.0; first = (h.1, h.2); row = (row.0, refl, row_read header.0.kind header.1 row f) }
-
-pub record TransactionParts (bytes : List ℕ) (found : Tx × List ℕ) : Type 0 where
-  pub header : Header
-  pub row : Row
+-- how a row was read with its header
+pub record WholeRow (bytes : List ℕ) (found : (Header × Row) × List ℕ) : Type 0 where
   pub header_map : List ℕ × List ℕ
   pub body_map : List ℕ × List ℕ
   pub header_first : map_at bytes ≡ Some header_map
-  pub header_is : header_in (pairs_in bytes) ≡ Some header
+  pub header_is : header_in (pairs_in bytes) ≡ Some found.0.0
   pub body_first : map_at header_map.1 ≡ Some body_map
-  pub row_is : row_in header.kind (pairs_in header_map.1) ≡ Some row
-  pub same : (record { replica = header.replica; first = header.lsn; rows = row ∷ [] }, body_map.1) ≡ found
+  pub row_is : row_in found.0.0.kind (pairs_in header_map.1) ≡ Some found.0.1
+  pub rest : body_map.1 ≡ found.1
 
-pub transaction_parts : (bytes : List ℕ) (found : Tx × List ℕ) → transaction_at bytes ≡ Some found → TransactionParts bytes found
-unfolding transaction_at
-transaction_parts bytes found e =
+pub whole_row_parts : (bytes : List ℕ) (found : (Header × Row) × List ℕ) → whole_row_at bytes ≡ Some found → WholeRow bytes found
+unfolding whole_row_at
+whole_row_parts bytes found e =
     let header = bind_some (header_at bytes) _ found e in
     let row = bind_some (row_at header.0.0.kind header.0.1) _ found header.2 in
-    let same = same_some (record { replica = header.0.0.replica; first = header.0.0.lsn; rows = row.0.0 ∷ [] }, row.0.1) found row.2 in
     let h = header_first_parts bytes header.0 header.1 in
     let r = row_first_parts header.0.0.kind header.0.1 row.0 row.1 in
-    record {
-      header = header.0.0;
-      row = row.0.0;
+    subst (WholeRow bytes) (same_some ((header.0.0, row.0.0), row.0.1) found row.2) (record {
       header_map = h.0;
       body_map = r.0;
       header_first = h.1;
       header_is = h.2;
       body_first = ap map_at h.3 ∙ r.1;
       row_is = ap (λ (l : List ℕ). row_in header.0.0.kind (pairs_in l)) h.3 ∙ r.2;
-      same = (λ i. (record { replica = header.0.0.replica; first = header.0.0.lsn; rows = row.0.0 ∷ [] }, r.3 i)) ∙ same;
+      rest = r.3;
+    })
+
+pub whole_row_from : (bytes : List ℕ) (found : (Header × Row) × List ℕ) → WholeRow bytes found → whole_row_at bytes ≡ Some found
+unfolding whole_row_at header_at row_at
+whole_row_from bytes found p = rw (p.header_first, p.header_is, p.body_first, p.row_is) (ap (λ (rest : List ℕ). Some (found.0, rest)) p.rest)
+
+-- a row that is read, and its header's numbers
+pub record IsReadRow (header : Header) (row : Row) : Type 0 where
+  pub replica : header.replica.0 < 32
+  pub some : 1 ≤ header.lsn.0
+  pub most : header.lsn.0 ≤ max_lsn
+  pub row_is : IsRow row
+
+pub whole_row_is : (bytes : List ℕ) (found : (Header × Row) × List ℕ) → whole_row_at bytes ≡ Some found → IsReadRow found.0.0 found.0.1
+whole_row_is bytes found e =
+    let p = whole_row_parts bytes found e in
+    let h = header_within found.0.0 (pairs_in bytes) p.header_is in
+    record {
+      replica = h.0;
+      some = h.1;
+      most = h.2;
+      row_is = row_is found.0.0.kind (pairs_in p.header_map.1) found.0.1 (body_inner p.header_map.1) (row_parts found.0.0.kind (pairs_in p.header_map.1) found.0.1 p.row_is);
     }
-
-pub transaction_from : (bytes : List ℕ) (found : Tx × List ℕ) → TransactionParts bytes found → transaction_at bytes ≡ Some found
-unfolding transaction_at header_at row_at
-transaction_from bytes found p = rw (p.header_first, p.header_is, p.body_first, p.row_is) (ap (λ (x : Tx × List ℕ). Some x) p.same)
-
--- what is read is a transaction
-pub transaction_is : (bytes : List ℕ) (found : Tx × List ℕ) → transaction_at bytes ≡ Some found → IsTransaction found.0
-transaction_is bytes found e =
-    let p = transaction_parts bytes found e in
-    let h = header_within p.header (pairs_in bytes) p.header_is in
-    let r = row_is p.header.kind (pairs_in p.header_map.1) p.row (body_inner p.header_map.1) (row_parts p.header.kind (pairs_in p.header_map.1) p.row p.row_is) in
-    subst (λ (f : Tx × List ℕ). IsTransaction f.0) p.same (record { replica = h.0; first = (h.1, h.2); row = (p.row, refl, r) })

@@ -1,46 +1,35 @@
--- The rows of a journal: what is written is read again, whatever follows, and is data of a block.
-use Rattle.std.proofs.Common.{◌≡◌, ℕ, ◌+◌, ◌-◌, ◌^◌, ◌<◌, ◌≤◌, List, [], ◌∷◌, ◌++◌, length, Some, None, refl, sym, ap, subst, ◌∙◌, append_assoc, inl, inr, arith}
-use Rattle.std.specs.Prelude.{pos, map, ◌==◌}
+-- The rows of a journal: what is written is read again, whatever follows, and takes no more bytes than a row counts.
+use Rattle.std.proofs.Common.{◌≡◌, ℕ, ◌-◌, ◌^◌, ◌<◌, ◌≤◌, Bool, true, false, Option, List, [], ◌∷◌, ◌++◌, length, Some, None, refl, sym, ap, subst, ◌∙◌, append_assoc, inl, inr, arith}
+use Rattle.std.specs.Prelude.{pos, map, ◌==◌, if◌then◌else◌}
 use Rattle.std.specs.Option.{option_map}
 use Rattle.std.proofs.lemmas.Bool.{cond_both, eqb-true, le-leb, ne_eqb}
-use Rattle.std.proofs.lemmas.List.{append-nil, length-append}
-use Rattle.mx_base.specs.Keys.{base_key, lsn_key}
-use Rattle.mx_base.specs.declared.ids.SpaceId.{SpaceId}
+use Rattle.std.proofs.lemmas.List.{length-append}
+use Rattle.mx_base.specs.Keys.{base_key, is_last_key}
 use Rattle.mx_msgpack.specs.Grammar as grammar
 use Rattle.mx_msgpack.specs.Grammar.{Spells}
-use Rattle.mx_msgpack.specs.Maps.{value_under}
-use Rattle.mx_msgpack.specs.Readers.{Advances, unsigned_in}
+use Rattle.mx_msgpack.specs.Readers.{unsigned_in}
 use Rattle.mx_msgpack.specs.Spelling.{shortest_unsigned}
 use Rattle.mx_msgpack.proofs.UnsignedLaws.{unsigned_read}
 use Rattle.mx_vclock.specs.Vclocks.{max_lsn}
 use Rattle.mx_request.specs.declared.request.Request.TheVariants as request
-use Rattle.mx_request.specs.Operators.{shape_fault}
 use Rattle.mx_request.specs.Spelling.{Written, unless_default, map_text, IsInnerArray, AreOperations}
 use Rattle.mx_request.specs.Values.{number_to, number_32, array_in}
 use Rattle.mx_request.proofs.MapTextLaws.{AreWhole, as_read}
 use Rattle.mx_request.proofs.UnderKeyLaws.{found, OnlyKey, only_key, change_space, change_base, change_key, change_operations, upsertion_space, upsertion_base, upsertion_tuple, upsertion_operations}
-use Rattle.mx_request.proofs.ValueTextLaws.{number_inner, number_read_again, array_read_again}
+use Rattle.mx_request.proofs.ValueTextLaws.{number_inner, number_read_again, unsigned_read_again, array_read_again}
 use Rattle.mx_request.proofs.WholeLaws.{body_whole}
+use Rattle.mx_request.proofs.WriterLaws.{pairs_text}
+use Rattle.mx_msgpack.proofs.SpellingLaws.{shortest_length}
 use Rattle.mx_row.specs.declared.header.Header.{Header}
 use Rattle.mx_row.specs.declared.row.Row.{Row}
-use Rattle.mx_row.specs.declared.tx.Tx.{Tx}
+use Rattle.mx_row.specs.declared.header.Place.{Place}
+use Rattle.mx_row.specs.declared.header.Place.TheVariants.{Alone, Numbered}
+use Rattle.mx_row.specs.Limits.{row_size}
 use Rattle.mx_row.specs.Values.{value_held, lsn_in, base_in, row_operations_in}
-use Rattle.mx_row.specs.Rows.{insert_type, replace_type, update_type, delete_type, upsert_type, max_body_size, tuple_row, insert_row, replace_row, update_row, delete_row, upsert_row, tuple_pairs, update_pairs, delete_pairs, upsert_pairs, row_body_text, row_header_pairs, row_text, rows_text, transaction_text, IsInsert, IsReplace, IsUpdate, IsDelete, IsUpsert, IsRow, IsTransaction, header_in, header_at, row_in, row_at, transaction_at}
+use Rattle.mx_row.specs.Rows.{insert_type, replace_type, update_type, delete_type, upsert_type, max_body_size, insert_row, replace_row, update_row, delete_row, upsert_row, tuple_pairs, update_pairs, delete_pairs, upsert_pairs, row_body_text, row_header_pairs, row_text, IsUpdate, IsUpsert, IsRow, header_in, header_at, place_by, place_pairs, row_number, row_at, whole_row_at}
 use Rattle.mx_row.proofs.SizeLaws.{short_text, unless_few}
-use Rattle.mx_row.proofs.PairLaws.{map_again, pairs_again_in, map_at-Advances}
-use Rattle.mx_row.proofs.ReadLaws.{HeaderParts, header_from, TupleParts, UpdateParts, DeleteParts, UpsertParts, RowParts, Inserts, Replaces, Updates, Deletes, Upserts, row_from, transaction_parts, transaction_is}
-
-pub transaction_at-Advances : Advances transaction_at
-transaction_at-Advances bytes found e =
-    let p = transaction_parts bytes found e in
-    let first = map_at-Advances bytes p.header_map p.header_first in
-    let second = map_at-Advances p.header_map.1 p.body_map p.body_first in
-    let l = ap (λ (x : Tx × List ℕ). length x.1) p.same in
-    omega arith
-
--- no transaction is read of a replica that there can't be
-pub transaction_at-replica : (bytes : List ℕ) (found : Tx × List ℕ) → transaction_at bytes ≡ Some found → found.0.replica.0 < 32
-transaction_at-replica bytes found e = (transaction_is bytes found e).replica
+use Rattle.mx_row.proofs.PairLaws.{map_again, pairs_again_in}
+use Rattle.mx_row.proofs.ReadLaws.{header_from, RowParts, Inserts, Replaces, Updates, Deletes, Upserts, row_from}
 
 -- ---- the header of a row
 
@@ -53,28 +42,82 @@ small number few = (grammar.Int (pos number), inl (number, refl, inl (few, refl)
 lsn_again : (lsn : ℕ) → 1 ≤ lsn → lsn ≤ max_lsn → lsn_in (shortest_unsigned lsn) ≡ Some lsn
 lsn_again lsn some most = rw (number_read_again max_lsn lsn most (omega arith), ne_eqb lsn 0 (λ e. omega arith)) refl
 
-module _ (kind replica lsn : ℕ) (low : kind < 0x80) (few : replica < 32) (some : 1 ≤ lsn) (most : lsn ≤ max_lsn) where
-  abbrev header : Header
-  header = record { kind = kind; replica = record { 0 = replica }; lsn = record { 0 = lsn } }
+-- the value of a place's last key
+abbrev last_value : Bool → Option (List ℕ)
+last_value is_last = if is_last then Some (1 ∷ []) else None
 
-  header_whole : AreWhole (row_header_pairs kind replica lsn)
-  header_whole = (omega arith, small kind low, (omega arith, small replica (omega arith), (omega arith, number_inner lsn (omega arith), tt)))
+place_again : (number : ℕ) (is_last : Bool) → number < 2 ^ 64 → place_by (Some (shortest_unsigned number)) (last_value is_last) ≡ Some (Numbered number is_last)
+place_again number true fits = rw (unsigned_read_again number fits, small_read 1 (omega arith)) refl
+place_again number false fits = rw (unsigned_read_again number fits) refl
 
-  replica_again : number_to 31 (replica ∷ []) ≡ Some replica
-  replica_again = rw (small_read replica (omega arith), le-leb replica 31 (omega arith)) refl
+place_whole : (place : Place) → row_number place < 2 ^ 64 → AreWhole (place_pairs place)
+place_whole Alone fits = tt
+place_whole (Numbered number true) fits = (omega arith, number_inner number fits, (omega arith, small 1 (omega arith), tt))
+place_whole (Numbered number false) fits = (omega arith, number_inner number fits, tt)
 
-  header_found : header_in (map as_read (row_header_pairs kind replica lsn)) ≡ Some header
-  header_found = header_from _ _ _ _ _ header (record {
-    kind = small_read kind low;
-    replica_is = replica_again;
-    lsn_is = lsn_again lsn some most;
-    alone = refl;
-  })
+place_few : (place : Place) → length (place_pairs place) ≤ 2
+place_few Alone = omega arith
+place_few (Numbered number true) = omega arith
+place_few (Numbered number false) = omega arith
 
-  header_again : (rest : List ℕ) → header_at (map_text (row_header_pairs kind replica lsn) ++ rest) ≡ Some (header, rest)
+-- the header of these values, and its pairs as they are written
+abbrev pub header_of : (kind replica lsn : ℕ) → Place → Header
+header_of kind replica lsn place = record { kind = kind; replica = record { 0 = replica }; lsn = record { 0 = lsn }; place = place }
+
+abbrev pairs_of : (kind replica lsn : ℕ) → Place → List Written
+pairs_of kind replica lsn place = row_header_pairs kind replica lsn ++ place_pairs place
+
+-- the values fit a header
+record Fits (kind replica lsn : ℕ) (place : Place) : Type 0 where
+  low : kind < 0x80
+  few : replica < 32
+  some : 1 ≤ lsn
+  most : lsn ≤ max_lsn
+  number : row_number place < 2 ^ 64
+
+module _ (kind replica lsn : ℕ) where
+  header_whole : (place : Place) → Fits kind replica lsn place → AreWhole (pairs_of kind replica lsn place)
+  header_whole place fits =
+      let low = fits.few in
+      let most = fits.most in (
+        omega arith,
+        small kind fits.low,
+        (omega arith, small replica (omega arith), (omega arith, number_inner lsn (omega arith), place_whole place fits.number)),
+      )
+
+  header_few : (place : Place) → length (pairs_of kind replica lsn place) < 0x10
+  header_few place = let l = place_few place in omega arith
+
+  replica_again : replica < 32 → number_to 31 (replica ∷ []) ≡ Some replica
+  replica_again few = rw (small_read replica (omega arith), le-leb replica 31 (omega arith)) refl
+
+  header_found : (place : Place) → Fits kind replica lsn place → header_in (map as_read (pairs_of kind replica lsn place)) ≡ Some (header_of kind replica lsn place)
+  header_found Alone fits =
+      header_from _ _ _ _ _ (header_of kind replica lsn Alone)
+      (record { kind = small_read kind fits.low; replica_is = replica_again fits.few; lsn_is = lsn_again lsn fits.some fits.most; place_is = refl })
+  header_found (Numbered number true) fits =
+      header_from _ _ _ _ _ (header_of kind replica lsn (Numbered number true)) (record {
+        kind = small_read kind fits.low;
+        replica_is = replica_again fits.few;
+        lsn_is = lsn_again lsn fits.some fits.most;
+        place_is = place_again number true fits.number;
+      })
+  header_found (Numbered number false) fits =
+      header_from _ _ _ _ _ (header_of kind replica lsn (Numbered number false)) (record {
+        kind = small_read kind fits.low;
+        replica_is = replica_again fits.few;
+        lsn_is = lsn_again lsn fits.some fits.most;
+        place_is = place_again number false fits.number;
+      })
+
+  header_again : (place : Place) (rest : List ℕ) → Fits kind replica lsn place
+      → header_at (map_text (pairs_of kind replica lsn place) ++ rest) ≡ Some (header_of kind replica lsn place, rest)
   unfolding header_at
-  header_again rest =
-      rw (map_again (row_header_pairs kind replica lsn) rest (omega arith) header_whole, pairs_again_in (row_header_pairs kind replica lsn) rest (omega arith) header_whole, header_found) refl
+  header_again place rest fits =
+      let pairs = pairs_of kind replica lsn place in
+      let whole = header_whole place fits in
+      let few = header_few place in
+      rw (map_again pairs rest few whole, pairs_again_in pairs rest few whole, header_found place fits) refl
 
 -- ---- the body of a row
 
@@ -198,35 +241,35 @@ kind_low row is =
     low_as : (other : Row) → row ≡ other → other.kind < 0x80 → row.kind < 0x80
     low_as other e low = subst (λ (r : Row). r.kind < 0x80) (sym e) low
 
--- ---- a transaction
+-- ---- a whole row
 
-row_again : (replica lsn : ℕ) (row : Row) (rest : List ℕ) → replica < 32 → 1 ≤ lsn → lsn ≤ max_lsn → IsRow row
-    → transaction_at (row_text replica lsn row ++ rest)
-    ≡ Some (record { replica = record { 0 = replica }; first = record { 0 = lsn }; rows = row ∷ [] }, rest)
-unfolding transaction_at
-row_again replica lsn row rest few some most is =
-    let text = map_text (row_header_pairs row.kind replica lsn) in
+-- what is written of a row is read again, whatever follows
+pub row_again : (replica lsn : ℕ) (place : Place) (row : Row) (rest : List ℕ) → replica < 32 → 1 ≤ lsn → lsn ≤ max_lsn → row_number place < 2 ^ 64 → IsRow row
+    → whole_row_at (row_text replica lsn place row ++ rest) ≡ Some ((header_of row.kind replica lsn place, row), rest)
+unfolding whole_row_at
+row_again replica lsn place row rest few some most number is =
+    let text = map_text (pairs_of row.kind replica lsn place) in
     let whole = append_assoc text (row_body_text row) rest in
-    rw (whole, header_again row.kind replica lsn (kind_low row is) few some most (row_body_text row ++ rest), body_again row rest is) refl
+    let fits : Fits row.kind replica lsn place = record { low = kind_low row is; few = few; some = some; most = most; number = number } in
+    rw (whole, header_again row.kind replica lsn place (row_body_text row ++ rest) fits, body_again row rest is) refl
 
--- what is written is read again, whatever follows
-pub transaction_again : (transaction : Tx) (rest : List ℕ) → IsTransaction transaction → transaction_at (transaction_text transaction ++ rest) ≡ Some (transaction, rest)
-transaction_again transaction rest is =
-    let replica = transaction.replica.0 in
-    let first = transaction.first.0 in
-    let (row, one, sound) = is.row in
-    ap (λ (rows : List Row). transaction_at (rows_text replica first rows ++ rest)) one
-    ∙ ap (λ (l : List ℕ). transaction_at (l ++ rest)) (append-nil (row_text replica first row))
-    ∙ row_again replica first row rest is.replica is.first.0 is.first.1 sound
-    ∙ ap (λ (rows : List Row). Some (record { replica = transaction.replica; first = transaction.first; rows = rows }, rest)) (sym one)
+place_length : (place : Place) → length (pairs_text (place_pairs place)) ≤ 12
+place_length Alone = omega arith
+place_length (Numbered number true) =
+    let l = length-append (shortest_unsigned number) (is_last_key ∷ 1 ∷ []) in
+    omega (arith, l, shortest_length number)
+place_length (Numbered number false) =
+    let l = length-append (shortest_unsigned number) [] in
+    omega (arith, l, shortest_length number)
 
-pub row_length : (replica lsn : ℕ) (row : Row) → length (row_text replica lsn row) ≡ 6 + length (shortest_unsigned lsn) + length (row_body_text row)
-row_length replica lsn row =
-    let header = map_text (row_header_pairs row.kind replica lsn) in
-    let both = length-append header (row_body_text row) in
-    let text = ap length (short_text (row_header_pairs row.kind replica lsn) (omega arith)) in
-    let last = length-append (shortest_unsigned lsn) [] in
-    omega arith
-
-pub short_body : (row : Row) → IsRow row → length (row_body_text row) ≤ max_body_size
-short_body row is = is.short
+-- a row takes no more bytes than it counts, and one at least
+pub row_length : (replica lsn : ℕ) (place : Place) (row : Row)
+    → (1 ≤ length (row_text replica lsn place row)) × (length (row_text replica lsn place row) ≤ row_size row)
+row_length replica lsn place row =
+    let pairs = pairs_of row.kind replica lsn place in
+    let both = length-append (map_text pairs) (row_body_text row) in
+    let text = ap length (short_text pairs (header_few row.kind replica lsn place)) in
+    let last = length-append (shortest_unsigned lsn) (pairs_text (place_pairs place)) in
+    let number = shortest_length lsn in
+    let numbered = place_length place in
+    (omega arith, omega arith)

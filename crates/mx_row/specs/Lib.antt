@@ -1,5 +1,8 @@
 pub mod Values
+pub mod Bodies
+pub mod Limits
+pub mod Clocks
 pub mod Rows
 pub mod Grammar
-pub mod Clocks
+pub mod RowLists
 pub mod Views

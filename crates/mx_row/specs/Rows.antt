@@ -1,101 +1,53 @@
--- The rows of a journal: for each a header map and a body map of MessagePack (Tarantool's xlog rows).
-use Rattle.std.specs.Prelude.{◌≡◌, ◌⊎◌, ℕ, suc, ◌≤◌, ◌<◌, ◌^◌, Bool, true, false, ◌&&◌, List, [], ◌∷◌, ◌++◌, length, map, Option, Some, None, nat_le, ◌==◌, if◌then◌else◌}
-use Rattle.std.specs.List.{concat}
-use Rattle.mx_msgpack.specs.Readers.{Reader, ◌>>=◌, all_from, unsigned_in}
+-- The rows of a journal and the transactions that they make up: for each row a header map and a body map of MessagePack
+-- (Tarantool's xlog rows).
+use Rattle.std.specs.Prelude.{◌≡◌, ◌⊎◌, ℕ, zero, suc, ◌-◌, ◌≤◌, ◌<◌, ◌^◌, Bool, true, false, ◌&&◌, List, [], ◌∷◌, ◌++◌, length, map, Option, Some, None, nat_le, ◌==◌, if◌then◌else◌}
+use Rattle.std.specs.List.{concat, AllByRecursion}
+use Rattle.std.specs.Option.{option_map}
+use Rattle.mx_msgpack.specs.Readers.{Reader, ◌>>=◌, all_from, in_front, unsigned_in}
 use Rattle.mx_msgpack.specs.Maps.{Pair, map_at, pairs_in, value_under}
 use Rattle.mx_msgpack.specs.Spelling.{shortest_unsigned}
 use Rattle.mx_vclock.specs.Vclocks.{max_lsn}
 use Rattle.mx_base.specs.Keys.{type_key, replica_key, lsn_key, row_number_key, is_last_key, space_key, base_key, parts_key, tuple_key, operations_key}
-use Rattle.mx_request.specs.Spelling.{Written, unless_default, map_text, IsInnerArray, AreOperations}
+use Rattle.mx_request.specs.Spelling.{Written, map_text, IsInnerArray, AreOperations}
 use Rattle.mx_request.specs.Values.{number_to, number_32, array_in}
 use Rattle.mx_row.specs.declared.row.Row.{Row}
 use Rattle.mx_row.specs.declared.tx.Tx.{Tx}
 use Rattle.mx_row.specs.declared.header.Header.{Header}
+use Rattle.mx_row.specs.declared.header.Place.{Place}
+use Rattle.mx_row.specs.declared.header.Place.TheVariants.{Alone, Numbered}
+use Rattle.mx_row.specs.Clocks.{last_lsn}
+use Rattle.mx_row.specs.Limits.{max_rows, max_transaction_size, rows_size}
 use Rattle.mx_row.specs.Values.{value_held, lsn_in, base_in, row_operations_in}
-
--- the types of rows
-abbrev pub insert_type : ℕ
-insert_type = 2
-
-abbrev pub replace_type : ℕ
-replace_type = 3
-
-abbrev pub update_type : ℕ
-update_type = 4
-
-abbrev pub delete_type : ℕ
-delete_type = 5
-
-abbrev pub upsert_type : ℕ
-upsert_type = 9
-
--- the maximum size of a row's body in bytes, spelled shortest
-abbrev pub max_body_size : ℕ
-max_body_size = 2097120
-
--- ---- the rows of each type
-
--- a row of this type that has a tuple
-abbrev pub tuple_row : (kind space : ℕ) → List ℕ → Row
-tuple_row kind space tuple = record { kind = kind; space = record { 0 = space }; index_base = 0; tuple = tuple; key = []; ops = [] }
-
-abbrev pub insert_row : (space : ℕ) (tuple : List ℕ) → Row
-insert_row space tuple = tuple_row insert_type space tuple
-
-abbrev pub replace_row : (space : ℕ) (tuple : List ℕ) → Row
-replace_row space tuple = tuple_row replace_type space tuple
-
-abbrev pub update_row : (space base : ℕ) (key operations : List ℕ) → Row
-update_row space base key operations =
-    record { kind = update_type; space = record { 0 = space }; index_base = base; tuple = []; key = key; ops = operations }
-
-abbrev pub delete_row : (space : ℕ) (key : List ℕ) → Row
-delete_row space key = record { kind = delete_type; space = record { 0 = space }; index_base = 0; tuple = []; key = key; ops = [] }
-
-abbrev pub upsert_row : (space base : ℕ) (tuple operations : List ℕ) → Row
-upsert_row space base tuple operations =
-    record { kind = upsert_type; space = record { 0 = space }; index_base = base; tuple = tuple; key = []; ops = operations }
+pub use Rattle.mx_row.specs.Bodies.{insert_type, replace_type, update_type, delete_type, upsert_type, max_body_size, tuple_row, insert_row, replace_row, update_row, delete_row, upsert_row, tuple_pairs, update_pairs, delete_pairs, upsert_pairs, row_body_text}
 
 -- ---- how rows are written
-
--- the keys of a row's body, and their values
-abbrev pub tuple_pairs : (space : ℕ) (tuple : List ℕ) → List Written
-tuple_pairs space tuple = (space_key, shortest_unsigned space) ∷ (tuple_key, tuple) ∷ []
-
-abbrev pub update_pairs : (space base : ℕ) (key operations : List ℕ) → List Written
-update_pairs space base key operations =
-    (space_key, shortest_unsigned space) ∷ unless_default base_key 0 base ++ (parts_key, key) ∷ (tuple_key, operations) ∷ []
-
-abbrev pub delete_pairs : (space : ℕ) (key : List ℕ) → List Written
-delete_pairs space key = (space_key, shortest_unsigned space) ∷ (parts_key, key) ∷ []
-
-abbrev pub upsert_pairs : (space base : ℕ) (tuple operations : List ℕ) → List Written
-upsert_pairs space base tuple operations =
-    (space_key, shortest_unsigned space) ∷ unless_default base_key 0 base ++ (tuple_key, tuple) ∷ (operations_key, operations) ∷ []
-
-abbrev pub row_pairs : Row → List Written
-row_pairs row =
-    if row.kind == update_type then update_pairs row.space.0 row.index_base row.key row.ops
-    else if row.kind == delete_type then delete_pairs row.space.0 row.key
-    else if row.kind == upsert_type then upsert_pairs row.space.0 row.index_base row.tuple row.ops
-    else tuple_pairs row.space.0 row.tuple
-
--- the body of a row as it is written
-abbrev pub row_body_text : Row → List ℕ
-row_body_text row = map_text (row_pairs row)
 
 -- the keys of a row's header, and their values, of which the first two are a byte each
 abbrev pub row_header_pairs : (kind replica lsn : ℕ) → List Written
 row_header_pairs kind replica lsn = (type_key, kind ∷ []) ∷ (replica_key, replica ∷ []) ∷ (lsn_key, shortest_unsigned lsn) ∷ []
 
--- a row as it is written: a header of type, replica id and lsn, and a body
-abbrev pub row_text : (replica lsn : ℕ) → Row → List ℕ
-row_text replica lsn row = map_text (row_header_pairs row.kind replica lsn) ++ row_body_text row
+-- the keys of a header that say which row of its transaction it is, and their values; a row alone has none
+abbrev pub place_pairs : Place → List Written
+place_pairs Alone = []
+place_pairs (Numbered number is_last) = (row_number_key, shortest_unsigned number) ∷ (if is_last then (is_last_key, 1 ∷ []) ∷ [] else [])
 
--- rows whose lsns rise by 1
+-- a row as it is written: a header of type, replica id, lsn and place, and a body
+abbrev pub row_text : (replica lsn : ℕ) → Place → Row → List ℕ
+row_text replica lsn place row = map_text (row_header_pairs row.kind replica lsn ++ place_pairs place) ++ row_body_text row
+
+-- the place of the row of this number, where there are so many rows
+abbrev pub place_among : (count number : ℕ) → Place
+place_among count number = if count == 1 then Alone else Numbered number (suc number == count)
+
+-- the rows from this number on, of so many: their lsns rise by 1
+abbrev pub placed_text : (count replica lsn number : ℕ) → List Row → List ℕ
+placed_text count replica lsn number [] = []
+placed_text count replica lsn number (row ∷ rows) =
+    row_text replica lsn (place_among count number) row ++ placed_text count replica (suc lsn) (suc number) rows
+
+-- all rows of a transaction: a row alone where there is one, else numbered rows
 abbrev pub rows_text : (replica lsn : ℕ) → List Row → List ℕ
-rows_text replica lsn [] = []
-rows_text replica lsn (row ∷ rows) = row_text replica lsn row ++ rows_text replica (suc lsn) rows
+rows_text replica lsn rows = placed_text (length rows) replica lsn 0 rows
 
 abbrev pub transaction_text : Tx → List ℕ
 transaction_text transaction = rows_text transaction.replica.0 transaction.first.0 transaction.rows
@@ -135,11 +87,14 @@ pub record IsRow (row : Row) : Type 0 where
   pub parts : IsInsert row ⊎ IsReplace row ⊎ IsUpdate row ⊎ IsDelete row ⊎ IsUpsert row
   pub short : length (row_body_text row) ≤ max_body_size
 
--- A transaction that can be written: one row, and numbers that a vclock allows.
+-- A transaction that can be written: its rows can, its numbers are those that a vclock allows, and it is within the limits.
 pub record IsTransaction (transaction : Tx) : Type 0 where
   pub replica : transaction.replica.0 < 32
-  pub first : (1 ≤ transaction.first.0) × (transaction.first.0 ≤ max_lsn)
-  pub row : (row : Row) × (transaction.rows ≡ row ∷ []) × IsRow row
+  pub lsns : (1 ≤ transaction.first.0) × (last_lsn transaction ≤ max_lsn)
+  pub some : 1 ≤ length transaction.rows
+  pub rows : AllByRecursion IsRow transaction.rows
+  pub few : length transaction.rows ≤ max_rows
+  pub short : rows_size transaction.rows ≤ max_transaction_size
 
 -- ---- what is read
 
@@ -147,18 +102,21 @@ abbrev pub is_number : ℕ → Option ℕ → Bool
 is_number wanted None = false
 is_number wanted (Some number) = number == wanted
 
--- The row is a transaction by itself: its header has no number of the row in one, or says that it is the first and the last.
-abbrev pub is_alone : (row_number is_last : Option (List ℕ)) → Bool
-is_alone None is_last = true
-is_alone (Some value) is_last = is_number 0 (unsigned_in value) && is_number 1 (value_held unsigned_in is_last)
+-- the place of a row, by the values under its header's keys; it is the last one where the number 1 says so
+abbrev pub place_by : (row_number is_last : Option (List ℕ)) → Option Place
+place_by None is_last = Some Alone
+place_by (Some value) is_last = do
+  number ← unsigned_in value
+  Some (Numbered number (is_number 1 (value_held unsigned_in is_last)))
 
--- the header of a row that is a transaction by itself, by the values under its keys
+-- the header of a row, by the values under its keys
 unfoldable pub header_by : (type replica lsn row_number is_last : Option (List ℕ)) → Option Header
 header_by type replica lsn row_number is_last = do
   kind ← value_held unsigned_in type
   id ← value_held (number_to 31) replica
   lsn ← value_held lsn_in lsn
-  if is_alone row_number is_last then Some (record { kind = kind; replica = record { 0 = id }; lsn = record { 0 = lsn } }) else None
+  place ← place_by row_number is_last
+  Some (record { kind = kind; replica = record { 0 = id }; lsn = record { 0 = lsn }; place = place })
 
 abbrev pub header_in : List Pair → Option Header
 header_in header =
@@ -224,12 +182,49 @@ row_at kind bytes = do
   row ← row_in kind (pairs_in bytes)
   Some (row, map.1)
 
--- the transaction of one row that stands first, in all spellings
-unfoldable pub transaction_at : Reader Tx
-transaction_at bytes = do
+-- the row that stands first with its header, and the bytes after it
+unfoldable pub whole_row_at : Reader (Header × Row)
+whole_row_at bytes = do
   header ← header_at bytes
   row ← row_at header.0.kind header.1
-  Some (record { replica = header.0.replica; first = header.0.lsn; rows = row.0 ∷ [] }, row.1)
+  Some ((header.0, row.0), row.1)
+
+-- the number of a row in its transaction
+abbrev pub row_number : Place → ℕ
+row_number Alone = 0
+row_number (Numbered number is_last) = number
+
+-- the row ends its transaction
+abbrev pub ends : Place → Bool
+ends Alone = true
+ends (Numbered number is_last) = is_last
+
+-- the second header is that of the row after the first one's
+abbrev pub comes_next : Header → Header → Bool
+comes_next header next =
+    (next.replica.0 == header.replica.0) && (next.lsn.0 == suc header.lsn.0) && (row_number next.place == suc (row_number header.place))
+
+-- the rows after that with this header up to the last of its transaction, at most so many, and the bytes after them
+unfoldable pub rows_behind : (most : ℕ) → Header → Reader (List Row)
+rows_behind zero header bytes = if ends header.place then Some ([], bytes) else None
+rows_behind (suc most) header bytes = if ends header.place then Some ([], bytes) else (do
+  next ← whole_row_at bytes
+  if comes_next header next.0.0 then option_map (in_front next.0.1) (rows_behind most next.0.0 next.1) else None)
+
+-- a transaction of these rows, of which this is the first one's header, where it is short enough
+abbrev pub tx_of : Header → List Row × List ℕ → Option (Tx × List ℕ)
+tx_of first rows =
+    if nat_le (rows_size rows.0) max_transaction_size then Some (record { replica = first.replica; first = first.lsn; rows = rows.0 }, rows.1) else None
+
+-- the transaction whose first row this is, and the bytes after it
+abbrev pub tx_behind : Header → Row → Reader Tx
+tx_behind header row bytes = option_map (in_front row) (rows_behind (max_rows - 1) header bytes) >>= tx_of header
+
+-- the transaction that stands first, in all spellings
+unfoldable pub transaction_at : Reader Tx
+transaction_at bytes = do
+  first ← whole_row_at bytes
+  if row_number first.0.0.place == 0 then tx_behind first.0.0 first.0.1 first.1 else None
 
 abbrev pub only_whole : List Tx × List ℕ → Option (List Tx)
 only_whole (transactions, []) = Some transactions

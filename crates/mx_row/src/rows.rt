@@ -1,8 +1,10 @@
 //! Rows in order, which a contract sees as a list.
 
-ghost use Rattle.std.specs.Prelude.{◌≡◌, [], ◌∷◌, ◌++◌, OnOk, OnErr};
+ghost use Rattle.std.specs.Prelude.{◌≡◌, [], ◌∷◌, ◌++◌, IfOk, OnOk, OnErr};
+ghost use Rattle.mx_row.specs.Views.{row_values};
 
 use crate::row::Row;
+use crate::row_ref::RowRef;
 use std::alloc::{AllocError, Global};
 use std::marker::Model;
 
@@ -29,6 +31,17 @@ impl Rows {
         Rows {
             items: Vec::new(alloc),
         }
+    }
+
+    /// The rows with parts of their own.
+    pub fn from_refs(alloc: Global, refs: &[RowRef<'_>]) -> Result<Rows, AllocError>
+        ensures { IfOk result (λ rows. rows ≡ row_values refs.now) }
+    {
+        let mut items = Vec::with_capacity(alloc, refs.len())?;
+        for row in refs {
+            items.push(Row::from_ref(alloc, row)?)?;
+        }
+        Ok(Rows { items })
     }
 
     /// The rows in place.

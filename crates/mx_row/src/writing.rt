@@ -1,12 +1,13 @@
 //! Transactions of a journal, written in their shortest spelling.
 
-ghost use Rattle.std.specs.Prelude.{◌≡◌, ◌≤◌, ℕ, ◌++◌, length, map, take, MatchResult};
+ghost use Rattle.std.specs.Prelude.{◌≡◌, ◌≤◌, ◌<◌, ◌+◌, ℕ, ◌∷◌, ◌++◌, Some, length, map, slice_get, take, MatchResult};
 ghost use Rattle.std.specs.List.{concat};
 ghost use Rattle.mx_msgpack.specs.Spelling.{shortest_unsigned};
-ghost use Rattle.mx_base.specs.Keys.{base_key};
+ghost use Rattle.mx_base.specs.Keys.{base_key, row_number_key};
 ghost use Rattle.mx_request.specs.Spelling.{entry_text, map_text, unless_default};
-ghost use Rattle.mx_row.specs.Rows.{IsTransaction, delete_pairs, row_header_pairs, row_body_text, row_text, transaction_text, tuple_pairs, update_pairs, upsert_pairs};
+ghost use Rattle.mx_row.specs.Rows.{IsTransaction, delete_pairs, place_among, place_pairs, row_header_pairs, row_body_text, row_text, transaction_text, tuple_pairs, update_pairs, upsert_pairs};
 
+use crate::header::Place;
 use crate::row::Row;
 use crate::row_types;
 use crate::tx::Tx;
@@ -14,8 +15,12 @@ use mx_base::{ReplicaId, keys};
 use mx_msgpack::{Bytes, write_map_head, write_unsigned};
 use std::alloc::{AllocError, Global};
 
-/// The leading byte of a map of three pairs.
+/// The leading bytes of maps of three, four and five pairs.
 const MAP_OF_THREE: u8 = 0x83;
+
+const MAP_OF_FOUR: u8 = 0x84;
+
+const MAP_OF_FIVE: u8 = 0x85;
 
 /// The maximum size of a row in bytes without its tuple, key and operations.
 const MAX_KEYS_SIZE: usize = 32;
@@ -36,24 +41,75 @@ pub fn write_tx(_alloc: Global, tx: &Tx, out: &mut Bytes) -> Result<(), AllocErr
     written
 }
 
+/// Adds the row of this place, counted from 0, as it stands in its transaction.
+///
+/// # Errors
+/// Out of memory; nothing is added.
+pub fn write_row(_alloc: Global, tx: &Tx, place: usize, out: &mut Bytes) -> Result<(), AllocError>
+    requires sound { IsTransaction tx.now }
+    requires there { place < length tx.now.rows }
+    ensures { (row : Row) → slice_get tx.now.rows place ≡ Some row → MatchResult result
+        (λ _. out.new ≡ out.old ++ row_text tx.now.replica.0 (tx.now.first.0 + place) (place_among (length tx.now.rows) place) row)
+        (λ _. out.new ≡ out.old) }
+{
+    let rows = tx.rows.as_slice();
+    let lsn = tx.first.0 + place as u64;
+    let start = out.len();
+    let written = write_placed(
+        tx.replica,
+        lsn,
+        place_among(rows.len(), place),
+        &rows[place],
+        out,
+    );
+    if written.is_err() {
+        out.truncate(start);
+    }
+    written
+}
+
 /// As `write_tx`, but at an error a prefix of the rows may have been added, as by each function below.
 fn write_rows(tx: &Tx, out: &mut Bytes) -> Result<(), AllocError>
     requires { IsTransaction tx.now }
     ensures { MatchResult result (λ _. out.new ≡ out.old ++ transaction_text tx.now) (λ _. take (length out.old) out.new ≡ out.old) }
 {
-    let mut lsn = tx.first.0;
-    for row in tx.rows.as_slice() {
-        write_row(tx.replica, lsn, row, out)?;
-        lsn += 1;
+    let rows = tx.rows.as_slice();
+    let mut number = 0;
+    for row in rows {
+        let lsn = tx.first.0 + number as u64;
+        write_placed(tx.replica, lsn, place_among(rows.len(), number), row, out)?;
+        number += 1;
     }
     Ok(())
 }
 
-fn write_row(replica: ReplicaId, lsn: u64, row: &Row, out: &mut Bytes) -> Result<(), AllocError>
-    ensures { MatchResult result (λ _. out.new ≡ out.old ++ row_text replica.0 lsn row.now) (λ _. take (length out.old) out.new ≡ out.old) }
+/// The place of the row of this number, where there are so many rows.
+fn place_among(count: usize, number: usize) -> Place
+    requires { number < count }
+    ensures { result ≡ place_among count number }
+{
+    if count == 1 {
+        return Place::Alone;
+    }
+    Place::Numbered {
+        number: number as u64,
+        is_last: number + 1 == count,
+    }
+}
+
+fn write_placed(
+    replica: ReplicaId,
+    lsn: u64,
+    place: Place,
+    row: &Row,
+    out: &mut Bytes,
+) -> Result<(), AllocError>
+    ensures { MatchResult result
+        (λ _. out.new ≡ out.old ++ row_text replica.0 lsn place row.now)
+        (λ _. take (length out.old) out.new ≡ out.old) }
 {
     out.reserve(row_room(row))?;
-    write_head(row.kind, replica, lsn, out)?;
+    write_head(row.kind, replica, lsn, place, out)?;
     write_body(row, out)?;
     Ok(())
 }
@@ -67,20 +123,63 @@ fn row_room(row: &Row) -> usize {
 }
 
 #[tactic(auto, unfolding(mx_msgpack::specs::Spelling::map_head))]
-fn write_head(kind: u8, replica: ReplicaId, lsn: u64, out: &mut Bytes) -> Result<(), AllocError>
+fn write_head(
+    kind: u8,
+    replica: ReplicaId,
+    lsn: u64,
+    place: Place,
+    out: &mut Bytes,
+) -> Result<(), AllocError>
     ensures { MatchResult result
-        (λ _. out.new ≡ out.old ++ map_text (row_header_pairs kind replica.0 lsn))
+        (λ _. out.new ≡ out.old ++ map_text (row_header_pairs kind replica.0 lsn ++ place_pairs place))
         (λ _. take (length out.old) out.new ≡ out.old) }
 {
-    out.extend_from_slice(&[
-        MAP_OF_THREE,
-        keys::TYPE,
-        kind,
-        keys::REPLICA,
-        replica.0,
-        keys::LSN,
-    ])?;
+    match place {
+        Place::Alone => write_keys(MAP_OF_THREE, kind, replica, lsn, out),
+        Place::Numbered {
+            number,
+            is_last: false,
+        } => {
+            write_keys(MAP_OF_FOUR, kind, replica, lsn, out)?;
+            write_row_number(number, out)?;
+            Ok(())
+        }
+        Place::Numbered {
+            number,
+            is_last: true,
+        } => {
+            write_keys(MAP_OF_FIVE, kind, replica, lsn, out)?;
+            write_row_number(number, out)?;
+            out.extend_from_slice(&[keys::IS_LAST, 1])?;
+            Ok(())
+        }
+    }
+}
+
+/// Appends the leading byte of a header, and the keys that each header has.
+fn write_keys(
+    head: u8,
+    kind: u8,
+    replica: ReplicaId,
+    lsn: u64,
+    out: &mut Bytes,
+) -> Result<(), AllocError>
+    ensures { MatchResult result
+        (λ _. out.new ≡ out.old ++ head ∷ concat (map entry_text (row_header_pairs kind replica.0 lsn)))
+        (λ _. take (length out.old) out.new ≡ out.old) }
+{
+    out.extend_from_slice(&[head, keys::TYPE, kind, keys::REPLICA, replica.0, keys::LSN])?;
     write_unsigned(lsn, out)?;
+    Ok(())
+}
+
+fn write_row_number(number: u64, out: &mut Bytes) -> Result<(), AllocError>
+    ensures { MatchResult result
+        (λ _. out.new ≡ out.old ++ entry_text (row_number_key, shortest_unsigned number))
+        (λ _. take (length out.old) out.new ≡ out.old) }
+{
+    out.extend_from_slice(&[keys::ROW_NUMBER])?;
+    write_unsigned(number, out)?;
     Ok(())
 }
 
