@@ -7,28 +7,19 @@ use Rattle.std.specs.List.{concat, AllByRecursion}
 use mathlib.Core.Bool.{true≢false}
 use Rattle.mx_xlog.specs.Blocks.{block_of, IsData}
 use Rattle.mx_row.specs.declared.tx.Tx.{Tx}
-use Rattle.mx_row.specs.Rows.{IsTransaction, transaction_text, transactions_text, transactions_of, row_text, rows_text}
+use Rattle.mx_row.specs.Rows.{IsTransaction, transaction_text, transactions_text, transactions_of}
 use Rattle.mx_row.specs.Clocks.{clock_after, clock_after_one}
 use Rattle.mx_row.proofs.GroupLaws.{transactions_of-append}
 use Rattle.mx_row.proofs.ClockLaws.{clock_after-append}
-use Rattle.mx_row.proofs.RowLaws.{row_length, short_body}
+use Rattle.mx_row.proofs.TextLaws.{transaction_length}
 use Rattle.mx_journal.specs.declared.journal.Journal.{Journal}
 use Rattle.mx_journal.specs.Written.{AreGroups, Waits, blocks_text}
-use Rattle.mx_msgpack.proofs.SpellingLaws.{shortest_length}
 use Rattle.mx_xlog.specs.Reading.{blocks_of}
 use Rattle.mx_xlog.proofs.ReadingLaws.{blocks_of_block}
 
 -- a transaction fits into a block
 pub transaction_data : (transaction : Tx) → IsTransaction transaction → IsData (transaction_text transaction)
-transaction_data transaction is =
-    let (row, one, sound) = is.row in
-    let replica = transaction.replica.0 in
-    let first = transaction.first.0 in
-    let text : transaction_text transaction ≡ row_text replica first row = ap (rows_text replica first) one ∙ append-nil (row_text replica first row) in
-    let l = ap length text ∙ row_length replica first row in
-    let lsn = shortest_length first in
-    let body = short_body row sound in
-    record { some = omega arith; bounded = omega arith }
+transaction_data transaction is = let l = transaction_length transaction is in record { some = l.0; bounded = l.1 }
 
 abbrev block_text : List Tx → List ℕ
 block_text group = block_of (transactions_text group)

@@ -113,9 +113,7 @@ impl Journal {
         ensures pushed { self.new.pushed ≡ pushed }
         ensures others { SameButPushed self.old self.new }
     {
-        let Ok(()) = self.next.follow(tx.replica.0, tx.first.0) else {
-            unreachable!();
-        };
+        self.next.set(tx.replica.0, tx.last_lsn().0);
         self.pushed = pushed;
     }
 
