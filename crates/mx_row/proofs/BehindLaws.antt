@@ -15,7 +15,7 @@ use Rattle.mx_row.specs.declared.header.Place.TheVariants.{Alone, Numbered}
 use Rattle.mx_row.specs.declared.row.Row.{Row}
 use Rattle.mx_row.specs.declared.tx.Tx.{Tx}
 use Rattle.mx_row.specs.Limits.{max_rows, max_transaction_size, rows_size}
-use Rattle.mx_row.specs.Rows.{IsRow, IsTransaction, row_number, ends, comes_next, whole_row_at, rows_behind, tx_of, tx_behind, transaction_at}
+use Rattle.mx_row.specs.Rows.{IsRow, IsTransaction, row_number, ends_transaction, comes_next, whole_row_at, rows_behind, tx_of, tx_behind, transaction_at}
 use Rattle.mx_row.proofs.PairLaws.{map_at-Advances}
 use Rattle.mx_row.proofs.ReadLaws.{whole_row_parts, whole_row_is}
 
@@ -37,7 +37,7 @@ next_is header next e =
     (eqb-true _ _ first.0, eqb-true _ _ first.1, eqb-true _ _ numbered.1)
 
 -- a place with a number above 0
-pub numbered : (place : Place) (number : ℕ) → row_number place ≡ suc number → place ≡ Numbered (suc number) (ends place)
+pub numbered : (place : Place) (number : ℕ) → row_number place ≡ suc number → place ≡ Numbered (suc number) (ends_transaction place)
 numbered Alone number e = absurd (omega (arith, e))
 numbered (Numbered found is_last) number e = ap (λ (n : ℕ). Numbered n is_last) e
 
@@ -45,12 +45,12 @@ numbered (Numbered found is_last) number e = ap (λ (n : ℕ). Numbered n is_las
 
 module _ (header : Header) (bytes : List ℕ) where
   -- none, where the row is the last one
-  pub behind_last : (most : ℕ) → ends header.place ≡ true → rows_behind most header bytes ≡ Some ([], bytes)
+  pub behind_last : (most : ℕ) → ends_transaction header.place ≡ true → rows_behind most header bytes ≡ Some ([], bytes)
   unfolding rows_behind
   behind_last zero last = rw last refl
   behind_last (suc most) last = rw last refl
 
-  module _ (more : ends header.place ≡ false) where
+  module _ (more : ends_transaction header.place ≡ false) where
     pub behind_full : rows_behind 0 header bytes ≡ None
     unfolding rows_behind
     behind_full = rw more refl
@@ -85,7 +85,7 @@ pub record NextRow (most : ℕ) (header : Header) (bytes : List ℕ) (found : Li
 abbrev next_then : (most : ℕ) (header : Header) → (Header × Row) × List ℕ → Option (List Row × List ℕ)
 next_then most header next = if comes_next header next.0.0 then option_map (in_front next.0.1) (rows_behind most next.0.0 next.1) else None
 
-pub next_row : (most : ℕ) (header : Header) (bytes : List ℕ) (found : List Row × List ℕ) → ends header.place ≡ false
+pub next_row : (most : ℕ) (header : Header) (bytes : List ℕ) (found : List Row × List ℕ) → ends_transaction header.place ≡ false
     → rows_behind (suc most) header bytes ≡ Some found → NextRow most header bytes found
 unfolding rows_behind
 next_row most header bytes found more e =
@@ -94,7 +94,7 @@ next_row most header bytes found more e =
     let others = mapped_some (in_front next.0.0.1) (rows_behind most next.0.0.0 next.0.1) found follows.1 in
     record { next = next.0; others = others.0; read = next.1; follows = follows.0; behind = others.1; same = others.2 }
 
-pub last_row : (most : ℕ) (header : Header) (bytes : List ℕ) (found : List Row × List ℕ) → ends header.place ≡ true
+pub last_row : (most : ℕ) (header : Header) (bytes : List ℕ) (found : List Row × List ℕ) → ends_transaction header.place ≡ true
     → rows_behind most header bytes ≡ Some found → ([], bytes) ≡ found
 last_row most header bytes found last e = same_some ([], bytes) found (sym (behind_last header bytes most last) ∙ e)
 
@@ -110,15 +110,15 @@ none_behind most header bytes = record { few = omega arith; rows = tt; lsns = λ
 
 pub are_behind : (most : ℕ) (header : Header) (bytes : List ℕ) (found : List Row × List ℕ) → rows_behind most header bytes ≡ Some found
     → AreBehind most header bytes found
-are_behind zero header bytes found e = by_place (ends header.place) refl
+are_behind zero header bytes found e = by_place (ends_transaction header.place) refl
   where
-    by_place : (last : Bool) → ends header.place ≡ last → AreBehind zero header bytes found
+    by_place : (last : Bool) → ends_transaction header.place ≡ last → AreBehind zero header bytes found
     by_place true last = subst (AreBehind zero header bytes) (last_row zero header bytes found last e) (none_behind zero header bytes)
     by_place false more = let none = behind_full header bytes more in absurd cc
-are_behind (suc most) header bytes found e = by_place (are_behind most) (ends header.place) refl
+are_behind (suc most) header bytes found e = by_place (are_behind most) (ends_transaction header.place) refl
   where
     by_place : ((next : Header) (rest : List ℕ) (others : List Row × List ℕ) → rows_behind most next rest ≡ Some others → AreBehind most next rest others)
-        → (last : Bool) → ends header.place ≡ last → AreBehind (suc most) header bytes found
+        → (last : Bool) → ends_transaction header.place ≡ last → AreBehind (suc most) header bytes found
     by_place again true last = subst (AreBehind (suc most) header bytes) (last_row (suc most) header bytes found last e) (none_behind (suc most) header bytes)
     by_place again false more =
         let n = next_row most header bytes found more e in
@@ -149,10 +149,10 @@ module _ (rows : List Row) (count : ℕ) (header : Header) (bytes : List ℕ) wh
   all_rows = joined rows (rows_behind (max_rows - count) header bytes)
 
   -- the last of them ends the transaction
-  pub all_read : ends header.place ≡ true → all_rows ≡ Some (rows, bytes)
+  pub all_read : ends_transaction header.place ≡ true → all_rows ≡ Some (rows, bytes)
   all_read last = ap (joined rows) (behind_last header bytes (max_rows - count) last) ∙ ap (λ (l : List Row). Some (l, bytes)) (append-nil rows)
 
-  module _ (more : ends header.place ≡ false) where
+  module _ (more : ends_transaction header.place ≡ false) where
     pub none_fits : max_rows ≤ count → all_rows ≡ None
     none_fits full =
         let none : max_rows - count ≡ 0 = omega arith in
@@ -228,7 +228,7 @@ module _ (bytes : List ℕ) (first : (Header × Row) × List ℕ) (read : whole_
     one_begins = rw (read, eq-eqb (row_number first.0.0.place) 0 begins) refl
 
     -- the row is a transaction by itself
-    pub one_alone : ends first.0.0.place ≡ true
+    pub one_alone : ends_transaction first.0.0.place ≡ true
         → transaction_at bytes ≡ Some (record { replica = first.0.0.replica; first = first.0.0.lsn; rows = first.0.1 ∷ [] }, first.1)
     one_alone last =
         let short = (whole_row_is bytes first read).row_is.short in

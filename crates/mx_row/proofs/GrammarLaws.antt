@@ -21,7 +21,7 @@ use Rattle.mx_row.specs.declared.header.Place.{Place}
 use Rattle.mx_row.specs.declared.header.Place.TheVariants.{Alone, Numbered}
 use Rattle.mx_row.specs.Limits.{max_rows, max_transaction_size, rows_size}
 use Rattle.mx_row.specs.Values.{value_held, lsn_in, base_in, row_operations_in}
-use Rattle.mx_row.specs.Rows.{is_number, place_by, place_among, header_in, row_number, ends, comes_next, whole_row_at, rows_behind, IsRow, IsTransaction, row_text, placed_text, rows_text, transaction_at, transaction_text}
+use Rattle.mx_row.specs.Rows.{is_number, row_place_by, place_among, header_in, row_number, ends_transaction, comes_next, whole_row_at, rows_behind, IsRow, IsTransaction, row_text, placed_text, rows_text, transaction_at, transaction_text}
 use Rattle.mx_row.specs.Grammar.{KeyValue, IsUnder, HasNumber, HasPlace, HasBase, HasParts, is_none_left, SpellsRow, SpellsNumbered, SpellsAlone, SpellsTransaction}
 use Rattle.mx_row.proofs.EntryLaws.{AreRead, none_found, value_found, has_none, is_under, whole_number_is, whole_number_read, map_found, map_is_spelled}
 use Rattle.mx_row.proofs.ReadLaws.{held_some, lsn_parts, base_most, under_array, under_operations, header_parts, header_from, RowParts, Inserts, Replaces, Updates, Deletes, Upserts, row_parts, row_from, whole_row_parts, whole_row_from}
@@ -85,14 +85,14 @@ module _ (entries : List KeyValue) (pairs : List Pair) (read : AreRead entries p
   has_number : (key number : ℕ) → value_held unsigned_in (value_under key pairs) ≡ Some number → HasNumber key entries number
   has_number key number e = let h = held_some unsigned_in (value_under key pairs) number e in number_found key number h.0 h.1 h.2
 
-  place_held : (place : Place) → HasPlace entries place → place_by (value_under row_number_key pairs) (value_under is_last_key pairs) ≡ Some place
+  place_held : (place : Place) → HasPlace entries place → row_place_by (value_under row_number_key pairs) (value_under is_last_key pairs) ≡ Some place
   place_held Alone none = rw (none_found row_number_key entries pairs read none) refl
   place_held (Numbered number true) ((spelling, under, s), last) =
       rw (value_found row_number_key entries pairs spelling read under, whole_number_read number spelling s, last_said last) refl
   place_held (Numbered number false) ((spelling, under, s), other) = by_said says_last refl
     where
       by_said : (said : Bool) → says_last ≡ said
-          → place_by (value_under row_number_key pairs) (value_under is_last_key pairs) ≡ Some (Numbered number false)
+          → row_place_by (value_under row_number_key pairs) (value_under is_last_key pairs) ≡ Some (Numbered number false)
       by_said true e = absurd (other (has_number is_last_key 1 (is_number_is 1 (value_held unsigned_in (value_under is_last_key pairs)) e)))
       by_said false e = rw (value_found row_number_key entries pairs spelling read under, whole_number_read number spelling s, e) refl
 
@@ -122,14 +122,14 @@ module _ (entries : List KeyValue) (pairs : List Pair) (read : AreRead entries p
       by_value None v e = inl (has_none base_key entries pairs read v, sym (same_some 0 base e))
       by_value (Some spelling) v e = inr (number_found base_key base spelling v (number_of_to 1 spelling base e))
 
-  has_place : (place : Place) → place_by (value_under row_number_key pairs) (value_under is_last_key pairs) ≡ Some place → HasPlace entries place
+  has_place : (place : Place) → row_place_by (value_under row_number_key pairs) (value_under is_last_key pairs) ≡ Some place → HasPlace entries place
   has_place place e = by_value (value_under row_number_key pairs) refl e
     where
       numbered_so : (number : ℕ) → HasNumber row_number_key entries number → (said : Bool) → says_last ≡ said → HasPlace entries (Numbered number said)
       numbered_so number has true e = (has, has_number is_last_key 1 (is_number_is 1 (value_held unsigned_in (value_under is_last_key pairs)) e))
       numbered_so number has false e = (has, λ last. false≢true (sym e ∙ last_said last))
 
-      by_value : (value : Option (List ℕ)) → value_under row_number_key pairs ≡ value → place_by value (value_under is_last_key pairs) ≡ Some place
+      by_value : (value : Option (List ℕ)) → value_under row_number_key pairs ≡ value → row_place_by value (value_under is_last_key pairs) ≡ Some place
           → HasPlace entries place
       by_value None v e = subst (HasPlace entries) (same_some Alone place e) (has_none row_number_key entries pairs read v)
       by_value (Some spelling) v e =
@@ -300,10 +300,10 @@ SpellsBehind header rows bytes = SpellsNumbered header.replica.0 (suc header.lsn
 -- the rows stand first in the bytes, and the row before them says whether there is any
 abbrev StandBehind : Header → List ℕ → List Row × List ℕ → Type 0
 StandBehind header bytes found =
-    (ends header.place ≡ is_none_left found.0) × (front : List ℕ) × (bytes ≡ front ++ found.1) × SpellsBehind header found.0 front
+    (ends_transaction header.place ≡ is_none_left found.0) × (front : List ℕ) × (bytes ≡ front ++ found.1) × SpellsBehind header found.0 front
 
 module _ (header next : Header) (row : Row) (rows : List Row) (front behind : List ℕ) (follows : comes_next header next ≡ true) where
-  next_spelled : ends next.place ≡ is_none_left rows → SpellsRow next.replica.0 next.lsn.0 next.place row front
+  next_spelled : ends_transaction next.place ≡ is_none_left rows → SpellsRow next.replica.0 next.lsn.0 next.place row front
       → SpellsRow header.replica.0 (suc header.lsn.0) (Numbered (suc (row_number header.place)) (is_none_left rows)) row front
   next_spelled last first =
       let f = next_is header next follows in
@@ -319,15 +319,15 @@ module _ (header next : Header) (row : Row) (rows : List Row) (front behind : Li
 
 behind_spelled : (most : ℕ) (header : Header) (bytes : List ℕ) (found : List Row × List ℕ) → rows_behind most header bytes ≡ Some found
     → StandBehind header bytes found
-behind_spelled zero header bytes found e = by_place (ends header.place) refl
+behind_spelled zero header bytes found e = by_place (ends_transaction header.place) refl
   where
-    by_place : (last : Bool) → ends header.place ≡ last → StandBehind header bytes found
+    by_place : (last : Bool) → ends_transaction header.place ≡ last → StandBehind header bytes found
     by_place true last = subst (StandBehind header bytes) (last_row zero header bytes found last e) (last, [], refl, refl)
     by_place false more = let none = behind_full header bytes more in absurd cc
-behind_spelled (suc most) header bytes found e = by_place (behind_spelled most) (ends header.place) refl
+behind_spelled (suc most) header bytes found e = by_place (behind_spelled most) (ends_transaction header.place) refl
   where
     by_place : ((next : Header) (rest : List ℕ) (others : List Row × List ℕ) → rows_behind most next rest ≡ Some others → StandBehind next rest others)
-        → (last : Bool) → ends header.place ≡ last → StandBehind header bytes found
+        → (last : Bool) → ends_transaction header.place ≡ last → StandBehind header bytes found
     by_place again true last = subst (StandBehind header bytes) (last_row (suc most) header bytes found last e) (last, [], refl, refl)
     by_place again false more =
         let n = next_row most header bytes found more e in
@@ -348,7 +348,7 @@ behind_spelled (suc most) header bytes found e = by_place (behind_spelled most) 
           ),
         )
 
-behind_read : (most : ℕ) (header : Header) (rows : List Row) (bytes more : List ℕ) → SpellsBehind header rows bytes → ends header.place ≡ is_none_left rows
+behind_read : (most : ℕ) (header : Header) (rows : List Row) (bytes more : List ℕ) → SpellsBehind header rows bytes → ends_transaction header.place ≡ is_none_left rows
     → length rows ≤ most → AllByRecursion IsRow rows → header.replica.0 < 32 → header.lsn.0 + length rows ≤ max_lsn
     → rows_behind most header (bytes ++ more) ≡ Some (rows, more)
 behind_read most header [] bytes more none last few each low fits =
@@ -371,7 +371,7 @@ behind_read (suc most) header (row ∷ rows) bytes more (front, rest, both, firs
 
 -- the first row and those behind it are a transaction
 first_and_others : (transaction : Tx) (place : Place) (row : Row) (rows : List Row) (front rest more : List ℕ) → IsTransaction transaction
-    → transaction.rows ≡ row ∷ rows → row_number place ≡ 0 → ends place ≡ is_none_left rows
+    → transaction.rows ≡ row ∷ rows → row_number place ≡ 0 → ends_transaction place ≡ is_none_left rows
     → SpellsRow transaction.replica.0 transaction.first.0 place row front → SpellsNumbered transaction.replica.0 (suc transaction.first.0) 1 rows rest
     → transaction_at (front ++ (rest ++ more)) ≡ Some (transaction, more)
 first_and_others transaction place row rows front rest more is are begins last first others =
@@ -427,7 +427,7 @@ read_spelled bytes rest transaction e =
     (subst (λ (number : ℕ). SpellsNumbered header.replica.0 (suc header.lsn.0) (suc number) p.others.0 others.1) p.begins others.3) in
     (s.0 ++ others.1, whole, record { sound = transaction_is bytes (transaction, rest) e; rows = subst (λ (t : Tx). SpelledRows t (s.0 ++ others.1)) tx-is each })
   where
-    by_first : (replica lsn : ℕ) (place : Place) (row : Row) (rows : List Row) (front text : List ℕ) → row_number place ≡ 0 → ends place ≡ is_none_left rows
+    by_first : (replica lsn : ℕ) (place : Place) (row : Row) (rows : List Row) (front text : List ℕ) → row_number place ≡ 0 → ends_transaction place ≡ is_none_left rows
         → SpellsRow replica lsn place row front → SpellsNumbered replica (suc lsn) 1 rows text
         → SpellsAlone replica lsn (row ∷ rows) (front ++ text) ⊎ SpellsNumbered replica lsn 0 (row ∷ rows) (front ++ text)
     by_first replica lsn Alone row [] front text begins last first none =

@@ -20,7 +20,7 @@ use Rattle.mx_request.proofs.InnerLaws.{array_inner}
 use Rattle.mx_row.specs.declared.header.Header.{Header}
 use Rattle.mx_row.specs.declared.row.Row.{Row}
 use Rattle.mx_row.specs.Values.{value_held, lsn_in, base_in, row_operations_in}
-use Rattle.mx_row.specs.Rows.{insert_type, replace_type, update_type, delete_type, upsert_type, max_body_size, tuple_row, update_row, delete_row, upsert_row, row_body_text, IsRow, place_by, header_by, header_in, header_at, short_enough, tuple_by, update_by, delete_by, upsert_by, row_in, row_at, whole_row_at}
+use Rattle.mx_row.specs.Rows.{insert_type, replace_type, update_type, delete_type, upsert_type, max_body_size, tuple_row, update_row, delete_row, upsert_row, row_body_text, IsRow, row_place_by, header_by, header_in, header_at, short_enough, tuple_by, update_by, delete_by, upsert_by, row_in, row_at, whole_row_at}
 
 -- ---- values
 
@@ -96,7 +96,7 @@ pub record HeaderParts (type replica lsn row_number is_last : Option (List ℕ))
   pub kind : value_held unsigned_in type ≡ Some header.kind
   pub replica_is : value_held (number_to 31) replica ≡ Some header.replica.0
   pub lsn_is : value_held lsn_in lsn ≡ Some header.lsn.0
-  pub place_is : place_by row_number is_last ≡ Some header.place
+  pub place_is : row_place_by row_number is_last ≡ Some header.place
 
 pub header_parts : (type replica lsn row_number is_last : Option (List ℕ)) (header : Header) → header_by type replica lsn row_number is_last ≡ Some header
     → HeaderParts type replica lsn row_number is_last header
@@ -105,7 +105,7 @@ header_parts type replica lsn row_number is_last header e =
     let kind = bind_some (value_held unsigned_in type) _ header e in
     let id = bind_some (value_held (number_to 31) replica) _ header kind.2 in
     let number = bind_some (value_held lsn_in lsn) _ header id.2 in
-    let place = bind_some (place_by row_number is_last) _ header number.2 in
+    let place = bind_some (row_place_by row_number is_last) _ header number.2 in
     let same : record { kind = kind.0; replica = record { 0 = id.0 }; lsn = record { 0 = number.0 }; place = place.0 } ≡ header = same_some _ header place.2 in
     record {
       kind = kind.1 ∙ ap (λ (h : Header). Some h.kind) same;

@@ -26,7 +26,7 @@ use Rattle.mx_row.specs.declared.header.Place.{Place}
 use Rattle.mx_row.specs.declared.header.Place.TheVariants.{Alone, Numbered}
 use Rattle.mx_row.specs.Limits.{row_size}
 use Rattle.mx_row.specs.Values.{value_held, lsn_in, base_in, row_operations_in}
-use Rattle.mx_row.specs.Rows.{insert_type, replace_type, update_type, delete_type, upsert_type, max_body_size, insert_row, replace_row, update_row, delete_row, upsert_row, tuple_pairs, update_pairs, delete_pairs, upsert_pairs, row_body_text, row_header_pairs, row_text, IsUpdate, IsUpsert, IsRow, header_in, header_at, place_by, place_pairs, row_number, row_at, whole_row_at}
+use Rattle.mx_row.specs.Rows.{insert_type, replace_type, update_type, delete_type, upsert_type, max_body_size, insert_row, replace_row, update_row, delete_row, upsert_row, tuple_pairs, update_pairs, delete_pairs, upsert_pairs, row_body_text, row_header_pairs, row_text, IsUpdate, IsUpsert, IsRow, header_in, header_at, row_place_by, place_pairs, row_number, row_at, whole_row_at}
 use Rattle.mx_row.proofs.SizeLaws.{short_text, unless_few}
 use Rattle.mx_row.proofs.PairLaws.{map_again, pairs_again_in}
 use Rattle.mx_row.proofs.ReadLaws.{header_from, RowParts, Inserts, Replaces, Updates, Deletes, Upserts, row_from}
@@ -46,7 +46,7 @@ lsn_again lsn some most = rw (number_read_again max_lsn lsn most (omega arith), 
 abbrev last_value : Bool → Option (List ℕ)
 last_value is_last = if is_last then Some (1 ∷ []) else None
 
-place_again : (number : ℕ) (is_last : Bool) → number < 2 ^ 64 → place_by (Some (shortest_unsigned number)) (last_value is_last) ≡ Some (Numbered number is_last)
+place_again : (number : ℕ) (is_last : Bool) → number < 2 ^ 64 → row_place_by (Some (shortest_unsigned number)) (last_value is_last) ≡ Some (Numbered number is_last)
 place_again number true fits = rw (unsigned_read_again number fits, small_read 1 (omega arith)) refl
 place_again number false fits = rw (unsigned_read_again number fits) refl
 

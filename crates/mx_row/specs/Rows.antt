@@ -103,9 +103,9 @@ is_number wanted None = false
 is_number wanted (Some number) = number == wanted
 
 -- the place of a row, by the values under its header's keys; it is the last one where the number 1 says so
-abbrev pub place_by : (row_number is_last : Option (List ℕ)) → Option Place
-place_by None is_last = Some Alone
-place_by (Some value) is_last = do
+abbrev pub row_place_by : (row_number is_last : Option (List ℕ)) → Option Place
+row_place_by None is_last = Some Alone
+row_place_by (Some value) is_last = do
   number ← unsigned_in value
   Some (Numbered number (is_number 1 (value_held unsigned_in is_last)))
 
@@ -115,7 +115,7 @@ header_by type replica lsn row_number is_last = do
   kind ← value_held unsigned_in type
   id ← value_held (number_to 31) replica
   lsn ← value_held lsn_in lsn
-  place ← place_by row_number is_last
+  place ← row_place_by row_number is_last
   Some (record { kind = kind; replica = record { 0 = id }; lsn = record { 0 = lsn }; place = place })
 
 abbrev pub header_in : List Pair → Option Header
@@ -195,9 +195,9 @@ row_number Alone = 0
 row_number (Numbered number is_last) = number
 
 -- the row ends its transaction
-abbrev pub ends : Place → Bool
-ends Alone = true
-ends (Numbered number is_last) = is_last
+abbrev pub ends_transaction : Place → Bool
+ends_transaction Alone = true
+ends_transaction (Numbered number is_last) = is_last
 
 -- the second header is that of the row after the first one's
 abbrev pub comes_next : Header → Header → Bool
@@ -206,8 +206,8 @@ comes_next header next =
 
 -- the rows after that with this header up to the last of its transaction, at most so many, and the bytes after them
 unfoldable pub rows_behind : (most : ℕ) → Header → Reader (List Row)
-rows_behind zero header bytes = if ends header.place then Some ([], bytes) else None
-rows_behind (suc most) header bytes = if ends header.place then Some ([], bytes) else (do
+rows_behind zero header bytes = if ends_transaction header.place then Some ([], bytes) else None
+rows_behind (suc most) header bytes = if ends_transaction header.place then Some ([], bytes) else (do
   next ← whole_row_at bytes
   if comes_next header next.0.0 then option_map (in_front next.0.1) (rows_behind most next.0.0 next.1) else None)
 

@@ -4,7 +4,7 @@ ghost use Rattle.std.specs.Prelude.{◌≡◌, ◌==◌, suc, ◌-◌, IfOk, IfS
 ghost use Rattle.std.specs.List.{AllByRecursion};
 ghost use Rattle.std.specs.Option.{option_copied, option_map};
 ghost use Rattle.mx_msgpack.specs.Readers.{in_front};
-ghost use Rattle.mx_row.specs.Rows.{IsRow, IsTransaction, comes_next, ends, header_at, header_by, place_by, row_number, rows_behind, transaction_at, tx_behind, whole_row_at};
+ghost use Rattle.mx_row.specs.Rows.{IsRow, IsTransaction, comes_next, ends_transaction, header_at, header_by, row_place_by, row_number, rows_behind, transaction_at, tx_behind, whole_row_at};
 ghost use Rattle.mx_row.specs.Limits.{max_rows};
 ghost use Rattle.mx_row.specs.Views.{row_value, row_values, tx_view};
 
@@ -41,7 +41,7 @@ pub fn read_tx_in_place(
     if row_number(header.place) != 0 {
         return Ok(None);
     }
-    if ends(header.place) {
+    if ends_transaction(header.place) {
         let tx = TxRef {
             replica: header.replica,
             first: header.lsn,
@@ -90,7 +90,7 @@ fn read_behind<'a>(
     rows.push(first)?;
     let mut last = header;
     let mut rest = bytes;
-    while !ends(last.place) {
+    while !ends_transaction(last.place) {
         if rows.len() >= MAX_ROWS {
             return Ok(None);
         }
@@ -129,8 +129,8 @@ fn row_number(place: Place) -> u64
 }
 
 /// Whether the row ends its transaction.
-fn ends(place: Place) -> bool
-    ensures { result ≡ ends place }
+fn ends_transaction(place: Place) -> bool
+    ensures { result ≡ ends_transaction place }
 {
     match place {
         Place::Alone => true,
@@ -202,7 +202,7 @@ fn header_of<'a>(
 /// The place of a row by its number, and by what says that it is the last one.
 #[inline]
 fn place_of(row_number: Option<&[u8]>, is_last: Option<&[u8]>) -> Option<Place>
-    ensures { result ≡ place_by (option_copied row_number.entry) (option_copied is_last.entry) }
+    ensures { result ≡ row_place_by (option_copied row_number.entry) (option_copied is_last.entry) }
 {
     let Some(number) = row_number else {
         return Some(Place::Alone);

@@ -1,6 +1,8 @@
 //! Transactions of a journal.
 
 ghost use Rattle.std.specs.Prelude.{◌≡◌, [], ◌∷◌, IfOk};
+ghost use Rattle.mx_row.specs.Clocks.{last_lsn};
+ghost use Rattle.mx_row.specs.Rows.{IsTransaction};
 ghost use Rattle.mx_row.specs.Views.{row_value};
 
 use crate::row_ref::RowRef;
@@ -35,5 +37,12 @@ impl Tx {
             first: lsn,
             rows: Rows::from_refs(alloc, slice::from_ref(row))?,
         })
+    }
+    /// The lsn of the last row.
+    pub fn last_lsn(&self) -> Lsn
+        requires { IsTransaction self.now }
+        ensures { result.0 ≡ last_lsn self.now }
+    {
+        Lsn(self.first.0 + (self.rows.as_slice().len() as u64 - 1))
     }
 }

@@ -1,6 +1,8 @@
 //! A transaction in place.
 
 ghost use Rattle.std.specs.Prelude.{◌≡◌, IfOk};
+ghost use Rattle.mx_row.specs.Clocks.{last_lsn};
+ghost use Rattle.mx_row.specs.Rows.{IsTransaction};
 ghost use Rattle.mx_row.specs.Views.{tx_view};
 
 use crate::row_refs::RowRefs;
@@ -15,6 +17,16 @@ pub struct TxRef<'a> {
     pub replica: ReplicaId,
     pub first: Lsn,
     pub rows: RowRefs<'a>,
+}
+
+impl TxRef<'_> {
+    /// The lsn of the last row.
+    pub fn last_lsn(&self) -> Lsn
+        requires { IsTransaction (tx_view self.now) }
+        ensures { result.0 ≡ last_lsn (tx_view self.now) }
+    {
+        Lsn(self.first.0 + (self.rows.as_slice().len() as u64 - 1))
+    }
 }
 
 /// The transaction with rows of its own.

@@ -12,20 +12,20 @@ returns-then-len-ge-MAX_ROWS c =
     let rows = c.loop-last.rows.items in
     let full : max_rows ≤ vec_len c.loop-last.rows = rw c.len.ensures at c.if-len-ge-MAX_ROWS.true in
     sym (c.loop-last.invariant.behind
-    ∙ none_fits (row_values rows) (vec_len c.loop-last.rows) c.loop-last.last c.loop-last.rest.now (sym c.ends.ensures ∙ c.loop-last-test.true) full)
+    ∙ none_fits (row_values rows) (vec_len c.loop-last.rows) c.loop-last.last c.loop-last.rest.now (sym c.ends_transaction.ensures ∙ c.loop-last-test.true) full)
 
 pub returns-in_default : goal.returns-in_default
 returns-in_default c =
     let rows = c.loop-last.rows.items in
     sym (c.loop-last.invariant.behind
-    ∙ none_stands (row_values rows) (vec_len c.loop-last.rows) c.loop-last.last c.loop-last.rest.now (sym c.ends.ensures ∙ c.loop-last-test.true)
+    ∙ none_stands (row_values rows) (vec_len c.loop-last.rows) c.loop-last.last c.loop-last.rest.now (sym c.ends_transaction.ensures ∙ c.loop-last-test.true)
     (sym c.in_default.ensures))
 
 pub returns-then-not-comes_next : goal.returns-then-not-comes_next
 returns-then-not-comes_next c =
     let rows = c.loop-last.rows.items in
     sym (c.loop-last.invariant.behind
-    ∙ none_follows (row_values rows) (vec_len c.loop-last.rows) c.loop-last.last c.loop-last.rest.now (sym c.ends.ensures ∙ c.loop-last-test.true)
+    ∙ none_follows (row_values rows) (vec_len c.loop-last.rows) c.loop-last.last c.loop-last.rest.now (sym c.ends_transaction.ensures ∙ c.loop-last-test.true)
     ((c.in-Some.next, row_value c.in-Some.row), c.in-Some.others.now) (sym c.in-Some.ensures) (sym c.comes_next.ensures ∙ c.if-not-comes_next.true))
 
 pub loop-last-smaller : goal.loop-last-smaller
@@ -40,7 +40,7 @@ loop-last-preserved c =
     let pushed : c.push-in-loop-last.new.self.items ≡ rows ++ row ∷ [] = c.in_ok-push-2.ensures.items in
     let count : vec_len c.push-in-loop-last.new.self ≡ suc (vec_len c.loop-last.rows) = c.in_ok-push-2.ensures.len ∙ omega arith in
     let values : row_values c.push-in-loop-last.new.self.items ≡ row_values rows ++ row_value row ∷ [] = ap row_values pushed ∙ map_push row_value rows row in
-    let step = one_follows (row_values rows) (vec_len c.loop-last.rows) c.loop-last.last c.loop-last.rest.now (sym c.ends.ensures ∙ c.loop-last-test.true) next
+    let step = one_follows (row_values rows) (vec_len c.loop-last.rows) c.loop-last.last c.loop-last.rest.now (sym c.ends_transaction.ensures ∙ c.loop-last-test.true) next
     (sym c.in-Some.ensures) room (sym c.comes_next.ensures ∙ c.if-not-comes_next.false) in
     record {
       behind = c.loop-last.invariant.behind ∙ step ∙ sym (λ i. all_rows (values i) (count i) c.in-Some.next c.in-Some.others.now);
@@ -51,4 +51,4 @@ pub returns : goal.returns
 returns c =
     let rows = c.loop-last.rows.items in
     sym (c.loop-last.invariant.behind
-    ∙ all_read (row_values rows) (vec_len c.loop-last.rows) c.loop-last.last c.loop-last.rest.now (sym c.ends.ensures ∙ c.loop-last-test.false))
+    ∙ all_read (row_values rows) (vec_len c.loop-last.rows) c.loop-last.last c.loop-last.rest.now (sym c.ends_transaction.ensures ∙ c.loop-last-test.false))

@@ -14,20 +14,20 @@ returns-then-row_number-ne0-clause-tx c =
     let first : (Header × Row) × List ℕ = ((c.in-Some.header, row_value c.in-Some.row), c.in-Some.rest.now) in
     sym (none_begins c.args.bytes.now first (sym c.in-Some.ensures) (λ e. c.if-row_number-ne0.true (c.row_number.ensures ∙ e)))
 
-pub returns-then-ends-clause-tx : goal.returns-then-ends-clause-tx
-returns-then-ends-clause-tx c =
+pub returns-then-ends_transaction-clause-tx : goal.returns-then-ends_transaction-clause-tx
+returns-then-ends_transaction-clause-tx c =
     let first : (Header × Row) × List ℕ = ((c.in-Some.header, row_value c.in-Some.row), c.in-Some.rest.now) in
     rw c.one.ensures (sym (one_alone c.args.bytes.now first (sym c.in-Some.ensures) (sym c.row_number.ensures ∙ c.if-row_number-ne0.false)
-    (sym c.ends.ensures ∙ c.if-ends.true)))
+    (sym c.ends_transaction.ensures ∙ c.if-ends_transaction.true)))
 
-pub returns-then-ends-clause-sound : goal.returns-then-ends-clause-sound
-returns-then-ends-clause-sound c =
+pub returns-then-ends_transaction-clause-sound : goal.returns-then-ends_transaction-clause-sound
+returns-then-ends_transaction-clause-sound c =
     let first : (Header × Row) × List ℕ = ((c.in-Some.header, row_value c.in-Some.row), c.in-Some.rest.now) in
     rw c.one.ensures (transaction_is c.args.bytes.now _ (one_alone c.args.bytes.now first (sym c.in-Some.ensures)
-    (sym c.row_number.ensures ∙ c.if-row_number-ne0.false) (sym c.ends.ensures ∙ c.if-ends.true)))
+    (sym c.row_number.ensures ∙ c.if-row_number-ne0.false) (sym c.ends_transaction.ensures ∙ c.if-ends_transaction.true)))
 
-pub returns-then-ends-clause-rows : goal.returns-then-ends-clause-rows
-returns-then-ends-clause-rows c =
+pub returns-then-ends_transaction-clause-rows : goal.returns-then-ends_transaction-clause-rows
+returns-then-ends_transaction-clause-rows c =
     let first : (Header × Row) × List ℕ = ((c.in-Some.header, row_value c.in-Some.row), c.in-Some.rest.now) in
     rw c.one.ensures ((whole_row_is c.args.bytes.now first (sym c.in-Some.ensures)).row_is, tt)
 
