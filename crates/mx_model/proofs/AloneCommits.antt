@@ -15,7 +15,8 @@ use Rattle.mx_model.specs.Answers.{answer_in_space, state_after_row, state_after
 use Rattle.mx_model.specs.Frame.{IsDataStatement, OperationHasBytes}
 use Rattle.mx_model.specs.Histories.{writable_node}
 use Rattle.mx_model.specs.Overlaps.{Transaction, statements_in}
-use Rattle.mx_model.specs.RunAlone.{answer_in_run, has_room, run_alone, statement_answer, within_limits, writes}
+use Rattle.mx_row.specs.Limits.{has_room}
+use Rattle.mx_model.specs.RunAlone.{answer_in_run, run_alone, statement_answer, within_limits, writes}
 use Rattle.mx_model.specs.Streams.{Streams, commit_with}
 use Rattle.mx_model.specs.Transactions.{state_after}
 use Rattle.mx_model.specs.statements.Answer.{Answer, refusal_after, refusal_alone}

@@ -5,7 +5,7 @@ use Rattle.mx_msgpack.proofs.ReaderLaws.{all_from_none, all_from_some}
 use Rattle.mx_row.specs.declared.tx.Tx.{Tx}
 use Rattle.mx_row.specs.Rows.{transaction_at, only_whole, transactions_in}
 use Rattle.mx_model.specs.Directories.{Reached, after_transaction, then_all, after_transactions, after_read, after_block}
-use Rattle.mx_row.proofs.RowLaws.{transaction_at-Advances}
+use Rattle.mx_row.proofs.BehindLaws.{transaction_at-Advances}
 
 -- no bytes remain
 pub after_block-nil : (reached : Reached) → after_block [] reached ≡ Some reached

@@ -1,7 +1,8 @@
 -- What a legal history commits can be written and read again.
 use Rattle.std.proofs.Common.{◌≡◌, ℕ, suc, ◌+◌, ◌-◌, ◌^◌, ◌<◌, ◌≤◌, Bool, true, false, not, List, [], ◌∷◌, ◌++◌, refl, sym, ap, ◌∙◌, subst, arith}
-use Rattle.std.specs.Prelude.{◌==◌, ◌&&◌, Option, Some, None, Result, Ok, Err, is_none, nat_lt, nat_le, slice_index, if◌then◌else◌}
-use Rattle.std.proofs.lemmas.Bool.{eq-eqb}
+use Rattle.std.specs.Prelude.{⊤, ◌==◌, ◌&&◌, ◌||◌, length, Option, Some, None, Result, Ok, Err, is_none, nat_lt, nat_le, slice_index, if◌then◌else◌}
+use Rattle.std.specs.List.{AllByRecursion}
+use Rattle.std.proofs.lemmas.Bool.{and_from, eq-eqb, le-leb}
 use Rattle.std.proofs.lemmas.Bool.Decides.{nat_tests}
 use Rattle.mx_vclock.specs.Vclocks.{max_lsn}
 use Rattle.mx_base.specs.declared.refusal.Refusal.TheVariants.{ReadOnly, LsnsUsedUp}
@@ -26,10 +27,11 @@ use Rattle.mx_schema.specs.State.{State}
 use Rattle.mx_model.specs.Answers.{answer_to, state_after_row, state_after_rows}
 use Rattle.mx_model.specs.statements.Select.{iterator_of}
 use Rattle.mx_model.specs.statements.Answer.{Answer, refusal_alone, refusal_after}
-use Rattle.mx_model.specs.Transactions.{state_after}
-use Rattle.mx_row.specs.Clocks.{clock_after, clock_after_one}
+use Rattle.mx_model.specs.Transactions.{is_schema_commit, state_after}
+use Rattle.mx_row.specs.Clocks.{clock_after, clock_after_one, last_lsn}
+use Rattle.mx_row.specs.Limits.{max_rows, max_transaction_size, rows_size}
 use Rattle.mx_row.specs.Rows.{IsRow}
-use Rattle.mx_model.specs.Directories.{AllFollow}
+use Rattle.mx_model.specs.Directories.{AllFollow, takes_row, takes_rows}
 use Rattle.mx_model.specs.Histories.{Base, History, Asked, Left, Took, Confirmed, Looked, Ledger, CanBeAsked, IsLegal, IsReply, is_out_of_memory, writable_node, with_lsn, commit_of, commits_of, is_write, ledger_of, journal_of, state_of, ledger_state, ledger_clock, next_lsn}
 use Rattle.mx_model.proofs.HistoryLaws.{base_of_ledger, committed-no_row, select_no_row, node_no_row, state_after-append}
 
@@ -38,7 +40,7 @@ pub all_follow-append : (now : State) (clock : List ℕ) (xs ys : List Tx) → A
     → AllFollow (state_after now xs) (clock_after clock xs) ys → AllFollow now clock (xs ++ ys)
 all_follow-append now clock [] ys first others = others
 all_follow-append now clock (x ∷ xs) ys first others =
-    (first.0, first.1, first.2, first.3, all_follow-append (state_after_rows now x.rows) (clock_after_one clock x) xs ys first.4 others)
+    (first.0, first.1, first.2, first.3, first.4, all_follow-append (state_after_rows now x.rows) (clock_after_one clock x) xs ys first.5 others)
 
 not_above : (most lsn : ℕ) → nat_lt most lsn ≡ false → nat_le ((lsn + 1) - 1) most ≡ true
 not_above most lsn test = grind (arith, nat_tests)
@@ -60,10 +62,10 @@ Goes now clock transactions = AllFollow now clock transactions × IsSound (state
 -- ---- the row that a request leaves
 
 -- it can be written, the state takes it, and stays sound
-record LeavesRow (before : State) (row : Row) : Type 0 where
-  can : IsRow row
-  takes : row_refusal before row ≡ None
-  sound : IsSound (state_after_row before row)
+pub record LeavesRow (before : State) (row : Row) : Type 0 where
+  pub can : IsRow row
+  pub takes : row_refusal before row ≡ None
+  pub sound : IsSound (state_after_row before row)
 
 write_leaves : (before : State) (space : ℕ) (write : Write) (row : Row) → IsSound before → IsWellFormed write → HasBytes write → space < 2 ^ 32
     → (write_answer_in before space write).row ≡ Some row → LeavesRow before row
@@ -116,9 +118,17 @@ module _ (now : State) (clock : List ℕ) (replica : ℕ) (sound : IsSound now) 
     one_commit true node within = (tt, sound)
     one_commit false node within = (
       (
-        record { replica = omega arith; first = (omega arith, below max_lsn lsn within); row = (row, refl, leaves.can) },
+        (let few = below max_lsn lsn within in let short = leaves.can.short in record {
+          replica = omega arith;
+          lsns = (omega arith, omega arith);
+          some = omega arith;
+          rows = (leaves.can, tt);
+          few = omega arith;
+          short = omega arith;
+        }),
         ap (λ me. not (me == 0)) node,
         (ap (λ b. b && nat_le ((lsn + 1) - 1) max_lsn) (eq-eqb lsn lsn refl) ∙ not_above max_lsn lsn within),
+        refl,
         (ap (λ refusal. is_none refusal && true) leaves.takes),
         tt,
       ),
@@ -203,3 +213,46 @@ commits_follow base history legal = (history_goes base history legal).0
 pub stays_sound_after : (base : Base) (history : History) → IsLegal base history → IsSound (state_of base history)
 stays_sound_after base history legal =
     subst (λ (b : Base). IsSound (state_after b.state (journal_of base history))) (sym (base_of_ledger base history)) (history_goes base history legal).1
+
+-- ---- a commit of several rows
+
+-- rows that statements left one after the other
+abbrev pub LeaveRows : State → List Row → Type 0
+LeaveRows before [] = ⊤
+LeaveRows before (row ∷ rows) = LeavesRow before row × LeaveRows (state_after_row before row) rows
+
+rows_go : (before : State) (rows : List Row) → IsSound before → LeaveRows before rows
+    → AllByRecursion IsRow rows × (takes_rows before rows ≡ true) × IsSound (state_after_rows before rows)
+rows_go before [] sound leave = (tt, refl, sound)
+rows_go before (row ∷ rows) sound (first, others) =
+    let rest = rows_go (state_after_row before row) rows first.sound others in
+    ((first.can, rest.0), and_from (takes_row before row) (takes_rows (state_after_row before row) rows) (ap is_none first.takes) rest.1, rest.2)
+
+-- it follows, and leaves a sound state, where none of its rows is the schema's
+pub several_go : (before : State) (clock : List ℕ) (commit : Tx) → IsSound before → LeaveRows before commit.rows → commit.replica.0 ≡ writable_node
+    → commit.first.0 ≡ suc (slice_index clock commit.replica.0) → last_lsn commit ≤ max_lsn → 1 ≤ length commit.rows → length commit.rows ≤ max_rows
+    → rows_size commit.rows ≤ max_transaction_size → is_schema_commit commit ≡ false
+    → AllFollow before clock (commit ∷ []) × IsSound (state_after_rows before commit.rows)
+several_go before clock commit sound leave node next most some few short none =
+    let go = rows_go before commit.rows sound leave in (
+      (
+        record {
+          replica = omega (arith, node);
+          lsns = (omega (arith, next), most);
+          some = some;
+          rows = go.0;
+          few = few;
+          short = short;
+        },
+        ap (λ me. not (me == 0)) node,
+        and_from (commit.first.0 == suc (slice_index clock commit.replica.0)) (nat_le (last_lsn commit) max_lsn) (eq-eqb _ _ next) (le-leb _ _ most),
+        ap (λ b. (length commit.rows == 1) || not b) none ∙ or_true (length commit.rows == 1),
+        go.1,
+        tt,
+      ),
+      go.2,
+    )
+  where
+    or_true : (b : Bool) → (b || true) ≡ true
+    or_true true = refl
+    or_true false = refl

@@ -16,7 +16,8 @@ use Rattle.mx_key.specs.declared.iterator.IterKind.{IterKind}
 use Rattle.mx_model.specs.Answers.{answer_in_space}
 use Rattle.mx_model.specs.Histories.{is_out_of_memory, writable_node}
 use Rattle.mx_model.specs.Overlaps.{Active, Doomed, Standing, Transaction, View, standing, statements_in}
-use Rattle.mx_model.specs.RunAlone.{Run, answer_in_run, has_room, run_alone, statement_answer, within_limits, writes, answer_alone}
+use Rattle.mx_row.specs.Limits.{has_room}
+use Rattle.mx_model.specs.RunAlone.{Run, answer_in_run, run_alone, statement_answer, within_limits, writes, answer_alone}
 use Rattle.mx_model.specs.Streams.{Ends, Outcome, Streams, commits, commits_rows, commits_standing, ends_told, outcome_of, state_read, states, states_standing, tells_statement, told_alone, transaction_named, Goes, step_of}
 use Rattle.mx_model.specs.declared.ids.Ids.{Ids}
 use Rattle.mx_model.specs.declared.reply.Reply.{Reply}

@@ -1,6 +1,6 @@
 -- What a file, a block and a transaction make of what was reached: the sum of the lsns never falls, and where it
 -- stays nothing changed.
-use Rattle.std.proofs.Common.{◌≡◌, ℕ, zero, suc, ◌+◌, ◌-◌, ◌<◌, ◌≤◌, Bool, true, false, ◌&&◌, List, [], ◌∷◌, length, sum, refl, sym, ap, ◌∙◌, subst, arith}
+use Rattle.std.proofs.Common.{◌≡◌, ℕ, zero, suc, ◌+◌, ◌<◌, ◌≤◌, Bool, true, false, ◌&&◌, List, [], ◌∷◌, length, sum, refl, ◌∙◌, subst, arith}
 use Rattle.std.specs.Prelude.{slice_index, Option, Some, None, Result, Ok, if◌then◌else◌}
 use Rattle.std.specs.List.{AllByRecursion}
 use Rattle.std.proofs.lemmas.Bool.{eqb-true, leb-true}
@@ -11,28 +11,19 @@ use Rattle.mx_vclock.specs.Vclocks.{IsVclock, max_lsn}
 use Rattle.mx_msgpack.specs.Readers.{first_and_others, some_from, all_from}
 use Rattle.mx_msgpack.proofs.Options.{same_some}
 use Rattle.mx_row.specs.declared.tx.Tx.{Tx}
-use Rattle.mx_row.specs.declared.row.Row.{Row}
 use Rattle.mx_model.specs.declared.damage.Damage.{Damage}
 use Rattle.mx_row.specs.Clocks.{last_lsn, clock_after_one}
 use Rattle.mx_row.specs.Rows.{transaction_at, transactions_in, only_whole}
 use Rattle.mx_model.specs.Directories.{Reached, after_transaction, then_all, after_transactions, after_read, after_block, block_reached, after_blocks}
-use Rattle.mx_row.proofs.ReadLaws.{transaction_parts}
-use Rattle.mx_row.proofs.RowLaws.{transaction_at-replica}
+use Rattle.mx_row.proofs.BehindLaws.{transaction_is}
 
--- a transaction as a journal gives it: one row, of one of the replicas
+-- a transaction as a journal gives it: some rows, of one of the replicas
 pub record IsRead (transaction : Tx) : Type 0 where
   pub replica : transaction.replica.0 < 32
-  pub row : Row
-  pub rows : transaction.rows ≡ row ∷ []
+  pub some : 1 ≤ length transaction.rows
 
 transaction_at-reads : (bytes : List ℕ) (found : Tx × List ℕ) → transaction_at bytes ≡ Some found → IsRead found.0
-transaction_at-reads bytes found is =
-    let parts = transaction_parts bytes found is in
-    record {
-      replica = transaction_at-replica bytes found is;
-      row = parts.row;
-      rows = sym (ap (λ (f : Tx × List ℕ). f.0.rows) parts.same);
-    }
+transaction_at-reads bytes found is = let sound = transaction_is bytes found is in record { replica = sound.replica; some = sound.some }
 
 abbrev pub AllRead : List Tx → Type 0
 AllRead = AllByRecursion IsRead
@@ -75,23 +66,24 @@ transactions_in-read bytes transactions is = all_whole (all_from transaction_at 
 
 -- A transaction.
 
-follows_is : (s a b c : Bool) (next reached : Reached) → (if (s && (a && b)) && c then Some next else None) ≡ Some reached
+follows_is : (s a b l c : Bool) (next reached : Reached) → (if ((s && (a && b)) && l) && c then Some next else None) ≡ Some reached
     → (a ≡ true) × (b ≡ true) × (next ≡ reached)
-follows_is true true true true next reached is = (refl, refl, same_some next reached is)
-follows_is true true true false next reached is = absurd cc
-follows_is true true false c next reached is = absurd cc
-follows_is true false b c next reached is = absurd cc
-follows_is false a b c next reached is = absurd cc
+follows_is true true true true true next reached is = (refl, refl, same_some next reached is)
+follows_is true true true true false next reached is = absurd cc
+follows_is true true true false c next reached is = absurd cc
+follows_is true true false l c next reached is = absurd cc
+follows_is true false b l c next reached is = absurd cc
+follows_is false a b l c next reached is = absurd cc
 
 pub after_transaction-grows : (transaction : Tx) (before after : Reached) → IsRead transaction → IsVclock before.clock
     → after_transaction transaction before ≡ Some after → Grows before after
 after_transaction-grows transaction before after read sound is =
-    let f = follows_is _ _ _ _ _ _ is in
+    let f = follows_is _ _ _ _ _ _ _ is in
     let first : transaction.first.0 ≡ suc (slice_index before.clock transaction.replica.0) = eqb-true _ _ f.0 in
     let most : last_lsn transaction ≤ max_lsn = leb-true _ _ f.1 in
     let whole = sound.whole in
     let low = read.replica in
-    let last : last_lsn transaction ≡ transaction.first.0 = ap (λ (rows : List Row). (transaction.first.0 + length rows) - 1) read.rows ∙ omega arith in
+    let some = read.some in
     let now : List ℕ = clock_after_one before.clock transaction in
     let sums : sum now + slice_index before.clock transaction.replica.0 ≡ sum before.clock + last_lsn transaction =
     sum_by-set (λ x. x) before.clock transaction.replica.0 (last_lsn transaction) 0 (omega arith) in

@@ -10,6 +10,7 @@ pub mod BlockLaws
 pub mod OnceLaws
 pub mod WriteLaws
 mod ApplyLaws
+pub mod AppliedLaws
 pub mod AskedKeyLaws
 pub mod AnswerLaws
 pub mod FirstRowLaws

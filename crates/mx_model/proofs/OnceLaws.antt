@@ -1,5 +1,5 @@
 -- A directory recovers to one state only, and its vclock gives the number of transactions.
-use Rattle.std.proofs.Common.{◌≡◌, ℕ, zero, suc, ◌+◌, ◌-◌, ◌≤◌, Bool, true, false, not, cond, ◌&&◌, List, [], ◌∷◌, length, sum, take, refl, sym, ap, ◌∙◌, subst, arith}
+use Rattle.std.proofs.Common.{◌≡◌, ℕ, zero, suc, ◌+◌, ◌≤◌, Bool, true, false, not, cond, ◌&&◌, List, [], ◌∷◌, length, sum, take, refl, sym, ap, ◌∙◌, subst, arith}
 use Rattle.std.specs.Prelude.{⊤, slice_index, ◌==◌, Option, Some, None, is_some, Result, Ok, Err, IfSome, if◌then◌else◌}
 use Rattle.std.specs.List.{filter, AllByRecursion}
 use Rattle.std.specs.Ordering.{eq_by_cmp}
@@ -16,7 +16,6 @@ use Rattle.mx_xlog.specs.declared.head.Head.{Head}
 use Rattle.mx_xlog.proofs.FileLaws.{one_reading, some_reading}
 use Rattle.mx_outside.specs.Disks.{File, Files}
 use Rattle.mx_model.specs.declared.ids.Ids.{Ids}
-use Rattle.mx_row.specs.declared.row.Row.{Row}
 use Rattle.mx_model.specs.declared.damage.Damage.{Damage}
 use Rattle.mx_model.specs.declared.damage.DamageKind.TheVariants.{Gap}
 use Rattle.mx_row.specs.declared.tx.Tx.{Tx}
@@ -25,7 +24,7 @@ use Rattle.mx_schema.proofs.AloneLaws.{each_follows}
 use Rattle.mx_model.specs.Answers.{state_after_rows}
 use Rattle.mx_row.specs.Clocks.{last_lsn, clock_after_one, clock_after, follows}
 use Rattle.mx_row.specs.Rows.{IsTransaction, transactions_in}
-use Rattle.mx_model.specs.Directories.{Named, Reached, ReadAll, Origin, IsDirectoryState, SameIds, SameOutcome, AllFollow, are_its_ids, ids_in, ids_or, head_fits, reached_at, is_shared, takes_rows, after_transaction, then_all, after_transactions, after_read, after_block, block_reached, after_blocks, after_head, after_file, and_then, after_files, origin_of, after_origin, directory_state}
+use Rattle.mx_model.specs.Directories.{Named, Reached, ReadAll, Origin, IsDirectoryState, SameIds, SameOutcome, AllFollow, are_its_ids, ids_in, ids_or, head_fits, reached_at, is_shared, schema_is_alone, takes_rows, after_transaction, then_all, after_transactions, after_read, after_block, block_reached, after_blocks, after_head, after_file, and_then, after_files, origin_of, after_origin, directory_state}
 use Rattle.mx_xlog.specs.Files.{FileRead, ReadsAs, SameHead, SameFile, SameRead}
 use Rattle.mx_files.specs.Names.{is_journal, is_snapshot, journal_name, same_bytes}
 use Rattle.mx_model.proofs.DirectoryLaws.{by_name, names_in, names_of, same_itself}
@@ -72,10 +71,10 @@ transaction_alike : (transaction : Tx) (one other : Reached) → Alike one other
 transaction_alike transaction one other alike =
     let state = alike.state in
     let clock = alike.clock in
-    either_way (is_shared transaction && follows one.clock transaction && takes_rows one.state transaction.rows)
-    (is_shared transaction && follows other.clock transaction && takes_rows other.state transaction.rows)
+    either_way (is_shared transaction && follows one.clock transaction && schema_is_alone transaction && takes_rows one.state transaction.rows)
+    (is_shared transaction && follows other.clock transaction && schema_is_alone transaction && takes_rows other.state transaction.rows)
     _ _
-    (λ i. is_shared transaction && follows (clock i) transaction && takes_rows (state i) transaction.rows)
+    (λ i. is_shared transaction && follows (clock i) transaction && schema_is_alone transaction && takes_rows (state i) transaction.rows)
     (record {
       ids = alike.ids;
       state = ap (λ s. state_after_rows s transaction.rows) state;
@@ -286,16 +285,16 @@ one_state files one other first second =
 
 -- ---- how many transactions came
 
--- a transaction that follows raises the sum of the lsns by 1
+-- a transaction that follows raises the sum of the lsns
 one_came : (clock : List ℕ) (transaction : Tx) → IsVclock clock → IsTransaction transaction → follows clock transaction ≡ true
-    → IsVclock (clock_after_one clock transaction) × (sum (clock_after_one clock transaction) ≡ suc (sum clock))
+    → IsVclock (clock_after_one clock transaction) × (suc (sum clock) ≤ sum (clock_after_one clock transaction))
 one_came clock transaction sound is follow =
     let tests = and_parts _ _ follow in
     let first : transaction.first.0 ≡ suc (slice_index clock transaction.replica.0) = eqb-true _ _ tests.0 in
     let most : last_lsn transaction ≤ max_lsn = leb-true _ _ tests.1 in
     let whole = sound.whole in
     let low = is.replica in
-    let last : last_lsn transaction ≡ transaction.first.0 = ap (λ (rows : List Row). (transaction.first.0 + length rows) - 1) is.row.1 ∙ omega arith in
+    let some = is.some in
     let sums : sum (clock_after_one clock transaction) + slice_index clock transaction.replica.0 ≡ sum clock + last_lsn transaction =
     sum_by-set (λ x. x) clock transaction.replica.0 (last_lsn transaction) 0 (omega arith) in (
       record {
@@ -306,20 +305,28 @@ one_came clock transaction sound is follow =
     )
 
 so_many_came : (now : State) (clock : List ℕ) (transactions : List Tx) (count : ℕ) → IsVclock clock → AllFollow now clock transactions
-    → count ≤ length transactions → sum (clock_after clock (take count transactions)) ≡ sum clock + count
+    → count ≤ length transactions → sum clock + count ≤ sum (clock_after clock (take count transactions))
 so_many_came now clock transactions zero sound all enough = omega arith
 so_many_came now clock [] (suc count) sound all enough = absurd (omega arith)
 so_many_came now clock (transaction ∷ others) (suc count) sound all enough =
     let one = one_came clock transaction sound all.0 all.2 in
-    let rest = so_many_came (state_after_rows now transaction.rows) (clock_after_one clock transaction) others count one.0 all.4 (omega arith) in
-    rest ∙ omega (arith, one.1)
+    let rest = so_many_came (state_after_rows now transaction.rows) (clock_after_one clock transaction) others count one.0 all.5 (omega arith) in
+    omega (arith, one.1, rest)
 
 -- the vclock gives the number of transactions
 pub count_once : (now : State) (clock : List ℕ) (transactions : List Tx) (m n : ℕ) → IsVclock clock → AllFollow now clock transactions
     → m ≤ length transactions → n ≤ length transactions
     → clock_after clock (take m transactions) ≡ clock_after clock (take n transactions) → m ≡ n
-count_once now clock transactions m n sound all first second same =
-    let one = so_many_came now clock transactions m sound all first in
-    let other = so_many_came now clock transactions n sound all second in
+count_once now clock transactions zero zero sound all first second same = refl
+count_once now clock transactions zero (suc n) sound all first second same =
+    let more = so_many_came now clock transactions (suc n) sound all second in
     let sums = ap sum same in
-    omega arith
+    absurd (omega arith)
+count_once now clock transactions (suc m) zero sound all first second same =
+    let more = so_many_came now clock transactions (suc m) sound all first in
+    let sums = ap sum same in
+    absurd (omega arith)
+count_once now clock [] (suc m) (suc n) sound all first second same = absurd (omega arith)
+count_once now clock (transaction ∷ others) (suc m) (suc n) sound all first second same =
+    let one = one_came clock transaction sound all.0 all.2 in
+    ap suc (count_once (state_after_rows now transaction.rows) (clock_after_one clock transaction) others m n one.0 all.5 (omega arith) (omega arith) same)

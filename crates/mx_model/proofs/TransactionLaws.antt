@@ -8,7 +8,7 @@ use Rattle.mx_row.specs.declared.tx.Tx.{Tx}
 use Rattle.mx_row.specs.Rows.{IsTransaction, transactions_text, transactions_of}
 use Rattle.mx_model.specs.Transactions.{state_after}
 use Rattle.mx_row.specs.Clocks.{clock_after_one, clock_after, follows}
-use Rattle.mx_model.specs.Directories.{Reached, is_shared, takes_rows, after_transaction, after_transactions, after_read, then_all, after_block, block_reached, after_blocks, AllFollow}
+use Rattle.mx_model.specs.Directories.{Reached, is_shared, schema_is_alone, takes_rows, after_transaction, after_transactions, after_read, then_all, after_block, block_reached, after_blocks, AllFollow}
 use Rattle.mx_row.proofs.ClockLaws.{clock_after-append}
 use Rattle.mx_row.proofs.GroupLaws.{transactions_again}
 use Rattle.mx_model.proofs.HistoryLaws.{state_after-append}
@@ -17,14 +17,14 @@ use Rattle.mx_model.proofs.HistoryLaws.{state_after-append}
 pub are_transactions : (now : State) (clock : List ℕ) (transactions : List Tx) → AllFollow now clock transactions → AllByRecursion IsTransaction transactions
 are_transactions now clock [] all = tt
 are_transactions now clock (transaction ∷ others) all =
-    (all.0, are_transactions (state_after_rows now transaction.rows) (clock_after_one clock transaction) others all.4)
+    (all.0, are_transactions (state_after_rows now transaction.rows) (clock_after_one clock transaction) others all.5)
 
 all_follow-split : (now : State) (clock : List ℕ) (xs ys : List Tx) → AllFollow now clock (xs ++ ys)
     → AllFollow now clock xs × AllFollow (state_after now xs) (clock_after clock xs) ys
 all_follow-split now clock [] ys all = (tt, all)
 all_follow-split now clock (x ∷ xs) ys all =
-    let parts = all_follow-split (state_after_rows now x.rows) (clock_after_one clock x) xs ys all.4 in
-    ((all.0, all.1, all.2, all.3, parts.0), parts.1)
+    let parts = all_follow-split (state_after_rows now x.rows) (clock_after_one clock x) xs ys all.5 in
+    ((all.0, all.1, all.2, all.3, all.4, parts.0), parts.1)
 
 -- ---- what a file's blocks recover to
 
@@ -36,9 +36,10 @@ reached_after reached transactions =
 each_reached : (transactions : List Tx) (reached : Reached) → AllFollow reached.state reached.clock transactions
     → after_transactions transactions reached ≡ Some (reached_after reached transactions)
 each_reached [] reached all = refl
-each_reached (transaction ∷ others) reached (is, shared, next, takes, all) =
-    let both = and_from (is_shared transaction && follows reached.clock transaction) (takes_rows reached.state transaction.rows)
-    (and_from (is_shared transaction) (follows reached.clock transaction) shared next) takes in
+each_reached (transaction ∷ others) reached (is, shared, next, alone, takes, all) =
+    let both = and_from (is_shared transaction && follows reached.clock transaction && schema_is_alone transaction) (takes_rows reached.state transaction.rows)
+    (and_from (is_shared transaction && follows reached.clock transaction) (schema_is_alone transaction)
+    (and_from (is_shared transaction) (follows reached.clock transaction) shared next) alone) takes in
     let one : after_transaction transaction reached ≡ Some (reached_after reached (transaction ∷ [])) = cond-true _ _ _ both in
     ap (then_all (after_transactions others)) one ∙ each_reached others (reached_after reached (transaction ∷ [])) all
 

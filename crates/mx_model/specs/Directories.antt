@@ -1,5 +1,5 @@
 -- What the journals of a directory recover to, or what is damaged in them.
-use Rattle.std.specs.Prelude.{◌≡◌, ◌⊎◌, ⊤, ℕ, ◌+◌, Bool, true, false, not, ◌&&◌, List, [], ◌∷◌, ◌++◌, length, map, sum, replicate, Option, Some, None, Result, Ok, Err, is_none, ◌==◌, IfSome, if◌then◌else◌}
+use Rattle.std.specs.Prelude.{◌≡◌, ◌⊎◌, ⊤, ℕ, ◌+◌, Bool, true, false, not, ◌&&◌, ◌||◌, List, [], ◌∷◌, ◌++◌, length, map, sum, replicate, Option, Some, None, Result, Ok, Err, is_none, ◌==◌, IfSome, if◌then◌else◌}
 use Rattle.std.specs.List.{filter, last_or, AllByRecursion}
 use Rattle.std.specs.FinMap as finite
 use Rattle.uuid.specs.Text.{hyphenated_text, lower}
@@ -18,6 +18,7 @@ use Rattle.mx_row.specs.declared.tx.Tx.{Tx}
 use Rattle.mx_row.specs.Clocks.{clock_after_one, follows}
 use Rattle.mx_row.specs.Rows.{IsTransaction, transactions_in}
 use Rattle.mx_model.specs.Histories.{Base}
+use Rattle.mx_model.specs.Transactions.{is_schema_commit}
 use Rattle.mx_files.specs.Names.{is_journal, is_snapshot, journal_name, same_bytes}
 use Rattle.mx_xlog.specs.Files.{FileRead, ReadsAs}
 
@@ -84,10 +85,15 @@ takes_rows state (row ∷ rows) = takes_row state row && takes_rows (state_after
 abbrev pub is_shared : Tx → Bool
 is_shared transaction = not (transaction.replica.0 == 0)
 
+-- a row that describes a space or an index is the only one of its transaction
+abbrev pub schema_is_alone : Tx → Bool
+schema_is_alone transaction = (length transaction.rows == 1) || not (is_schema_commit transaction)
+
 abbrev pub after_transaction : Tx → Reached → Option Reached
 after_transaction transaction reached =
     let next = record reached { state = state_after_rows reached.state transaction.rows; clock = clock_after_one reached.clock transaction } in
-    if is_shared transaction && follows reached.clock transaction && takes_rows reached.state transaction.rows then Some next else None
+    if is_shared transaction && follows reached.clock transaction && schema_is_alone transaction && takes_rows reached.state transaction.rows
+    then Some next else None
 
 abbrev pub then_all : (Reached → Option Reached) → Option Reached → Option Reached
 then_all others None = None
@@ -180,12 +186,13 @@ pub record Continues (base : Base) (name : List ℕ) (files : Files) : Type 0 wh
   pub state : reached.state ≡ base.state
   pub clock : reached.clock ≡ base.clock
 
--- each of these transactions can be written, is no local one, has the next lsns after those before it, and the state takes its rows
+-- each of these transactions can be written, is no local one, has the next lsns after those before it, has a row of the schema
+-- only alone, and the state takes its rows
 abbrev pub AllFollow : State → List ℕ → List Tx → Type 0
 AllFollow state clock [] = ⊤
 AllFollow state clock (tx ∷ txs) =
-    IsTransaction tx × (is_shared tx ≡ true) × (follows clock tx ≡ true) × (takes_rows state tx.rows ≡ true)
-    × AllFollow (state_after_rows state tx.rows) (clock_after_one clock tx) txs
+    IsTransaction tx × (is_shared tx ≡ true) × (follows clock tx ≡ true) × (schema_is_alone tx ≡ true)
+    × (takes_rows state tx.rows ≡ true) × AllFollow (state_after_rows state tx.rows) (clock_after_one clock tx) txs
 
 -- no identifiers, or those of the same texts
 abbrev pub SameIds : Option Ids → Option Ids → Type 0

@@ -3,6 +3,7 @@ pub mod Alone
 pub mod Answers
 pub mod Transactions
 pub mod Directories
+pub mod Applied
 pub mod DamageText
 pub mod Histories
 pub mod Order

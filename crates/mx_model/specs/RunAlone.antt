@@ -1,10 +1,9 @@
 -- A transaction run alone: its statements one after the other, each in the state that those before it left.
-use Rattle.std.specs.Prelude.{ℕ, ◌+◌, Bool, true, false, not, ◌&&◌, List, [], ◌∷◌, ◌++◌, length, map, Option, Some, None, nat_le, nat_lt, ◌==◌, if◌then◌else◌}
-use Rattle.std.specs.List.{sum}
+use Rattle.std.specs.Prelude.{Bool, true, false, not, ◌&&◌, List, [], ◌∷◌, ◌++◌, Option, Some, None, ◌==◌, if◌then◌else◌}
 use Rattle.std.specs.Option.{option_to_list}
 use Rattle.mx_base.specs.declared.refusal.Refusal.TheVariants.{ReadOnly, TransactionTooLong}
 use Rattle.mx_row.specs.declared.row.Row.{Row}
-use Rattle.mx_row.specs.Rows.{row_body_text}
+use Rattle.mx_row.specs.Limits.{has_room}
 use Rattle.mx_schema.specs.State.{State}
 use Rattle.mx_write.specs.Change.{state_after_changed}
 use Rattle.mx_model.specs.declared.ids.Ids.{Ids}
@@ -25,24 +24,6 @@ statement_answer ids before statement =
     else answer_in_space before statement.space statement.operation
 
 -- ---- the limits of a transaction
-
--- how many rows it may have, and how many bytes
-abbrev pub max_rows : ℕ
-max_rows = 4096
-
-abbrev pub max_transaction_size : ℕ
-max_transaction_size = 4194304
-
--- the bytes of a row, with those of its header
-abbrev pub row_size : Row → ℕ
-row_size row = length (row_body_text row) + 32
-
-abbrev pub rows_size : List Row → ℕ
-rows_size rows = sum (map row_size rows)
-
--- a transaction with these rows has room for a further one
-abbrev pub has_room : List Row → Row → Bool
-has_room rows row = nat_lt (length rows) max_rows && nat_le (rows_size rows + row_size row) max_transaction_size
 
 -- the answer of a statement of a transaction with these rows: its row has to find room
 abbrev pub within_limits : List Row → Answer → Option Row → Answer

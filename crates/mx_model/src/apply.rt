@@ -1,12 +1,15 @@
 //! Applying the rows of a journal to a state.
 
-ghost use Rattle.std.specs.Prelude.{◌≡◌, ◌⊎◌, None, Some, MatchResult};
+ghost use Rattle.std.specs.Prelude.{◌≡◌, ◌⊎◌, None, Some, true, MatchBool, MatchResult};
+ghost use Rattle.std.specs.List.{AllByRecursion};
 ghost use Rattle.mx_base.specs.declared.refusal.Refusal.TheVariants.{OutOfMemory};
 ghost use Rattle.mx_row.specs.Rows.{IsRow};
-ghost use Rattle.mx_row.specs.Views.{row_value};
+ghost use Rattle.mx_row.specs.Views.{row_value, row_values};
 ghost use Rattle.mx_schema.specs.State as plain;
 ghost use Rattle.mx_space.specs.Stored.{Holds};
-ghost use Rattle.mx_model.specs.Answers.{state_after_row};
+ghost use Rattle.mx_model.specs.Answers.{state_after_row, state_after_rows};
+ghost use Rattle.mx_model.specs.Applied.{IsApplyFault, IsFaultOf};
+ghost use Rattle.mx_model.specs.Directories.{takes_rows};
 ghost use Rattle.mx_write.specs.Judge.{row_refusal};
 
 use mx_base::Refusal;
@@ -36,5 +39,52 @@ pub fn apply_row(state: &mut State, alloc: Global, row: &RowRef<'_>) -> Result<(
     match made {
         Some(made) => Ok(made.install(alloc, state, row.space)?),
         None => Ok(()),
+    }
+}
+
+/// Why the rows of a transaction weren't all applied.
+#[derive(Debug, Drop)]
+pub enum ApplyFault {
+    /// The state refuses the row of this place, counted from 0.
+    Row { place: usize, refusal: Refusal },
+    /// Out of memory.
+    NoMemory,
+}
+
+/// Applies the rows of a transaction, each to the state that those before it left.
+///
+/// # Errors
+/// The first row that the state refuses, or out of memory. The rows before it are then applied.
+pub fn apply_tx(state: &mut State, alloc: Global, rows: &[RowRef<'_>]) -> Result<(), ApplyFault>
+    requires rows { AllByRecursion IsRow (row_values rows.now) }
+    ensures { (before : plain.State) → Holds state.old before → MatchResult result
+        (λ _. (takes_rows before (row_values rows.now) ≡ true) × Holds state.new (state_after_rows before (row_values rows.now)))
+        (λ fault. IsApplyFault before (row_values rows.now) state.new fault) }
+{
+    let mut place = 0;
+    for row in rows {
+        if let Err(refusal) = apply_row(state, alloc, row) {
+            return Err(fault_at(place, refusal));
+        }
+        place += 1;
+    }
+    Ok(())
+}
+
+fn fault_at(place: usize, refusal: Refusal) -> ApplyFault
+    ensures { IsFaultOf place refusal result }
+{
+    if is_out_of_memory(&refusal) {
+        return ApplyFault::NoMemory;
+    }
+    ApplyFault::Row { place, refusal }
+}
+
+fn is_out_of_memory(refusal: &Refusal) -> bool
+    ensures { MatchBool result (refusal.now ≡ OutOfMemory) (refusal.now ≡ OutOfMemory → ⊥) }
+{
+    match refusal {
+        Refusal::OutOfMemory => true,
+        _ => false,
     }
 }

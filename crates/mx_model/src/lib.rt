@@ -14,7 +14,7 @@ mod statements;
 mod transaction_laws;
 mod txs;
 
-pub use apply::apply_row;
+pub use apply::{ApplyFault, apply_row, apply_tx};
 pub use damage::{Damage, DamageKind};
 pub use ids::Ids;
 pub use laws::{

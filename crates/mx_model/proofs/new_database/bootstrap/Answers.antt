@@ -1,9 +1,7 @@
-use Rattle.std.proofs.Common.{◌≡◌, List, [], ◌∷◌, sym, ap, ◌∙◌, subst, refl}
+use Rattle.std.proofs.Common.{◌≡◌, [], ◌∷◌, sym, ◌∙◌}
 use Rattle.std.specs.FinMap.{empty, get}
-use Rattle.mx_key.specs.declared.part.Part.{Part}
-use Rattle.mx_schema.specs.Bootstrap.{first_state, part_of_numbers, part_of_texts, settings}
+use Rattle.mx_schema.specs.Bootstrap.{first_state, part_of_numbers, part_of_texts}
 use Rattle.mx_schema.specs.Catalogues.{schema_of}
-use Rattle.mx_schema.specs.State.{space_rows, index_rows}
 use Rattle.mx_space.proofs.HeldLaws.{holds_described}
 use Rattle.mx_schema.proofs.FirstSoundLaws.{first_state_described, first_state_indexed}
 use Rattle.mx_model.proofs.FirstRowLaws.{first_index_rows_keys, first_settings_keys, first_space_rows_keys, sound_by}
