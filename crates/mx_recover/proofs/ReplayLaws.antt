@@ -1,15 +1,16 @@
 -- What a transaction, a block and a header make of what memory holds.
-use Rattle.std.proofs.Common.{◌≡◌, ◌⊎◌, inl, inr, ℕ, zero, suc, ◌+◌, ◌-◌, ◌<◌, ◌≤◌, Bool, true, false, ◌&&◌, ◌==◌, List, [], ◌∷◌, length, take, drop, Option, Some, None, Result, Ok, Err, refl, sym, ap, subst, ◌∙◌, arith}
-use Rattle.std.specs.Prelude.{slice_index, slice_set, is_none, is_err, unwrap_or, IfOk, MatchOption, MatchResult, if◌then◌else◌, not}
+use Rattle.std.proofs.Common.{◌≡◌, ℕ, zero, suc, ◌+◌, ◌-◌, ◌<◌, ◌≤◌, Bool, true, false, ◌&&◌, ◌==◌, List, [], ◌∷◌, length, take, drop, Option, Some, None, Result, Ok, Err, refl, sym, ap, subst, ◌∙◌, arith}
+use Rattle.std.specs.Prelude.{slice_index_or, slice_set, ◌||◌, is_err, unwrap_or, IfOk, MatchOption, MatchResult, if◌then◌else◌, not}
+use Rattle.std.specs.List.{list_any}
 use Rattle.std.specs.Cmp.Lexicographic.{bytes_decides}
-use Rattle.std.proofs.lemmas.Bool.{and_from, and_parts, eqb-true, eq-eqb, le-leb, cond-true, cond-false}
+use Rattle.std.proofs.lemmas.Bool.{and_from, and_parts, eqb-true, cond-true, cond-false}
 use Rattle.std.proofs.lemmas.Grind.{same_number_lists}
 use Rattle.std.proofs.lemmas.List.{length-append, length-take-le, length-drop, get_or-set_other}
 use Rattle.std.proofs.lemmas.List.Elements.{All-set}
 use Rattle.std.proofs.Math.ListN.{length-set}
 use Rattle.mx_xlog.specs.declared.head.Head.{Head}
 use Rattle.mx_xlog.specs.Headers.{IsHead}
-use Rattle.mx_vclock.specs.Vclocks.{IsVclock, IsNext, Covers, max_lsn}
+use Rattle.mx_vclock.specs.Vclocks.{IsVclock, Covers, max_lsn}
 use Rattle.mx_xlog.specs.declared.block.Block.{Block}
 use Rattle.mx_xlog.specs.declared.block.Block.TheVariants.{Rows, End, Empty, Torn}
 use Rattle.mx_xlog.specs.Blocks.{StandsAt, block_of}
@@ -21,16 +22,21 @@ use Rattle.mx_model.specs.declared.damage.DamageKind.TheVariants.{Head as HeadDa
 use Rattle.mx_row.specs.declared.tx.Tx.{Tx}
 use Rattle.mx_row.specs.declared.row.Row.{Row}
 use Rattle.std.specs.declared.alloc.AllocError.{AllocError}
-use Rattle.mx_base.specs.declared.ids.Lsn.{Lsn}
-use Rattle.mx_base.specs.declared.ids.ReplicaId.{ReplicaId}
-use Rattle.mx_base.specs.declared.refusal.Refusal.{Refusal}
-use Rattle.mx_base.specs.declared.refusal.Refusal.TheVariants.{OutOfMemory}
 use Rattle.mx_space.specs.Stored.{Holds}
-use Rattle.mx_model.specs.Answers.{state_after_row, state_after_rows}
-use Rattle.mx_write.specs.Judge.{row_refusal}
-use Rattle.mx_row.specs.Clocks.{clock_after_one, follows}
+use Rattle.mx_space.specs.declared.state.State as coded
+use Rattle.mx_schema.specs.State.{State}
+use Rattle.mx_row.specs.declared.row_ref.RowRef.{RowRef}
+use Rattle.mx_row.specs.Views.{row_value, row_values}
+use Rattle.mx_model.specs.declared.apply.ApplyFault.{ApplyFault}
+use Rattle.mx_model.specs.declared.apply.ApplyFault.TheVariants.{Row as RefusedRow, NoMemory}
+use Rattle.mx_model.specs.Applied.{IsApplyFault}
+use Rattle.mx_model.specs.Transactions.{is_schema_row}
+use Rattle.mx_model.proofs.AppliedLaws.{not_taken}
+use Rattle.mx_model.specs.Answers.{state_after_rows}
+use Rattle.mx_row.specs.Clocks.{clock_after_one, follows, last_lsn}
+use Rattle.mx_row.specs.Rows.{IsTransaction}
 use Rattle.mx_model.specs.Directories as files
-use Rattle.mx_model.specs.Directories.{after_transaction, after_block, after_blocks, block_reached, damaged_row, is_shared, takes_row, takes_rows, ids_or, ids_in, head_fits, after_head}
+use Rattle.mx_model.specs.Directories.{after_transaction, after_block, after_blocks, block_reached, damaged_row, is_shared, schema_is_alone, takes_rows, ids_or, ids_in, head_fits, after_head}
 use Rattle.mx_xlog.specs.Files.{FileRead}
 use Rattle.mx_files.specs.Names.{same_bytes}
 use Rattle.mx_recover.specs.declared.replay.Recovered.{Recovered}
@@ -107,60 +113,51 @@ not_zero : (number : ℕ) → not (number == 0) ≡ true → ¬ (number ≡ 0)
 not_zero zero test is = absurd cc
 not_zero (suc number) test is = omega (arith, is)
 
--- a transaction of one row
-abbrev one_row : ReplicaId → Lsn → Row → Tx
-one_row replica lsn row = record { replica = replica; first = lsn; rows = row ∷ [] }
+-- the transaction comes next, so far as its numbers and spaces tell
+abbrev pub is_due : List ℕ → Tx → Bool
+is_due clock tx = is_shared tx && follows clock tx && schema_is_alone tx
 
-module _ (old new : Recovered) (before : files.Reached) (stands : StandsFor old before) (replica : ReplicaId) (lsn : Lsn) (row : Row)
-    (shared : is_shared (one_row replica lsn row) ≡ true) (few : replica.0 < 32) (next : IsNext old.clock replica.0 lsn.0)
-    (clock : new.clock ≡ slice_set old.clock replica.0 lsn.0) (ids : new.ids ≡ old.ids) (taken : row_refusal before.state row ≡ None)
-    (holds : Holds new.state (state_after_row before.state row)) where
-  abbrev tx : Tx
-  tx = one_row replica lsn row
+module _ (old new : Recovered) (before : files.Reached) (stands : StandsFor old before) (tx : Tx) (sound : IsTransaction tx)
+    (due : is_due before.clock tx ≡ true) (clock : new.clock ≡ slice_set old.clock tx.replica.0 (last_lsn tx)) (ids : new.ids ≡ old.ids)
+    (takes : takes_rows before.state tx.rows ≡ true) (holds : Holds new.state (state_after_rows before.state tx.rows)) where
+  shared : is_shared tx ≡ true
+  shared = (and_parts _ _ (and_parts _ _ due).0).0
 
-  most : (lsn.0 + 1) - 1 ≤ max_lsn
-  most = omega (arith, next.allowed)
-
-  does_follow : follows before.clock tx ≡ true
-  does_follow =
-      let first : lsn.0 ≡ suc (slice_index before.clock replica.0) =
-      next.follows ∙ ap (λ (c : List ℕ). suc (slice_index c replica.0)) stands.clock in
-      and_from _ _ (eq-eqb _ _ first) (le-leb _ _ most)
-
-  takes : takes_rows before.state tx.rows ≡ true
-  takes = ap (λ refusal. is_none refusal && true) taken
+  most : last_lsn tx ≤ max_lsn
+  most = sound.lsns.1
 
   stands_after : StandsFor new (record before { state = state_after_rows before.state tx.rows; clock = clock_after_one before.clock tx })
-  stands_after =
-      let last : lsn.0 ≡ (lsn.0 + 1) - 1 = omega arith in record {
-        ids = ids ∙ stands.ids;
-        holds = holds;
-        clock = clock ∙ ap (λ (c : List ℕ). slice_set c replica.0 lsn.0) stands.clock ∙ ap (slice_set before.clock replica.0) last;
-        sound = record {
-          whole = length-set before.clock replica.0 ((lsn.0 + 1) - 1) ∙ stands.sound.whole;
-          bounded = All-set (λ lsn. lsn ≤ max_lsn) before.clock replica.0 ((lsn.0 + 1) - 1) most stands.sound.bounded;
-        };
-        nothing = get_or-set_other before.clock replica.0 0 ((lsn.0 + 1) - 1) 0 (λ is. not_zero replica.0 shared (sym is)) ∙ stands.nothing;
-        whose = stands.whose;
-      }
+  stands_after = record {
+    ids = ids ∙ stands.ids;
+    holds = holds;
+    clock = clock ∙ ap (λ (c : List ℕ). slice_set c tx.replica.0 (last_lsn tx)) stands.clock;
+    sound = record {
+      whole = length-set before.clock tx.replica.0 (last_lsn tx) ∙ stands.sound.whole;
+      bounded = All-set (λ lsn. lsn ≤ max_lsn) before.clock tx.replica.0 (last_lsn tx) most stands.sound.bounded;
+    };
+    nothing = get_or-set_other before.clock tx.replica.0 0 (last_lsn tx) 0 (λ is. not_zero tx.replica.0 shared (sym is)) ∙ stands.nothing;
+    whose = stands.whose;
+  }
 
-  -- it follows, and memory has what its row makes of the state
-  pub taken_row : MatchOption (after_transaction tx before) (true ≡ false) (λ after. (true ≡ true) × StandsFor new after)
-  taken_row =
-      one_taken (StandsFor new) (after_transaction tx before) _
-      (cond-true _ _ _ (and_from _ _ (and_from _ _ shared does_follow) takes)) stands_after
+  -- it follows, and memory has what its rows make of the state
+  pub taken_rows : MatchOption (after_transaction tx before) (true ≡ false) (λ after. (true ≡ true) × StandsFor new after)
+  taken_rows = one_taken (StandsFor new) (after_transaction tx before) _ (cond-true _ _ _ (and_from _ _ due takes)) stands_after
 
--- a row that the state doesn't take
-module _ (new : Recovered) (before : files.Reached) (replica : ReplicaId) (lsn : Lsn) (row : Row) where
+-- a transaction that isn't taken
+module _ (new : Recovered) (before : files.Reached) (tx : Tx) where
   abbrev Refused : Type 0
-  Refused = MatchOption (after_transaction (one_row replica lsn row) before) (false ≡ false) (λ after. (false ≡ true) × StandsFor new after)
+  Refused = MatchOption (after_transaction tx before) (false ≡ false) (λ after. (false ≡ true) × StandsFor new after)
 
-  pub refused_row : (refusal : Refusal) → row_refusal before.state row ≡ Some refusal → Refused
-  refused_row refusal is =
-      let front = is_shared (one_row replica lsn row) && follows before.clock (one_row replica lsn row) in
-      let other : takes_row before.state row ≡ false = ap is_none is in
-      none_taken (StandsFor new) (after_transaction (one_row replica lsn row) before)
-      (cond-false _ _ _ (ap (λ b. front && (b && true)) other ∙ and_false front))
+  -- it doesn't come next
+  pub refused_tx : is_due before.clock tx ≡ false → Refused
+  refused_tx other =
+      none_taken (StandsFor new) (after_transaction tx before) (cond-false _ _ _ (ap (λ b. b && takes_rows before.state tx.rows) other))
+
+  -- the state refuses a row
+  pub refused_row : takes_rows before.state tx.rows ≡ false → Refused
+  refused_row other =
+      none_taken (StandsFor new) (after_transaction tx before)
+      (cond-false _ _ _ (ap (λ b. is_due before.clock tx && b) other ∙ and_false (is_due before.clock tx)))
 
 -- ---- blocks
 
@@ -275,12 +272,49 @@ same_here memory before head flag told stands fits same is =
     ap (λ clock. same_bytes clock head.clock) (sym stands.clock) ∙ sym (same (subst IsVclock (sym stands.clock) stands.sound) fits.sound) ∙ is
 
 -- what isn't out of memory is refused
-pub refused_told : (P : Bool → Type 0) (result : Result Bool AllocError) (refusal : Refusal)
-    → IfOk result (λ taken. (taken ≡ false) × (refusal ≡ OutOfMemory → ⊥)) → ((refusal ≡ OutOfMemory → ⊥) → P false) → IfOk result P
-refused_told P (Ok taken) refusal both shows = subst P (sym both.0) (shows both.1)
-refused_told P (Err error) refusal both shows = tt
+pub refused_told : (P : Bool → Type 0) (result : Result Bool AllocError) (fault : ApplyFault)
+    → IfOk result (λ taken. (taken ≡ false) × (fault ≡ NoMemory → ⊥)) → ((fault ≡ NoMemory → ⊥) → P false) → IfOk result P
+refused_told P (Ok taken) fault both shows = subst P (sym both.0) (shows both.1)
+refused_told P (Err error) fault both shows = tt
 
--- a refusal that isn't for memory is the statement's
-pub told_refusal : (P : Type 0) (refusal : Refusal) → (refusal ≡ OutOfMemory → ⊥) → P ⊎ (refusal ≡ OutOfMemory) → P
-told_refusal P refusal other (inl holds) = holds
-told_refusal P refusal other (inr none) = absurd (other none)
+-- rows of which one was refused
+pub not_applied : (before : State) (all : List Row) (memory : coded.State) (fault : ApplyFault) → IsApplyFault before all memory fault
+    → (fault ≡ NoMemory → ⊥) → takes_rows before all ≡ false
+not_applied before _ memory (RefusedRow place refusal) (applied, row, there, refused) other = not_taken before _ place row refusal there refused
+not_applied before all memory NoMemory some other = absurd (other refl)
+
+-- ---- rows of the schema
+
+abbrev row_at : List RowRef → ℕ → RowRef → Row
+row_at rows place default = row_value (slice_index_or rows place default)
+
+pub schema_row_found : (rows : List RowRef) (place : ℕ) (default : RowRef) → place < length rows → is_schema_row (row_at rows place default) ≡ true
+    → list_any is_schema_row (row_values rows) ≡ true
+schema_row_found [] place default within is = absurd (omega arith)
+schema_row_found (row ∷ rows) zero default within is = ap (λ (b : Bool). b || list_any is_schema_row (row_values rows)) is
+schema_row_found (row ∷ rows) (suc place) default within is =
+    ap (λ (b : Bool). is_schema_row (row_value row) || b) (schema_row_found rows place default (omega arith) is) ∙ or_true (is_schema_row (row_value row))
+  where
+    or_true : (b : Bool) → (b || true) ≡ true
+    or_true true = refl
+    or_true false = refl
+
+no_schema_row : (rows : List RowRef) (place : ℕ) (default : RowRef) → place < length rows → list_any is_schema_row (row_values (take place rows)) ≡ false
+    → is_schema_row (row_at rows place default) ≡ false → list_any is_schema_row (row_values (take (suc place) rows)) ≡ false
+no_schema_row [] place default within none is = absurd (omega arith)
+no_schema_row (row ∷ rows) zero default within none is = ap (λ (b : Bool). b || false) is
+no_schema_row (row ∷ rows) (suc place) default within none is =
+    let both = or_none (is_schema_row (row_value row)) (list_any is_schema_row (row_values (take place rows))) none in
+    ap (λ (b : Bool). b || list_any is_schema_row (row_values (take (suc place) rows))) both.0
+    ∙ no_schema_row rows place default (omega arith) both.1 is
+  where
+    or_none : (b c : Bool) → (b || c) ≡ false → (b ≡ false) × (c ≡ false)
+    or_none true c e = absurd cc
+    or_none false c e = (refl, e)
+
+pub still_no_schema_row : (rows : List RowRef) (place : ℕ) (default : RowRef) → place < length rows
+    → list_any is_schema_row (row_values (take place rows)) ≡ false → is_schema_row (row_at rows place default) ≡ false
+    → list_any is_schema_row (row_values (take (place + 1) rows)) ≡ false
+still_no_schema_row rows place default within none is =
+    let next : place + 1 ≡ suc place = omega arith in
+    ap (λ (count : ℕ). list_any is_schema_row (row_values (take count rows))) next ∙ no_schema_row rows place default within none is

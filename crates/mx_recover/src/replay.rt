@@ -1,25 +1,28 @@
 //! Replay: the state that journals recover to, file after file.
 
-ghost use Rattle.std.specs.Prelude.{◌≡◌, ◌<◌, ◌≤◌, Option, true, false, Ok, Err, Some, IfOk, OnOk, MatchOption, drop, ◌&&◌, ◌==◌};
+ghost use Rattle.std.specs.Prelude.{◌≡◌, ◌≤◌, Option, true, false, Ok, Err, Some, IfOk, OnOk, MatchOption, drop, length, not, ◌&&◌, ◌||◌, ◌==◌};
+ghost use Rattle.std.specs.List.{list_any};
 ghost use Rattle.mx_vclock.specs.Vclocks.{IsVclock};
 ghost use Rattle.mx_xlog.specs.Reading.{blocks_of};
-ghost use Rattle.mx_base.specs.declared.refusal.Refusal.TheVariants.{OutOfMemory};
+ghost use Rattle.mx_model.specs.declared.apply.ApplyFault.TheVariants.{NoMemory};
 ghost use Rattle.mx_model.specs.declared.damage.Damage.{Damage};
 ghost use Rattle.mx_model.specs.Directories as files;
-ghost use Rattle.mx_model.specs.Directories.{after_block, after_blocks, after_file, after_transaction, nothing_yet, head_fits, are_its_ids, same_id};
+ghost use Rattle.mx_model.specs.Directories.{after_block, after_blocks, after_file, after_transaction, nothing_yet, head_fits, are_its_ids, is_shared, same_id, schema_is_alone};
+ghost use Rattle.mx_model.specs.Transactions.{is_schema_row};
 ghost use Rattle.mx_xlog.specs.Files.{FileRead, ReadsAs};
 ghost use Rattle.mx_files.specs.Names.{same_bytes};
-ghost use Rattle.mx_row.specs.Rows.{IsRow};
-ghost use Rattle.mx_row.specs.Views.{row_value, tx_view};
+ghost use Rattle.mx_row.specs.Clocks.{follows};
+ghost use Rattle.mx_row.specs.Rows.{IsTransaction};
+ghost use Rattle.mx_row.specs.Views.{row_value, row_values, tx_view};
 ghost use Rattle.mx_recover.specs.declared.fault.RecoverFault.TheVariants.{Damaged, Failed};
 ghost use Rattle.mx_recover.specs.Recovered.{StandsFor};
 
 use crate::fault::RecoverFault;
-use mx_base::Refusal;
 use mx_files::journal_name;
-use mx_model::{Damage, DamageKind, Ids, apply_row, bootstrap};
+use mx_model::{ApplyFault, Damage, DamageKind, Ids, apply_tx, bootstrap};
 use mx_msgpack::Bytes;
-use mx_row::{TxRef, read_tx_in_place};
+use mx_row::{RowRef, TxRef, read_tx_in_place};
+use mx_schema::{INDEX_ROWS, SPACE_ROWS};
 use mx_space::State;
 use mx_vclock::Vclock;
 use mx_xlog::{Block, Head, read_block, read_header};
@@ -115,7 +118,7 @@ impl Recovered {
     {
         let mut rest = rows;
         while !rest.is_empty() {
-            let Some((tx, others)) = read_tx_in_place(rest) else {
+            let Some((tx, others)) = read_tx_in_place(alloc, rest)? else {
                 return Ok(false);
             };
             if !self.take_tx(alloc, &tx)? {
@@ -126,33 +129,70 @@ impl Recovered {
         Ok(true)
     }
 
-    /// A local transaction, of the replica 0, is refused.
+    /// At `false` some of the rows may have been applied.
     fn take_tx(&mut self, alloc: Global, tx: &TxRef<'_>) -> Result<bool, AllocError>
-        requires replica { tx.now.replica.0 < 32 }
-        requires row { IsRow (row_value tx.now.row) }
+        requires { IsTransaction (tx_view tx.now) }
         ensures { (before : files.Reached) → StandsFor self.old before → IfOk result (λ taken. MatchOption (after_transaction (tx_view tx.now) before)
             (taken ≡ false) (λ after. (taken ≡ true) × StandsFor self.new after)) }
     {
-        if tx.replica.0 == 0 {
+        if !is_due(&self.clock, tx) {
             return Ok(false);
         }
-        if self.clock.follow(tx.replica.0, tx.lsn.0).is_err() {
-            return Ok(false);
-        }
-        match apply_row(&mut self.state, alloc, &tx.row) {
+        self.clock.set(tx.replica.0, tx.last_lsn().0);
+        match apply_tx(&mut self.state, alloc, tx.rows.as_slice()) {
             Ok(()) => Ok(true),
-            Err(refusal) => refused(&refusal),
+            Err(fault) => refused(&fault),
         }
     }
 }
 
-fn refused(refusal: &Refusal) -> Result<bool, AllocError>
-    ensures { IfOk result (λ taken. (taken ≡ false) × (refusal.now ≡ OutOfMemory → ⊥)) }
+fn refused(fault: &ApplyFault) -> Result<bool, AllocError>
+    ensures { IfOk result (λ taken. (taken ≡ false) × (fault.now ≡ NoMemory → ⊥)) }
 {
-    match refusal {
-        Refusal::OutOfMemory => Err(AllocError),
-        _ => Ok(false),
+    match fault {
+        ApplyFault::Row { .. } => Ok(false),
+        ApplyFault::NoMemory => Err(AllocError),
     }
+}
+
+/// Whether the transaction comes next. A local one, of the replica 0, never does.
+fn is_due(clock: &Vclock, tx: &TxRef<'_>) -> bool
+    requires { IsTransaction (tx_view tx.now) }
+    ensures { result ≡ (is_shared (tx_view tx.now) && follows clock.now (tx_view tx.now) && schema_is_alone (tx_view tx.now)) }
+{
+    tx.replica.0 != 0 && follows(clock, tx) && is_schema_alone(tx.rows.as_slice())
+}
+
+/// Whether the transaction has the next lsns of its replica.
+fn follows(clock: &Vclock, tx: &TxRef<'_>) -> bool
+    requires { IsTransaction (tx_view tx.now) }
+    ensures { result ≡ follows clock.now (tx_view tx.now) }
+{
+    tx.first.0 - 1 == clock.get(tx.replica.0)
+}
+
+/// Whether a row that describes a space or an index is the only one.
+fn is_schema_alone(rows: &[RowRef<'_>]) -> bool
+    ensures { result ≡ ((length rows.now == 1) || not (list_any is_schema_row (row_values rows.now))) }
+{
+    rows.len() == 1 || !has_schema_row(rows)
+}
+
+fn has_schema_row(rows: &[RowRef<'_>]) -> bool
+    ensures { result ≡ list_any is_schema_row (row_values rows.now) }
+{
+    for row in rows {
+        if is_schema_row(row) {
+            return true;
+        }
+    }
+    false
+}
+
+fn is_schema_row(row: &RowRef<'_>) -> bool
+    ensures { result ≡ is_schema_row (row_value row.now) }
+{
+    row.space.0 == SPACE_ROWS || row.space.0 == INDEX_ROWS
 }
 
 fn ids_in(head: &Head) -> Ids
