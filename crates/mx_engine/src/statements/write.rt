@@ -20,7 +20,7 @@ use crate::engine::Engine;
 use mx_base::{Lsn, Refusal, ReplicaId, SpaceId};
 use mx_model::{WRITABLE_NODE, next_lsn};
 use mx_msgpack::Tuples;
-use mx_row::{RowRef, Tx, TxRef, to_owned};
+use mx_row::{RowRef, Tx};
 use mx_schema::{INDEX_ROWS, SPACE_ROWS};
 use mx_space::StateView;
 use mx_write::{Effect, Made, Notes, Scope, Write, Writer, row_of};
@@ -143,7 +143,5 @@ fn show(effect: &Effect, shown: &mut Tuples) -> Result<(), AllocError>
 fn transaction_of(alloc: Global, lsn: u64, row: RowRef<'_>) -> Result<Tx, AllocError>
     ensures { IfOk result (λ transaction. transaction ≡ steps.transaction_of lsn (row_value row.entry)) }
 {
-    let replica = ReplicaId(WRITABLE_NODE);
-    let lsn = Lsn(lsn);
-    to_owned(alloc, &TxRef { replica, lsn, row })
+    Tx::alone(alloc, ReplicaId(WRITABLE_NODE), Lsn(lsn), &row)
 }
