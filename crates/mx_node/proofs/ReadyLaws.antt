@@ -41,7 +41,7 @@ IsOnDisk base journal txs disk =
 all_come_next : (now : State) (clock : List ℕ) (txs : List Tx) → AllFollow now clock txs → AllComeNext clock txs
 all_come_next now clock [] follow = tt
 all_come_next now clock (tx ∷ txs) follow =
-    (follow.0, follow.2, all_come_next (state_after_rows now tx.rows) (clock_after_one clock tx) txs follow.4)
+    (follow.0, follow.2, all_come_next (state_after_rows now tx.rows) (clock_after_one clock tx) txs follow.5)
 
 come_next-drop : (count : ℕ) (clock : List ℕ) (txs : List Tx) → AllComeNext clock txs
     → AllComeNext (clock_after clock (take count txs)) (drop count txs)

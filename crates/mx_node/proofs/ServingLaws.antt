@@ -160,7 +160,7 @@ pub all_follow-take : (now : State) (clock : List ℕ) (txs : List Tx) (count : 
 all_follow-take now clock txs zero all = tt
 all_follow-take now clock [] (suc count) all = tt
 all_follow-take now clock (tx ∷ txs) (suc count) all =
-    (all.0, all.1, all.2, all.3, all_follow-take (state_after_rows now tx.rows) (clock_after_one clock tx) txs count all.4)
+    (all.0, all.1, all.2, all.3, all.4, all_follow-take (state_after_rows now tx.rows) (clock_after_one clock tx) txs count all.5)
 
 take_behind : {X : Type 0} (xs ys : List X) (count : ℕ) → take (length xs + count) (xs ++ ys) ≡ xs ++ take count ys
 take_behind [] ys count = ap (λ (n : ℕ). take n ys) (omega arith)
