@@ -1,8 +1,9 @@
 -- What the tests' first transaction and empty directory are.
-use Rattle.std.proofs.Common.{◌≡◌, ℕ, List, [], ◌∷◌, IsSome, Any, pos, refl, length, sym, ap, inl, inr, arith, Option, Some, Result, Ok, Err, IfOk}
+use Rattle.std.proofs.Common.{◌≡◌, ℕ, ◌≤◌, List, [], ◌∷◌, IsSome, Any, pos, refl, length, sym, ap, inl, inr, arith, Option, Some, Result, Ok, Err, IfOk}
 use mathlib.Core.Bool.{true≢false}
 use mathlib.Core.Path.{subst}
 use Rattle.std.specs.FinMap as finite
+use Rattle.std.specs.List.{AllByRecursion}
 use Rattle.std.specs.FinMap.{get-empty}
 use Rattle.std.specs.Cmp.Lexicographic.{slice_cmp}
 use Rattle.std.specs.Ordering.{nat_cmp}
@@ -13,6 +14,7 @@ use Rattle.mx_msgpack.specs.Spelling.{shortest_unsigned}
 use Rattle.mx_msgpack.proofs.SpellingLaws.{shortest_length}
 use Rattle.mx_row.specs.declared.row.Row.{Row}
 use Rattle.mx_row.specs.declared.tx.Tx.{Tx}
+use Rattle.mx_row.specs.Limits.{max_transaction_size, rows_size}
 use Rattle.mx_row.specs.Rows.{IsRow, IsTransaction, replace_row}
 use Rattle.mx_row.proofs.SizeLaws.{tuple_size}
 use Rattle.mx_request.specs.Spelling.{IsInnerArray}
@@ -56,11 +58,18 @@ abbrev pub first_tx : List Row → Tx
 first_tx rows = record { replica = record { 0 = 1 }; first = record { 0 = 1 }; rows = rows }
 
 pub first_is_transaction : (rows : List Row) (tuple : List ℕ) → tuple ≡ first_tuple → rows ≡ replace_row 512 tuple ∷ [] → IsTransaction (first_tx rows)
-first_is_transaction rows tuple same only = record {
-  replica = omega arith;
-  first = (omega arith, omega arith);
-  row = (replace_row 512 tuple, only, subst (λ bytes. IsRow (replace_row 512 bytes)) (sym same) first_is_row);
-}
+first_is_transaction rows tuple same only =
+    let is = subst (λ bytes. IsRow (replace_row 512 bytes)) (sym same) first_is_row in
+    let count = ap length only in
+    let short : rows_size (replace_row 512 tuple ∷ []) ≤ max_transaction_size = let body = is.short in omega arith in
+    record {
+      replica = omega arith;
+      lsns = (omega arith, omega (arith, count));
+      some = omega (arith, count);
+      rows = subst (AllByRecursion IsRow) (sym only) (is, tt);
+      few = omega (arith, count);
+      short = subst (λ r. rows_size r ≤ max_transaction_size) (sym only) short;
+    }
 
 -- an empty directory has no newer file
 pub newest_of_none : (name : List ℕ) → IsNewest name no_files
