@@ -17,7 +17,7 @@ use Rattle.mx_space.specs.declared.view.SpaceView.{SpaceView}
 use Rattle.mx_space.specs.Built.{AreLong}
 use Rattle.mx_space.specs.Kept.{HoldsOneEach, StoresIndexed}
 use Rattle.mx_space.specs.Overlays.{StoresOver, under}
-use Rattle.mx_space.specs.OwnChanges.{HoldsOwnIn, HoldsView, Shows, overlaid_in, written_by}
+use Rattle.mx_space.specs.OwnChanges.{HoldsOwnIn, HoldsView, ShowsTuples, overlaid_in, written_by}
 use Rattle.mx_space.specs.Reserves.{PlainChange}
 use Rattle.mx_space.specs.Spaces.{space_under}
 use Rattle.mx_space.specs.Stored.{HoldsSpace}
@@ -38,7 +38,7 @@ stores_over schemas (Some overlay) own space holds = holds.each space
 module _ (view : StateView) (seen : State) (holds : HoldsView view seen) (id : ℕ) where
   -- a space that is there is shown under its own writes
   pub shows_space : (space : SpaceView) → Some space.space.now ≡ space_under id view.state.now.spaces.entries.items → option_copied space.over ≡ overlaid_in id (option_copied view.over)
-      → Shows (schema_of seen id) space (tuples_in seen id)
+      → ShowsTuples (schema_of seen id) space (tuples_in seen id)
   shows_space space there over = record {
     all = tuples_in holds.base id;
     written = written_by id holds.own;
@@ -78,7 +78,7 @@ shown_long schema all tuples stored shown = by_index (index_with 0 schema.indexe
         whole some stands = stand_whole primary.key (entries some) (subst (λ o. IfSome o (λ def. StandByKey def.key some)) is stands)
 
 -- what a SELECT by an index of a space needs of what is stored and what is shown
-module _ (schema : Option Schema) (view : SpaceView) (tuples : Tuples) (shows : Shows schema view tuples) where
+module _ (schema : Option Schema) (view : SpaceView) (tuples : Tuples) (shows : ShowsTuples schema view tuples) where
   keyed : (some : Tuples) → AreKeyed schema some → AreKeyed (Some view.space.now.schema) some
   keyed some are = subst (λ s. AreKeyed s some) shows.sees.state.holds.is are
 

@@ -62,7 +62,7 @@ pub record HoldsView (view : StateView) (seen : State) : Type 0 where
   pub plain : AreNoDescriptions own
 
 -- a view of a space that is described so shows these tuples: those of a sound state, under writes that leave it sound
-pub record Shows (schema : Option Schema) (view : SpaceView) (tuples : Tuples) : Type 0 where
+pub record ShowsTuples (schema : Option Schema) (view : SpaceView) (tuples : Tuples) : Type 0 where
   pub all : Tuples
   pub written : OwnWrites
   pub sees : Sees schema view all written
@@ -73,4 +73,4 @@ pub record Shows (schema : Option Schema) (view : SpaceView) (tuples : Tuples) :
 -- what a view shows of a space, where there is one
 abbrev pub ShowsSpace : (schema : Option Schema) → Option SpaceView → Tuples → Type 0
 ShowsSpace schema None tuples = StoresNone schema tuples
-ShowsSpace schema (Some view) tuples = Shows schema view tuples
+ShowsSpace schema (Some view) tuples = ShowsTuples schema view tuples

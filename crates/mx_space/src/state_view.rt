@@ -8,7 +8,7 @@ ghost use Rattle.mx_schema.specs.Catalogues.{index_with, schema_of};
 ghost use Rattle.mx_schema.specs.Picks.{entries_of, tuples_by_index};
 ghost use Rattle.mx_schema.specs.State as plain;
 ghost use Rattle.mx_schema.specs.State.{tuples_in};
-ghost use Rattle.mx_space.specs.OwnChanges.{HoldsView, Shows, ShowsSpace, overlaid_in};
+ghost use Rattle.mx_space.specs.OwnChanges.{HoldsView, ShowsTuples, ShowsSpace, overlaid_in};
 ghost use Rattle.mx_space.specs.Scans.{SelectsByKey};
 ghost use Rattle.mx_space.specs.Stored.{Holds};
 
@@ -70,7 +70,7 @@ impl<'a> StateView<'a> {
         found: &mut Tuples,
     ) -> Result<Option<KeyRange>, SelectFault>
         requires array { IsArray wanted.now.key.now }
-        ensures { (seen : plain.State) → HoldsView self.entry seen → Shows (schema_of seen id.0) space.entry (tuples_in seen id.0)
+        ensures { (seen : plain.State) → HoldsView self.entry seen → ShowsTuples (schema_of seen id.0) space.entry (tuples_in seen id.0)
             → index_with def.now.id.0 space.entry.space.now.schema.indexes ≡ Some def.now
             → SelectsByKey (entries_of seen id.0 def.now) def.now wanted.now found.new result }
     {

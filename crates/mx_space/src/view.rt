@@ -17,7 +17,7 @@ ghost use Rattle.mx_space.specs.Builds.{build_fault};
 ghost use Rattle.mx_space.specs.Built.{AreLong};
 ghost use Rattle.mx_space.specs.Kept.{HoldsOneEach, StoresIndexed};
 ghost use Rattle.mx_space.specs.Overlays.{IsHolder, OwnWrites, Sees, StoresWritten, under};
-ghost use Rattle.mx_space.specs.OwnChanges.{Shows};
+ghost use Rattle.mx_space.specs.OwnChanges.{ShowsTuples};
 ghost use Rattle.mx_space.specs.Scans.{SelectsByKey};
 
 use crate::build::BuildFault;
@@ -51,7 +51,7 @@ impl<'a> SpaceView<'a> {
     pub fn tuple(self, key: &Bytes) -> Option<&'a [u8]>
         ensures sees { (schema : Option described.Schema) (all : plain.Tuples) (written : OwnWrites) (wanted : Key) → Sees schema self.entry all written
             → AreFit wanted → key.now ≡ comparable_of wanted → option_copied result ≡ finite.get (under written all) wanted }
-        ensures shown { (schema : Option described.Schema) (tuples : plain.Tuples) (wanted : Key) → Shows schema self.entry tuples
+        ensures shown { (schema : Option described.Schema) (tuples : plain.Tuples) (wanted : Key) → ShowsTuples schema self.entry tuples
             → AreFit wanted → key.now ≡ comparable_of wanted → option_copied result ≡ finite.get tuples wanted }
     {
         let Some(over) = self.over else {
@@ -71,7 +71,7 @@ impl<'a> SpaceView<'a> {
             → index_with 0 self.entry.space.now.schema.indexes ≡ Some primary → index_with def.now.id.0 self.entry.space.now.schema.indexes ≡ Some def.now
             → HoldsOneEach def.now all → HoldsOneEach def.now (under written all) → AreFit wanted → key.now ≡ comparable_of wanted
             → option_copied result ≡ finite.get (tuples_by_index def.now (under written all)) wanted }
-        ensures shown { (schema : Option described.Schema) (tuples : plain.Tuples) (wanted : Key) → Shows schema self.entry tuples
+        ensures shown { (schema : Option described.Schema) (tuples : plain.Tuples) (wanted : Key) → ShowsTuples schema self.entry tuples
             → index_with def.now.id.0 self.entry.space.now.schema.indexes ≡ Some def.now → (def.now.id.0 ≡ 0) ⊎ (def.now.unique ≡ true)
             → AreFit wanted → key.now ≡ comparable_of wanted → option_copied result ≡ finite.get (tuples_by_index def.now tuples) wanted }
     {
@@ -110,7 +110,7 @@ impl<'a> SpaceView<'a> {
     /// # Errors
     /// As of `Space::add_index`.
     pub fn check_index(self, alloc: Global, def: &IndexDef) -> Result<(), BuildFault>
-        ensures { (schema : Option described.Schema) (tuples : plain.Tuples) → Shows schema self.entry tuples → self.entry.over ≡ None
+        ensures { (schema : Option described.Schema) (tuples : plain.Tuples) → ShowsTuples schema self.entry tuples → self.entry.over ≡ None
             → (def.now.id.0 ≡ 0 → tuples ≡ finite.empty) → (def.now.id.0 ≢ 0 → index_with 0 self.entry.space.now.schema.indexes ≢ None)
             → MatchResult result
             (λ _. build_fault def.now tuples ≡ None)

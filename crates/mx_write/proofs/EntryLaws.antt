@@ -21,7 +21,7 @@ use Rattle.mx_schema.specs.State.{State, Tuples, key_in, tuples_in}
 use Rattle.mx_schema.specs.Stored.{StandByPrimary}
 use Rattle.mx_write.specs.declared.scope.Target.{Target}
 use Rattle.mx_schema.proofs.DescribedLaws.{its_keyed}
-use Rattle.mx_space.specs.OwnChanges.{Shows}
+use Rattle.mx_space.specs.OwnChanges.{ShowsTuples}
 use Rattle.mx_write.specs.Lookup.{entry_under, holder_of, is_unique}
 use Rattle.mx_write.specs.Steps.{IsKeyOf, IsTarget}
 
@@ -66,7 +66,7 @@ module _ (before : State) (target : Target) (is : IsTarget before target) where
 
   -- a lookup finds what the definition says
   pub held_so : (def : IndexDef) (wanted : Key) (key : List ℕ) (found : Option (List ℕ)) → index_with def.id.0 target.schema.now.indexes ≡ Some def → is_unique def ≡ true
-      → ((schema : Option Schema) (tuples : Tuples) → Shows schema target.stored tuples → index_with def.id.0 target.stored.space.now.schema.indexes ≡ Some def
+      → ((schema : Option Schema) (tuples : Tuples) → ShowsTuples schema target.stored tuples → index_with def.id.0 target.stored.space.now.schema.indexes ≡ Some def
       → (def.id.0 ≡ 0) ⊎ (def.unique ≡ true) → found ≡ get (tuples_by_index def tuples) wanted)
       → found ≡ holder_of before space def wanted
   held_so def wanted key found there unique told =

@@ -9,7 +9,7 @@ use Rattle.mx_schema.specs.declared.index_def.IndexDef.{IndexDef}
 use Rattle.mx_schema.specs.declared.schema.Schema.{Schema}
 use Rattle.mx_schema.specs.Catalogues.{index_with, schema_of}
 use Rattle.mx_schema.specs.State.{State, tuples_in}
-use Rattle.mx_space.specs.OwnChanges.{Shows}
+use Rattle.mx_space.specs.OwnChanges.{ShowsTuples}
 use Rattle.mx_write.specs.declared.made.Made as code
 use Rattle.mx_write.specs.declared.scope.Target.{Target}
 use Rattle.mx_write.specs.Lookup.{the_index, the_space}
@@ -103,7 +103,7 @@ module _ (space : ℕ) (schema : Schema) (index : IndexId) where
 
 -- a space that was found, with its primary index
 pub is_target : (before : State) (target : Target) → SeesState before target.scope
-    → Shows (schema_of before target.scope.space.0) target.stored (tuples_in before target.scope.space.0)
+    → ShowsTuples (schema_of before target.scope.space.0) target.stored (tuples_in before target.scope.space.0)
     → target.schema.now ≡ target.stored.space.now.schema → index_with 0 target.schema.now.indexes ≡ Some target.primary.now → IsTarget before target
 is_target before target sees stored same there = record {
   holds = sees.holds;

@@ -11,7 +11,7 @@ use Rattle.mx_schema.specs.declared.schema.Schema.{Schema}
 use Rattle.mx_schema.specs.Catalogues.{index_with, schema_of}
 use Rattle.mx_schema.specs.IndexRows.{index_in}
 use Rattle.mx_schema.specs.State.{State, index_rows, key_in, tuples_in}
-use Rattle.mx_space.specs.OwnChanges.{HoldsView, Shows}
+use Rattle.mx_space.specs.OwnChanges.{HoldsView, ShowsTuples}
 use Rattle.mx_write.specs.declared.scope.Scope.{Scope}
 use Rattle.mx_write.specs.declared.scope.Target.{Target}
 use Rattle.mx_write.specs.declared.writable.Writer.{Writer}
@@ -54,7 +54,7 @@ pub record SeesState (before : State) (scope : Scope) : Type 0 where
 pub record IsTarget (before : State) (target : Target) : Type 0 where
   pub holds : HoldsView target.scope.view before
   pub alone : describes_schema target.scope.space.0 ≡ true → target.scope.view.over ≡ None
-  pub stored : Shows (schema_of before target.scope.space.0) target.stored (tuples_in before target.scope.space.0)
+  pub stored : ShowsTuples (schema_of before target.scope.space.0) target.stored (tuples_in before target.scope.space.0)
   pub schema : target.schema.now ≡ target.stored.space.now.schema
   pub primary : index_with 0 target.schema.now.indexes ≡ Some target.primary.now
 

@@ -9,7 +9,7 @@ ghost use Rattle.mx_msgpack.specs.Items.{IsArray};
 ghost use Rattle.mx_schema.specs.Catalogues.{index_with, schema_of};
 ghost use Rattle.mx_schema.specs.State as plain;
 ghost use Rattle.mx_schema.specs.State.{tuples_in};
-ghost use Rattle.mx_space.specs.OwnChanges.{HoldsView, Shows};
+ghost use Rattle.mx_space.specs.OwnChanges.{HoldsView, ShowsTuples};
 ghost use Rattle.mx_write.specs.Lookup as lookup;
 ghost use Rattle.mx_write.specs.Lookup.{is_unique, the_key, the_unique_index};
 ghost use Rattle.mx_write.specs.Makes.{IsRefusedBy};
@@ -36,7 +36,7 @@ pub fn not_built(kind: u8) -> Refusal
 /// The refusal of a statement on it, where there is none.
 pub fn find_space(view: StateView<'_>, id: SpaceId) -> Result<SpaceView<'_>, Refusal>
     ensures { (before : plain.State) → HoldsView view.entry before → MatchResult result
-        (λ space. Shows (schema_of before id.0) space (tuples_in before id.0))
+        (λ space. ShowsTuples (schema_of before id.0) space (tuples_in before id.0))
         (λ refusal. (schema_of before id.0 ≡ None) × (refusal ≡ SpaceMissing id)) }
 {
     match view.space(id) {
