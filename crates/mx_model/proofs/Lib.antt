@@ -30,7 +30,14 @@ pub mod SlowListLaws
 pub mod SlowBuildLaws
 pub mod SlowSiteLaws
 pub mod SlowMakeLaws
-pub mod SlowWriteLaws
+pub mod SlowAnswerLaws
+pub mod SlowCopyLaws
+pub mod ReadFitLaws
+pub mod SlowTouchLaws
+pub mod SlowRunLaws
+pub mod SlowStandingLaws
+pub mod SlowNameLaws
+pub mod SlowStreamLaws
 pub mod SlowStageLaws
 pub mod SlowReadLaws
 pub mod FrameReads

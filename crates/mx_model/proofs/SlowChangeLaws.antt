@@ -7,8 +7,8 @@ use Rattle.mx_schema.specs.Catalogues.{index_with}
 use Rattle.mx_schema.specs.State.{State, key_in}
 use Rattle.mx_write.specs.Installs.{MayChange}
 use Rattle.mx_write.proofs.EachSpaceLaws.{OfSpace}
-use Rattle.mx_model.specs.declared.slow.SlowSpace.{SlowSpace}
-use Rattle.mx_model.specs.Slow.{KeepsSpace}
+use Rattle.mx_model.specs.declared.slow_state.SlowSpace.{SlowSpace}
+use Rattle.mx_model.specs.SlowState.{KeepsSpace}
 
 -- what the program has of each space
 abbrev pub kept : (spaces : ℕ → Option SlowSpace) → OfSpace

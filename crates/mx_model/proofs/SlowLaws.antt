@@ -8,20 +8,12 @@ use Rattle.std.proofs.lemmas.Bool.{eqb-true}
 use Rattle.std.proofs.lemmas.Bool.Decides.{nat_tests}
 use Rattle.std.proofs.lemmas.List.{drop_all}
 use Rattle.std.proofs.Math.Seq.{drop-cons}
-use Rattle.mx_base.specs.declared.ids.IndexId.{IndexId}
-use Rattle.mx_base.specs.declared.ids.SpaceId.{SpaceId}
-use Rattle.mx_base.specs.declared.ids.TxnName.{TxnName}
-use Rattle.mx_base.specs.declared.refusal.Refusal.TheVariants.{ReadOnly}
-use Rattle.mx_request.specs.declared.request.Ask.TheVariants as ask
-use Rattle.mx_request.specs.declared.request.Request.{Request}
-use Rattle.mx_request.specs.declared.request.Request.TheVariants as request
 use Rattle.mx_key.specs.declared.edge.KeyRange.{KeyRange}
 use Rattle.mx_key.specs.declared.iterator.IterKind.{IterKind}
 use Rattle.mx_key.specs.Comparable.{comparable_of, edges_of}
 use Rattle.mx_key.specs.Keys.{Key, AreFit}
 use Rattle.mx_key.specs.Ranges.{range_of}
 use Rattle.mx_key.proofs.RangeLaws.{range_holds}
-use Rattle.mx_row.specs.Clocks.{clock_after}
 use Rattle.mx_schema.specs.declared.index_def.IndexDef.{IndexDef}
 use Rattle.mx_schema.specs.declared.keyed.Keyed.{Keyed}
 use Rattle.mx_space.specs.declared.pick.Pick.{Pick}
@@ -39,18 +31,9 @@ use Rattle.mx_space.proofs.PickLaws as picks
 use Rattle.mx_space.proofs.PickLaws.{fit_ends}
 use Rattle.mx_schema.proofs.StateLaws.{stands_after, stands_left, tuples_set}
 use Rattle.mx_schema.proofs.StoredLaws.{PartIndexed, one_indexed, all_indexed, stores_none}
-use Rattle.mx_model.specs.declared.reply.Reply.{Reply}
-use Rattle.mx_model.specs.declared.reply.Reply.TheVariants.{Refused}
-use Rattle.mx_model.specs.declared.slow.Slow.{Slow}
-use Rattle.mx_model.specs.declared.slow.SlowSpace.{SlowSpace}
-use Rattle.mx_model.specs.Answers.{answer_to}
-use Rattle.mx_model.specs.Histories.{Ledger, Asked, answer_in, commit_of, commits_of, is_out_of_memory, is_write, ledger_after, ledger_state, next_lsn, with_lsn, writable_node}
-use Rattle.mx_model.specs.Slow.{Answers, IsSlow, KeepsSpace, KeepsTuples, Takes}
+use Rattle.mx_model.specs.declared.slow_state.SlowSpace.{SlowSpace}
+use Rattle.mx_model.specs.SlowState.{KeepsSpace}
 use Rattle.mx_model.specs.SlowSteps.{Finds, Gathers, KeepsBy}
-use Rattle.mx_model.specs.Transactions.{state_after}
-use Rattle.mx_model.specs.statements.Answer.{Answer, refusal_alone}
-use Rattle.mx_model.specs.statements.Select.{iterator_of, select_answer_in}
-use Rattle.mx_model.proofs.HistoryLaws.{committed-no_row, select_no_row}
 
 -- ---- a tuple more, and one less
 
@@ -178,86 +161,3 @@ finds all wanted key kept range stores fit edges result gathers = by_result resu
     by_result (Ok tuples) (found, short) = (found ∙ picked, short)
     by_result (Err stop) (inl (long, above)) = inl (long, subst (λ t. max_result_size < total_bytes t) picked above)
     by_result (Err stop) (inr none) = inr none
-
--- ---- answers on a node
-
-abbrev read_only : Answer
-read_only = refusal_alone (ReadOnly (record { 0 = writable_node }))
-
-abbrev node_by : (refuses : Bool) → (lsn : ℕ) → Answer → Answer
-node_by refuses lsn answer = if refuses then read_only else with_lsn lsn answer answer.row
-
--- a step without a row changes nothing of what the program keeps
-stays_slow : (slow : Slow) (ledger : Ledger) (name : TxnName) (asked : Request) (reply : Reply) → (answer_in ledger name asked).row ≡ None
-    → IsSlow slow ledger → IsSlow slow (ledger_after ledger (Asked name (ask.Request asked) reply))
-stays_slow slow ledger name asked reply none is =
-    let without = is_out_of_memory reply in
-    let same : ledger.journal ++ commits_of ledger name (ask.Request asked) reply ≡ ledger.journal =
-    ap (λ row. ledger.journal ++ commit_of ledger.base.ids.me (next_lsn ledger) without row) none
-    ∙ ap (λ commits. ledger.journal ++ commits) (committed-no_row ledger.base.ids.me (next_lsn ledger) without)
-    ∙ append-nil ledger.journal in
-    record {
-      keeps = subst (λ journal. KeepsTuples slow (state_after ledger.base.state journal)) (sym same) is.keeps;
-      sound = subst (λ journal. IsSound (state_after ledger.base.state journal)) (sym same) is.sound;
-      clock = is.clock ∙ ap (clock_after ledger.base.clock) (sym same);
-      ids = is.ids;
-    }
-
--- the answer to a request is this one, which writes no row
-pub told_alone : (slow : Slow) (ledger : Ledger) (name : TxnName) (asked : Request) (answer : Answer) (reply : Reply) → IsSlow slow ledger
-    → answer_in ledger name asked ≡ answer → reply ≡ answer.reply → answer.row ≡ None → Answers slow ledger name asked reply
-told_alone slow ledger name asked answer reply is gives tells none = record {
-  told = tells ∙ sym (ap (λ a. a.reply) gives);
-  after = stays_slow slow ledger name asked reply (ap (λ a. a.row) gives ∙ none) is;
-}
-
--- the node may not be written
-pub slow_reads_only : (slow : Slow) (ledger : Ledger) (name : TxnName) (asked : Request) → IsSlow slow ledger → is_write asked ≡ true
-    → (slow.ids.me ≡ writable_node → ⊥) → Answers slow ledger name asked (Refused (ReadOnly (record { 0 = writable_node })))
-slow_reads_only slow ledger name asked is writes other =
-    let test : (is_write asked && not (ledger.base.ids.me == writable_node)) ≡ true =
-    ap (λ w. w && not (ledger.base.ids.me == writable_node)) writes
-    ∙ ap (λ ids. not (ids.me == writable_node)) (sym is.ids) ∙ ap not (ne_eqb slow.ids.me writable_node other) in
-    told_alone slow ledger name asked read_only _ is (ap (λ refuses. node_by refuses (next_lsn ledger) (answer_to (ledger_state ledger) asked)) test) refl refl
-
-takes_it : (slow : Slow) (ledger : Ledger) (asked : Request) → IsSlow slow ledger → Takes slow asked
-    → (is_write asked && not (ledger.base.ids.me == writable_node)) ≡ false
-takes_it slow ledger asked is (inl reads) = ap (λ w. w && not (ledger.base.ids.me == writable_node)) reads
-takes_it slow ledger asked is (inr here) =
-    ap (λ ids. is_write asked && not (ids.me == writable_node)) (sym is.ids)
-    ∙ ap (λ mine. is_write asked && not mine) (eq-eqb slow.ids.me writable_node here)
-    ∙ never (is_write asked)
-  where
-    never : (b : Bool) → (b && false) ≡ false
-    never true = refl
-    never false = refl
-
--- what it is answered then
-pub answer_taken : (slow : Slow) (ledger : Ledger) (name : TxnName) (asked : Request) (answer : Answer) → IsSlow slow ledger → Takes slow asked
-    → answer_to (ledger_state ledger) asked ≡ answer → answer_in ledger name asked ≡ with_lsn (next_lsn ledger) answer answer.row
-answer_taken slow ledger name asked answer is takes gives =
-    ap (λ refuses. node_by refuses (next_lsn ledger) (answer_to (ledger_state ledger) asked)) (takes_it slow ledger asked is takes)
-    ∙ ap (λ a. with_lsn (next_lsn ledger) a a.row) gives
-
--- a request that the node takes, and whose answer writes no row
-pub slow_is_told : (slow : Slow) (ledger : Ledger) (name : TxnName) → IsSlow slow ledger → (asked : Request) (answer : Answer) (reply : Reply)
-    → Takes slow asked → answer_to (ledger_state ledger) asked ≡ answer → reply ≡ answer.reply → answer.row ≡ None → Answers slow ledger name asked reply
-slow_is_told slow ledger name is asked answer reply takes gives tells none =
-    told_alone slow ledger name asked answer reply is
-    (answer_taken slow ledger name asked answer is takes gives ∙ ap (with_lsn (next_lsn ledger) answer) none) tells none
-
-pub slow_selects : {E : Type 0} (slow : Slow) (ledger : Ledger) (name : TxnName) → IsSlow slow ledger → (asked : Request) (space : SpaceId) (index : IndexId)
-    (limit offset iterator : ℕ) (key sought : List ℕ) (kind : IterKind) → asked ≡ request.Select space index limit offset iterator key → sought ≡ key
-    → kind ≡ iterator_of iterator → (result : Result Reply E)
-    → IfOk result (λ reply. reply ≡ (select_answer_in (ledger_state ledger) space.0 index.0 limit offset kind sought).reply)
-    → MatchResult result (λ reply. Answers slow ledger name asked reply) (λ _. IsSlow slow ledger)
-unfolding answer_to
-slow_selects slow ledger name is asked space index limit offset iterator key sought kind same sought_is kind_is (Err fault) tells = is
-slow_selects slow ledger name is asked space index limit offset iterator key sought kind same sought_is kind_is (Ok reply) tells =
-    let before = ledger_state ledger in
-    let answer : answer_to before asked ≡ select_answer_in before space.0 index.0 limit offset kind sought =
-    ap (answer_to before) same
-    ∙ ap (λ k. select_answer_in before space.0 index.0 limit offset k key) (sym kind_is)
-    ∙ ap (λ k. select_answer_in before space.0 index.0 limit offset kind k) (sym sought_is) in
-    slow_is_told slow ledger name is asked _ reply (inl (ap is_write same)) answer tells
-    (select_no_row before space.0 index.0 limit offset kind sought)

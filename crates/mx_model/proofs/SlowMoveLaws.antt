@@ -5,7 +5,7 @@ use Rattle.std.specs.Prelude.{Option, Some, ◌==◌}
 use Rattle.std.specs.BTreeMap.{is_at}
 use Rattle.mx_space.specs.declared.spaces.SpaceEntry.{SpaceEntry}
 use Rattle.mx_space.specs.Spaces.{space_under}
-use Rattle.mx_model.specs.declared.slow.SlowSpace.{SlowSpace}
+use Rattle.mx_model.specs.declared.slow_state.SlowSpace.{SlowSpace}
 use Rattle.mx_model.specs.SlowSteps.{IsMoved, MovesSpace}
 
 -- the last spaces were moved, and the others are still to come

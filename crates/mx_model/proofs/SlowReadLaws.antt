@@ -41,10 +41,10 @@ use Rattle.mx_write.specs.Judge.{judged_write}
 use Rattle.mx_write.specs.Made.{Made}
 use Rattle.mx_write.specs.Writes.{Write, write_in}
 use Rattle.mx_write.specs.Reads.{Read, index_read, schema_reads, space_read}
-use Rattle.mx_model.specs.declared.slow.Slow.{Slow}
+use Rattle.mx_model.specs.declared.slow_state.SlowState.{SlowState}
 use Rattle.mx_model.specs.Answers.{answer_to}
-use Rattle.mx_model.specs.Histories.{Ledger, answer_in, is_write, ledger_state, next_lsn, with_lsn, writable_node}
-use Rattle.mx_model.specs.Slow.{IsSlow, Takes}
+use Rattle.mx_model.specs.SlowTouches.{AreFitReads, IsFitRange}
+use Rattle.mx_model.proofs.ReadFitLaws.{fit_both, range_fit}
 use Rattle.mx_model.specs.SlowReads.{read_view, reads_view}
 use Rattle.mx_model.specs.SlowReadSteps.{scan_read}
 use Rattle.mx_model.specs.SelectSteps.{TakesKey}
@@ -52,7 +52,6 @@ use Rattle.mx_model.specs.statements.Answer.{Answer, refusal_after, refusal_alon
 use Rattle.mx_model.specs.statements.Select.{iterator_of, range_reads, select_answer_in}
 use Rattle.mx_model.specs.statements.Write.{answer_of_outcome}
 use Rattle.mx_model.proofs.AnswerLaws.{result_is_too_long, tuples_are_picked, write_answered}
-use Rattle.mx_model.proofs.SlowLaws.{answer_taken}
 
 -- ---- the last tuple that is picked
 
@@ -160,6 +159,18 @@ module _ (before : State) (space index : ℕ) (wanted : Pick) (schema : Schema) 
           ap (λ a. a.reads)
           (tuples_are_picked before space index wanted.limit wanted.offset wanted.iterator wanted.key.now schema described def is taken fitting fits (ltb-false _ _ test))
 
+  -- in whose ends the numbers have 64 bits
+  pub select_fit : AreFitReads (schema_reads space) → IsFitRange (scan_read (entries_of before space def) wanted fitting) → AreFitReads selects.reads
+  select_fit first second =
+      subst AreFitReads (sym reads_range) (fit_both (schema_reads space) _ first (range_fit (source_of space) def.id.0 (scan_read (entries_of before space def) wanted fitting) second))
+
+  pub select_reads_none : None ≡ option_map edges_of (scan_read (entries_of before space def) wanted fitting) → selects.reads ≡ schema_reads space
+  select_reads_none none = reads_range ∙ by_read (scan_read (entries_of before space def) wanted fitting) none
+    where
+      by_read : (o : Option Range) → None ≡ option_map edges_of o → schema_reads space ++ range_reads (source_of space) def.id.0 o ≡ schema_reads space
+      by_read None e = refl
+      by_read (Some range) e = absurd cc
+
   pub select_reads_range : (read : KeyRange) → Some read ≡ option_map edges_of (scan_read (entries_of before space def) wanted fitting)
       → reads_view selects.reads ≡ read_view (space_read space) ∷ read_view (index_read space) ∷ record { space = record { 0 = source_of space }; index = def.id; range = read } ∷ []
   select_reads_range read e = ap reads_view reads_range ∙ by_read (scan_read (entries_of before space def) wanted fitting) e
@@ -172,50 +183,23 @@ module _ (before : State) (space index : ℕ) (wanted : Pick) (schema : Schema) 
           ap (λ (r : KeyRange). read_view (space_read space) ∷ read_view (index_read space) ∷ record { space = record { 0 = source_of space }; index = def.id; range = r } ∷ [])
           (sym (same_some read (edges_of range) e))
 
--- ---- what a node reads
+-- ---- what a statement reads
 
-abbrev node_by : (refuses : Bool) → (lsn : ℕ) → Answer → Answer
-node_by refuses lsn answer = if refuses then refusal_alone (ReadOnly (record { 0 = writable_node })) else with_lsn lsn answer answer.row
-
-with_lsn_reads : (lsn : ℕ) (answer : Answer) (row : Option Row) → (with_lsn lsn answer row).reads ≡ answer.reads
-with_lsn_reads lsn answer None = refl
-with_lsn_reads lsn answer (Some row) = by_test (nat_lt max_lsn lsn)
+pub written_reads : (before : State) (asked : Request) (space : ℕ) (write : Write) → write_in asked ≡ Some (space, write)
+    → (answer_to before asked).reads ≡ (judged_write Client before space write).reads
+written_reads before asked space write writes =
+    let judged = judged_write Client before space write in
+    ap (λ a. a.reads) (write_answered before asked space write writes) ∙ by_outcome judged.reads judged.outcome
   where
-    by_test : (used_up : Bool) → (if used_up then refusal_after answer.reads LsnsUsedUp else answer).reads ≡ answer.reads
-    by_test true = refl
-    by_test false = refl
+    by_outcome : (reads : List Read) (outcome : Result Made Refusal) → (answer_of_outcome reads outcome).reads ≡ reads
+    by_outcome reads (Ok made) = refl
+    by_outcome reads (Err refusal) = refl
 
-module _ (slow : Slow) (ledger : Ledger) (name : TxnName) (is : IsSlow slow ledger) (asked : Request) where
-  -- nothing, where it may not be written
-  pub read_only_reads : is_write asked ≡ true → (slow.ids.me ≡ writable_node → ⊥) → (answer_in ledger name asked).reads ≡ []
-  read_only_reads writes other =
-      let test : (is_write asked && not (ledger.base.ids.me == writable_node)) ≡ true =
-      ap (λ w. w && not (ledger.base.ids.me == writable_node)) writes
-      ∙ ap (λ ids. not (ids.me == writable_node)) (sym is.ids) ∙ ap not (ne_eqb slow.ids.me writable_node other) in
-      ap (λ refuses. (node_by refuses (next_lsn ledger) (answer_to (ledger_state ledger) asked)).reads) test
-
-  module _ (takes : Takes slow asked) where
-    -- what its statement reads
-    pub reads_taken : (answer : Answer) → answer_to (ledger_state ledger) asked ≡ answer → (answer_in ledger name asked).reads ≡ answer.reads
-    reads_taken answer gives = ap (λ a. a.reads) (answer_taken slow ledger name asked answer is takes gives) ∙ with_lsn_reads (next_lsn ledger) answer answer.row
-
-    pub write_reads_taken : (space : ℕ) (write : Write) → write_in asked ≡ Some (space, write)
-        → (answer_in ledger name asked).reads ≡ (judged_write Client (ledger_state ledger) space write).reads
-    write_reads_taken space write writes =
-        let judged = judged_write Client (ledger_state ledger) space write in
-        reads_taken (answer_of_outcome judged.reads judged.outcome) (write_answered (ledger_state ledger) asked space write writes) ∙ by_outcome judged.reads judged.outcome
-      where
-        by_outcome : (reads : List Read) (outcome : Result Made Refusal) → (answer_of_outcome reads outcome).reads ≡ reads
-        by_outcome reads (Ok made) = refl
-        by_outcome reads (Err refusal) = refl
-
-  pub select_reads_taken : (space : SpaceId) (index : IndexId) (limit offset iterator : ℕ) (key sought : List ℕ) (kind : IterKind) → asked ≡ request.Select space index limit offset iterator key
-      → sought ≡ key → kind ≡ iterator_of iterator
-      → (answer_in ledger name asked).reads ≡ (select_answer_in (ledger_state ledger) space.0 index.0 limit offset kind sought).reads
-  unfolding answer_to
-  select_reads_taken space index limit offset iterator key sought kind same sought_is kind_is =
-      let before = ledger_state ledger in
-      reads_taken (inl (ap is_write same)) (select_answer_in before space.0 index.0 limit offset kind sought)
-      (ap (answer_to before) same
-      ∙ ap (λ k. select_answer_in before space.0 index.0 limit offset k key) (sym kind_is)
-      ∙ ap (λ k. select_answer_in before space.0 index.0 limit offset kind k) (sym sought_is))
+pub selected_reads : (before : State) (asked : Request) (space : SpaceId) (index : IndexId) (limit offset iterator : ℕ) (key sought : List ℕ) (kind : IterKind)
+    → asked ≡ request.Select space index limit offset iterator key → sought ≡ key → kind ≡ iterator_of iterator
+    → (answer_to before asked).reads ≡ (select_answer_in before space.0 index.0 limit offset kind sought).reads
+unfolding answer_to
+selected_reads before asked space index limit offset iterator key sought kind same sought_is kind_is =
+    ap (λ a. (answer_to before a).reads) same
+    ∙ ap (λ k. (select_answer_in before space.0 index.0 limit offset k key).reads) (sym kind_is)
+    ∙ ap (λ k. (select_answer_in before space.0 index.0 limit offset kind k).reads) (sym sought_is)

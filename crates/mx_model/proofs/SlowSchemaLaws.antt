@@ -13,8 +13,8 @@ use Rattle.mx_schema.specs.Stored.{StandByPrimary, StoresSpace, StoresTuples, st
 use Rattle.mx_schema.proofs.StateLaws.{none_stand, tuples_set}
 use Rattle.mx_schema.proofs.StoredLaws.{stores_none}
 use Rattle.mx_space.proofs.AlterLaws.{stand_with, stand_without}
-use Rattle.mx_model.specs.declared.slow.SlowSpace.{SlowSpace}
-use Rattle.mx_model.specs.Slow.{KeepsSpace}
+use Rattle.mx_model.specs.declared.slow_state.SlowSpace.{SlowSpace}
+use Rattle.mx_model.specs.SlowState.{KeepsSpace}
 use Rattle.mx_model.specs.SlowSteps.{KeepsBy}
 use Rattle.mx_model.proofs.SlowLaws.{at_same}
 

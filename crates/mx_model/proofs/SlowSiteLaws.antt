@@ -22,7 +22,7 @@ use Rattle.mx_write.specs.Judged.{Judged, judged_as}
 use Rattle.mx_write.specs.Lookup.{entry_under, entry_with, holder_of, primary_key_of}
 use Rattle.mx_write.specs.Made.{Made}
 use Rattle.mx_write.specs.Makes.{IsRefusedBy}
-use Rattle.mx_model.specs.declared.slow.site.Site.{Site}
+use Rattle.mx_model.specs.declared.slow_state.site.Site.{Site}
 use Rattle.mx_model.specs.SlowWrites.{IsEntry, IsSite}
 
 -- a refusal of the same outcome

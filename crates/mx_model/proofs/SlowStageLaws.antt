@@ -1,5 +1,5 @@
 -- What the stages of a write read, as the plain slow program adds it up.
-use Rattle.std.proofs.Common.{◌≡◌, ◌⊎◌, inl, inr, ℕ, Bool, true, false, List, [], ◌∷◌, ◌++◌, length, Option, Some, None, Result, Ok, Err, refl, sym, ap, ◌∙◌, append-nil, append_assoc}
+use Rattle.std.proofs.Common.{◌≡◌, ◌⊎◌, inl, inr, ℕ, Bool, true, false, List, [], ◌∷◌, ◌++◌, length, Option, Some, None, Result, Ok, Err, refl, sym, ap, ◌∙◌, subst, append-nil, append_assoc}
 use Rattle.std.specs.Prelude.{IfOk, MatchResult, nat_lt, ◌||◌, if◌then◌else◌}
 use Rattle.std.specs.FinMap.{get}
 use Rattle.std.proofs.lemmas.List.{map-append}
@@ -31,27 +31,31 @@ use Rattle.mx_write.specs.Update.{key_change, put_in_place}
 use Rattle.mx_write.specs.Writable.{write_refusal}
 use Rattle.mx_write.specs.Writes.{Write, Delete, Insert}
 use Rattle.mx_write.proofs.UniqueLaws.{holder_is, number_is}
-use Rattle.mx_model.specs.declared.slow.read_ranges.ReadRange.{ReadRange}
+use Rattle.mx_model.specs.declared.slow_state.read_ranges.ReadRange.{ReadRange}
 use Rattle.mx_model.specs.SlowReads.{read_view, reads_view}
 use Rattle.mx_model.specs.SlowReadSteps.{AddsUpTo, HasAdded, StopsAfter}
+use Rattle.mx_model.specs.SlowTouches.{AreFitReads}
 use Rattle.mx_model.specs.SlowWrites.{in_writable}
+use Rattle.mx_model.proofs.ReadFitLaws.{fit_both}
 
 -- ---- what is added
 
 module _ (old mid new : List ReadRange) (rest whole : List Read) (upto : AddsUpTo old mid rest whole) where
   -- the last ones
-  pub added_all : (so_far : List Read) → rest ≡ so_far → new ≡ mid ++ reads_view so_far → HasAdded old new whole
-  added_all so_far is adds = adds ∙ ap (λ r. mid ++ reads_view r) (sym is) ∙ upto
+  pub added_all : (so_far : List Read) → rest ≡ so_far → HasAdded mid new so_far → HasAdded old new whole
+  added_all so_far is (adds, fit) = (adds ∙ ap (λ r. mid ++ reads_view r) (sym is) ∙ upto.0, upto.1 (subst AreFitReads (sym is) fit))
 
   -- none was left
   pub added_none : new ≡ mid → rest ≡ [] → HasAdded old new whole
-  added_none same is = same ∙ sym (append-nil mid) ∙ ap (λ r. mid ++ reads_view r) (sym is) ∙ upto
+  added_none same is = (same ∙ sym (append-nil mid) ∙ ap (λ r. mid ++ reads_view r) (sym is) ∙ upto.0, upto.1 (subst AreFitReads (sym is) tt))
 
   -- some, and others are left
-  pub adds_on : (so_far later : List Read) → rest ≡ so_far ++ later → new ≡ mid ++ reads_view so_far → AddsUpTo old new later whole
-  adds_on so_far later is adds =
-      ap (λ l. l ++ reads_view later) adds ∙ append_assoc mid (reads_view so_far) (reads_view later) ∙ ap (λ l. mid ++ l) (sym (map-append read_view so_far later))
-      ∙ ap (λ r. mid ++ reads_view r) (sym is) ∙ upto
+  pub adds_on : (so_far later : List Read) → rest ≡ so_far ++ later → HasAdded mid new so_far → AddsUpTo old new later whole
+  adds_on so_far later is (adds, fit) = (
+    ap (λ l. l ++ reads_view later) adds ∙ append_assoc mid (reads_view so_far) (reads_view later) ∙ ap (λ l. mid ++ l) (sym (map-append read_view so_far later))
+        ∙ ap (λ r. mid ++ reads_view r) (sym is) ∙ upto.0,
+    λ fits. upto.1 (subst AreFitReads (sym is) (fit_both so_far later fit fits)),
+  )
 
 -- as a call tells it that adds them
 abbrev pub Told : {X : Type 0} → Result X Refusal → (old new : List ReadRange) → (whole : List Read) → Type 0
@@ -64,7 +68,7 @@ told_all (Err why) old mid new rest whole upto (inr none) = inr none
 
 -- nothing was to be added
 pub none_added : (old : List ReadRange) (whole : List Read) → whole ≡ [] → HasAdded old old whole
-none_added old whole is = sym (append-nil old) ∙ ap (λ r. old ++ reads_view r) (sym is)
+none_added old whole is = (sym (append-nil old) ∙ ap (λ r. old ++ reads_view r) (sym is), subst AreFitReads (sym is) tt)
 
 -- a stage stops, or memory ran out
 pub by_refusal : (why : Refusal) (A B : Type 0) → (A → B) → A ⊎ (why ≡ OutOfMemory) → B ⊎ (why ≡ OutOfMemory)
@@ -154,23 +158,26 @@ module _ (before : State) (space type : ℕ) (named : Option (List ℕ)) where
   reads_where_taken (Some other) (Some refusal) schema is e rest = absurd cc
   reads_where_taken (Some other) None schema is e rest = ap (λ s. space_read space ∷ (rest s).reads) (same_some other schema is)
 
-  module _ (old new : List ReadRange) (adds : new ≡ old ++ read_view (space_read space) ∷ []) where
+  module _ (old new : List ReadRange) (adds : HasAdded old new (space_read space ∷ [])) where
     -- it isn't there, or can't be written so
     writable_stops : (why : Refusal) → ((rest : Schema → Judged Made) → IsRefusedBy why (writable rest)) → (rest : Schema → Judged Made) → StopsAfter why old new (writable rest).reads
     writable_stops why refuses rest = by_refusal (refuses (λ _. found nothing))
       where
         by_refusal : IsRefusedBy why (writable (λ _. found nothing)) → StopsAfter why old new (writable rest).reads
         by_refusal (inl e) =
-            inl (adds ∙ ap (λ r. old ++ reads_view r) (sym (reads_where_refused (schema_of before space) (write_refusal Client space type named) why e rest)))
+            let is = sym (reads_where_refused (schema_of before space) (write_refusal Client space type named) why e rest) in
+            inl (adds.0 ∙ ap (λ r. old ++ reads_view r) is, subst AreFitReads is adds.1)
         by_refusal (inr none) = inr none
 
     -- it is there, and can
     writable_goes_on : (schema : Schema) → schema_of before space ≡ Some schema → ((rest : Schema → Judged Made) → (writable rest).outcome ≡ (rest schema).outcome)
         → (rest : Schema → Judged Made) → AddsUpTo old new (rest schema).reads (writable rest).reads
     writable_goes_on schema is reaches rest =
-        ap (λ l. l ++ reads_view (rest schema).reads) adds ∙ append_assoc old (read_view (space_read space) ∷ []) (reads_view (rest schema).reads)
-        ∙ ap (λ r. old ++ reads_view r)
-        (sym (reads_where_taken (schema_of before space) (write_refusal Client space type named) schema is (reaches (λ _. found nothing)) rest))
+        let same = sym (reads_where_taken (schema_of before space) (write_refusal Client space type named) schema is (reaches (λ _. found nothing)) rest) in (
+          ap (λ l. l ++ reads_view (rest schema).reads) adds.0 ∙ append_assoc old (read_view (space_read space) ∷ []) (reads_view (rest schema).reads)
+              ∙ ap (λ r. old ++ reads_view r) same,
+          λ fits. subst AreFitReads same (adds.1.0, fits),
+        )
 
     -- as a call tells it that gives the space
     pub writable_told : {A : Type 0} (schema_in : A → Schema) (P : A → Type 0) → ((one : A) → P one → schema_of before space ≡ Some (schema_in one)) → (result : Result A Refusal)
@@ -302,13 +309,15 @@ module _ (before : State) (space : ℕ) (schema : Schema) (primary : IndexDef) (
 
   -- as a call tells it that then asks of the other indexes
   pub primary_adds : {E : Type 0} (result : Result (Unit {0}) E) (old mid new : List ReadRange) → get (tuples_in before space) (own_key primary tuple) ≡ None
-      → mid ≡ old ++ read_view (key_read space primary.id.0 (own_key primary tuple)) ∷ []
+      → HasAdded old mid (key_read space primary.id.0 (own_key primary tuple) ∷ [])
       → IfOk result (λ _. HasAdded mid new (are_free before space schema primary None tuple others).reads) → IfOk result (λ _. HasAdded old new all.reads)
   primary_adds (Err why) old mid new none adds told = tt
   primary_adds (Ok x) old mid new none adds told =
-      let rest = (are_free before space schema primary None tuple others).reads in
-      told ∙ ap (λ l. l ++ reads_view rest) adds ∙ append_assoc old (read_view (key_read space primary.id.0 (own_key primary tuple)) ∷ []) (reads_view rest)
-      ∙ ap (λ r. old ++ reads_view r) (sym (primary_free none))
+      let rest = (are_free before space schema primary None tuple others).reads in (
+        told.0 ∙ ap (λ l. l ++ reads_view rest) adds.0 ∙ append_assoc old (read_view (key_read space primary.id.0 (own_key primary tuple)) ∷ []) (reads_view rest)
+            ∙ ap (λ r. old ++ reads_view r) (sym (primary_free none)),
+        subst AreFitReads (sym (primary_free none)) (adds.1.0, told.1),
+      )
 
 -- ---- a write that ends with unique indexes
 

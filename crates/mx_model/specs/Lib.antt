@@ -17,9 +17,11 @@ pub mod Streams
 pub mod Survival
 pub mod SelectSteps
 pub mod Slow
+pub mod SlowState
 pub mod SlowSteps
 pub mod SlowWrites
 pub mod SlowReads
+pub mod SlowTouches
 pub mod SlowReadSteps
 pub mod Touches
 pub mod Frame

@@ -8,8 +8,9 @@ use Rattle.mx_space.specs.declared.pick.Pick.{Pick}
 use Rattle.mx_schema.specs.Picks.{Indexed, total_bytes, max_result_size}
 use Rattle.mx_space.specs.Scans.{picked_of}
 use Rattle.mx_write.specs.Reads.{Read}
-use Rattle.mx_model.specs.declared.slow.read_ranges.ReadRange.{ReadRange}
+use Rattle.mx_model.specs.declared.slow_state.read_ranges.ReadRange.{ReadRange}
 use Rattle.mx_model.specs.SlowReads.{reads_view}
+use Rattle.mx_model.specs.SlowTouches.{AreFitReads}
 
 -- what a scan of an index's entries by this key reads: all of the range where the tuples have too many bytes
 abbrev pub scan_read : List Indexed → Pick → Key → Option Range
@@ -19,11 +20,11 @@ scan_read all wanted key =
 
 -- all of these reads were added
 abbrev pub HasAdded : (old new : List ReadRange) → (whole : List Read) → Type 0
-HasAdded old new whole = new ≡ old ++ reads_view whole
+HasAdded old new whole = (new ≡ old ++ reads_view whole) × AreFitReads whole
 
 -- they were added but for these last ones
 abbrev pub AddsUpTo : (old new : List ReadRange) → (rest whole : List Read) → Type 0
-AddsUpTo old new rest whole = new ++ reads_view rest ≡ old ++ reads_view whole
+AddsUpTo old new rest whole = (new ++ reads_view rest ≡ old ++ reads_view whole) × (AreFitReads rest → AreFitReads whole)
 
 -- a statement stops, and all that it reads was added, or memory ran out
 abbrev pub StopsAfter : Refusal → (old new : List ReadRange) → (whole : List Read) → Type 0

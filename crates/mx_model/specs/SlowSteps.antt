@@ -1,5 +1,7 @@
 -- Only private functions and proofs need these: what the plain slow program makes of a state's spaces, and what it gathers.
 use Rattle.std.specs.Prelude.{◌≡◌, ◌⊎◌, ◌<◌, ◌≤◌, ⊤, ℕ, List, map, Option, Some, None, Result, MatchResult}
+use Rattle.std.specs.BTreeMap.{BTreeMap}
+use Rattle.std.specs.List.{AllZip}
 use Rattle.mx_key.specs.Keys.{Key}
 use Rattle.mx_space.specs.declared.pick.Pick.{Pick}
 use Rattle.mx_space.specs.declared.pick.SelectStop.{SelectStop}
@@ -12,8 +14,8 @@ use Rattle.mx_space.specs.Selecting.{IsStopped}
 use Rattle.mx_schema.specs.State.{State, tuples_in}
 use Rattle.mx_schema.specs.Stored.{StoredTuple, stored_list}
 use Rattle.mx_space.specs.declared.space.Space.{Space}
-use Rattle.mx_model.specs.declared.slow.SlowSpace.{SlowSpace}
-use Rattle.mx_model.specs.Slow.{KeepsSpace}
+use Rattle.mx_model.specs.declared.slow_state.SlowSpace.{SlowSpace}
+use Rattle.mx_model.specs.SlowState.{KeepsSpace}
 
 -- there are these spaces with the tuples of a state, where spaces are described so
 abbrev pub KeepsBy : (schemas : ℕ → Option Schema) → (spaces : ℕ → Option SlowSpace) → State → Type 0
@@ -44,3 +46,14 @@ abbrev pub Finds : List Indexed → Pick → Key → Result (List (List ℕ)) Se
 Finds all wanted key result = MatchResult result
     (λ tuples. (tuples ≡ (picked_of all wanted key).tuples) × (total_bytes tuples ≤ max_result_size))
     (λ stop. ((stop ≡ TooLong) × (max_result_size < total_bytes (picked_of all wanted key).tuples)) ⊎ (stop ≡ NoMemory))
+
+-- a space has the same as another one
+abbrev pub SameSpace : (one other : SlowSpace) → Type 0
+SameSpace one other = (one.schema ≡ other.schema) × (one.tuples.items ≡ other.tuples.items)
+
+abbrev pub SameEntry : (one other : ℕ × SlowSpace) → Type 0
+SameEntry one other = (one.0 ≡ other.0) × SameSpace one.1 other.1
+
+-- spaces by number have the same as others
+abbrev pub SameSpaces : (one other : BTreeMap ℕ SlowSpace) → Type 0
+SameSpaces one other = AllZip SameEntry one.entries other.entries

@@ -16,7 +16,7 @@ use Rattle.mx_write.specs.Lookup.{entry_with, the_index, the_key, the_primary, t
 use Rattle.mx_write.specs.Made.{Made}
 use Rattle.mx_write.specs.Reads.{key_read}
 use Rattle.mx_write.specs.Writable.{primary_name, write_refusal}
-use Rattle.mx_model.specs.declared.slow.site.Site.{Site}
+use Rattle.mx_model.specs.declared.slow_state.site.Site.{Site}
 
 -- a space that is there and has a primary index
 pub record IsSite (before : State) (site : Site) : Type 0 where

@@ -10,6 +10,7 @@ mod node;
 mod out_units;
 mod reply;
 mod slow;
+mod slow_state;
 mod statements;
 mod transaction_laws;
 mod txs;
@@ -26,7 +27,10 @@ pub use new_database::bootstrap;
 pub use node::{WRITABLE_NODE, is_write, next_lsn};
 pub use out_units::{OutUnit, OutUnits};
 pub use reply::Reply;
-pub use slow::{ReadRange, ReadRanges, Slow};
+pub use slow::Slow;
+pub use slow_state::{
+    ReadRange, ReadRanges, SlowAnswer, SlowState, SlowWrite, TouchedKey, TouchedKeys,
+};
 pub use statements::select::{iterator_of, misfit_refusal, part_count_refusal, takes_iterator};
 pub use transaction_laws::{
     a_commit_makes_what_its_statements_did, a_commit_moves_what_it_overlaps,

@@ -1,86 +1,67 @@
-//! The plain slow program: it keeps the tuples of a space in one list, and scans all of it.
+//! The plain slow program: it answers every request as the definitions say, and keeps the state after each
+//! commit.
 
-ghost use Rattle.std.specs.Prelude.{◌≡◌, ◌≢◌, ◌<◌, ◌≤◌, ◌∷◌, ℕ, List, [], Ok, Err, Option, Some, true, false, take, length, IfOk, IfSome, OnOk, OnErr, MatchOption, MatchResult};
-ghost use Rattle.std.specs.List.{All, slice_get};
-ghost use Rattle.std.specs.BTreeMap.{get_by, insert_entry};
-ghost use Rattle.std.specs.FinMap.{empty, entries};
-ghost use Rattle.std.specs.Ordering.{nat_cmp, is_lt};
-ghost use Rattle.std.specs.Cmp.Lexicographic.{slice_cmp};
-ghost use Rattle.mx_base.specs.declared.ids.TxnName.{TxnName};
-ghost use Rattle.mx_key.specs.Comparable.{comparable_of, edges_of};
-ghost use Rattle.mx_key.specs.Keys.{Key, AreFit};
-ghost use Rattle.mx_key.specs.Ranges.{range_of};
-ghost use Rattle.mx_schema.specs.declared.schema.Schema.{Schema};
-ghost use Rattle.mx_schema.specs.Catalogues.{index_with};
-ghost use Rattle.mx_schema.specs.Picks.{directed, indexed_with, tuples_by_index};
-ghost use Rattle.mx_schema.specs.State as plain;
-ghost use Rattle.mx_schema.specs.State.{key_in, source_of, tuples_in, with_tuple};
-ghost use Rattle.mx_schema.specs.Stored.{StoresTuples, stored_list};
-ghost use Rattle.mx_space.specs.Selecting.{found_in};
-ghost use Rattle.mx_space.specs.Spaces.{space_under};
+ghost use Rattle.std.specs.Prelude.{◌≡◌, [], IfOk, MatchResult};
 ghost use Rattle.mx_space.specs.Stored.{Holds};
-ghost use Rattle.mx_model.specs.statements.Select.{select_answer_in};
-ghost use Rattle.mx_model.specs.Histories.{Base, Ledger, is_write, ledger_of, writable_node};
-ghost use Rattle.mx_model.specs.Slow.{Answers, IsSlow, KeepsTuples, Takes};
-ghost use Rattle.mx_model.specs.SlowSteps.{Finds, Gathers, IsMoved, KeepsBy, MovesSpace};
+ghost use Rattle.mx_model.specs.Histories.{Base, CanBeAsked};
+ghost use Rattle.mx_model.specs.Slow.{Answers, IsSlow, statement_reads};
+ghost use Rattle.mx_model.specs.SlowReads.{HasRead};
+ghost use Rattle.mx_model.specs.Streams.{Streams, streams_left};
+ghost use Rattle.mx_model.specs.Transactions.{state_after};
 
-mod asked_key;
-mod changes;
-mod descriptions;
-mod duplicates;
-mod list;
-mod read_ranges;
-mod reads;
-mod schemas;
-mod site;
-mod updates;
-mod write_reads;
-mod writes;
+mod begin;
+mod commit;
+mod run;
+mod standing;
+mod statement;
+mod transactions;
 
 use crate::ids::Ids;
-use crate::node::{WRITABLE_NODE, is_write};
 use crate::reply::Reply;
-use crate::slow::asked_key::key_refusal;
-use crate::statements::select::iterator_of;
-use mx_base::{IndexId, Refusal, ReplicaId, SpaceId, TxnName};
-use mx_key::{KeyRange, range};
-use mx_msgpack::{Bytes, Tuples};
+use crate::slow::run::statement_reads;
+use crate::slow::transactions::SlowTransaction;
+use crate::slow_state::{ReadRanges, SlowState, TouchedKeys};
+use mx_base::{ConnId, TxnName};
 use mx_request::Request;
-use mx_schema::{IndexDef, Keyed, Schema, index_tuple, source_of};
-use mx_space::{MAX_RESULT_SIZE, Pick, SelectStop, Space, SpaceEntry, State};
+use mx_space::State;
 use mx_vclock::Vclock;
-use mx_write::{Write, index_missing, not_built};
-pub use read_ranges::{ReadRange, ReadRanges};
+use mx_write::not_built;
 use std::alloc::{AllocError, Global};
-use std::collections::BTreeMap;
 
-/// A database that keeps the tuples of each space in one list, by their primary keys, on one node.
+/// A database that keeps all that it was: its first state, and the state after each commit, each with the
+/// tuples of a space in one list.
 #[derive(Debug, Drop)]
 pub struct Slow {
     alloc: Global,
-    spaces: BTreeMap<u32, SlowSpace>,
-    clock: Vclock,
     ids: Ids,
+    clock: Vclock,
+    first: SlowState,
+    commits: Vec<SlowCommit>,
+    /// The newest first.
+    transactions: Vec<SlowTransaction>,
 }
 
-/// A space: what describes it, and its tuples in the order of their primary keys' bytes.
+/// A commit: the state after it, the keys that it touched, and whether it changed a space or an index.
 #[derive(Debug, Drop)]
-pub struct SlowSpace {
-    schema: Schema,
-    tuples: Vec<Keyed>,
+pub struct SlowCommit {
+    state: SlowState,
+    touched: TouchedKeys,
+    is_schema: bool,
 }
 
 impl Slow {
     /// A database that goes on from a state that has come to a vclock, on the node with these identifiers.
     pub fn new(alloc: Global, state: State, clock: Vclock, ids: Ids) -> Result<Slow, AllocError>
-        ensures { (base : Base) → Holds state base.state → clock ≡ base.clock → ids ≡ base.ids → IfOk result (λ slow. IsSlow slow (ledger_of base [])) }
+        ensures { (base : Base) → Holds state base.state → clock ≡ base.clock → ids ≡ base.ids
+            → IfOk result (λ slow. IsSlow slow (record { base = base; journal = []; transactions = [] })) }
     {
-        let spaces = move_spaces(alloc, state.into_spaces())?;
         Ok(Slow {
             alloc,
-            spaces,
-            clock,
             ids,
+            clock,
+            first: SlowState::new(alloc, state)?,
+            commits: Vec::new(alloc),
+            transactions: Vec::new(alloc),
         })
     }
 
@@ -88,277 +69,51 @@ impl Slow {
     ///
     /// # Errors
     /// Out of memory. The database is then as it was.
-    pub fn ask(&mut self, _name: TxnName, request: &Request) -> Result<Reply, AllocError>
-        ensures { (ledger : Ledger) → IsSlow self.old ledger → MatchResult result (λ reply. Answers self.new ledger _name request.now reply) (λ _. IsSlow self.new ledger) }
+    pub fn ask(&mut self, name: TxnName, request: &Request) -> Result<Reply, AllocError>
+        ensures { (streams : Streams) → IsSlow self.old streams → CanBeAsked request.now → MatchResult result
+            (λ reply. Answers self.new streams name request.now reply)
+            (λ _. IsSlow self.new streams) }
     {
-        if !self.takes(request) {
-            let writable = ReplicaId(WRITABLE_NODE);
-            return Ok(Reply::Refused(Refusal::ReadOnly { writable }));
-        }
         match request {
-            Request::Select {
-                space,
-                index,
-                limit,
-                offset,
-                iterator,
-                key,
-            } => {
-                let pick = Pick {
-                    iterator: iterator_of(*iterator),
-                    key: key.as_slice(),
-                    offset: *offset,
-                    limit: *limit,
-                };
-                self.select(*space, *index, &pick)
-            }
+            Request::Begin => self.begin(name),
+            Request::Commit => self.commit(name),
+            Request::Rollback => Ok(self.rollback(name)),
+            Request::Select { .. } => self.statement(name, request),
+            Request::Insert { .. } => self.statement(name, request),
+            Request::Replace { .. } => self.statement(name, request),
+            Request::Update { .. } => self.statement(name, request),
+            Request::Delete { .. } => self.statement(name, request),
+            Request::Upsert { .. } => self.statement(name, request),
             Request::Nop | Request::Ping => Ok(Reply::Empty),
             Request::Id => Ok(Reply::Id),
-            Request::Insert { space, tuple } => {
-                let tuple = tuple.as_slice();
-                self.write(*space, &Write::Insert { tuple })
+            Request::Join { .. } | Request::Subscribe { .. } | Request::Ack { .. } => {
+                Ok(Reply::Refused(not_built(request.kind())))
             }
-            Request::Replace { space, tuple } => {
-                let tuple = tuple.as_slice();
-                self.write(*space, &Write::Replace { tuple })
-            }
-            Request::Update {
-                space,
-                index,
-                base,
-                key,
-                ops,
-            } => {
-                let write = Write::Update {
-                    index: *index,
-                    base: *base,
-                    key: key.as_slice(),
-                    operations: ops.as_slice(),
-                };
-                self.write(*space, &write)
-            }
-            Request::Delete { space, index, key } => {
-                let write = Write::Delete {
-                    index: *index,
-                    key: key.as_slice(),
-                };
-                self.write(*space, &write)
-            }
-            Request::Upsert {
-                space,
-                base,
-                tuple,
-                ops,
-            } => {
-                let write = Write::Upsert {
-                    base: *base,
-                    tuple: tuple.as_slice(),
-                    operations: ops.as_slice(),
-                };
-                self.write(*space, &write)
-            }
-            Request::Begin
-            | Request::Commit
-            | Request::Rollback
-            | Request::Join { .. }
-            | Request::Subscribe { .. }
-            | Request::Ack { .. } => Ok(Reply::Refused(not_built(request.kind()))),
         }
     }
 
-    /// Every node takes reads; only one takes writes.
-    fn takes(&self, request: &Request) -> bool
-        ensures taken { result ≡ true → Takes self.now request.now }
-        ensures refused { result ≡ false → (is_write request.now ≡ true) × (self.now.ids.me ≢ writable_node) }
+    /// Drops the transactions of a connection that disconnects.
+    pub fn leave(&mut self, connection: ConnId)
+        ensures { (streams : Streams) → IsSlow self.old streams → IsSlow self.new (streams_left streams connection.0) }
     {
-        self.ids.me == WRITABLE_NODE || !is_write(request.kind())
+        self.transactions
+            .retain(|one| one.name.conn.0 != connection.0);
     }
 
-    fn select(&self, space: SpaceId, index: IndexId, pick: &Pick<'_>) -> Result<Reply, AllocError>
-        ensures { (state : plain.State) → KeepsTuples self.now state → IfOk result (λ reply. reply
-            ≡ (select_answer_in state space.0 index.0 pick.now.limit pick.now.offset pick.now.iterator pick.now.key.now).reply) }
+    /// What a statement by itself would read now, in order, a refused one's reads included; nothing where
+    /// the request is no statement.
+    ///
+    /// # Errors
+    /// Out of memory.
+    pub fn reads(&self, request: &Request) -> Result<ReadRanges, AllocError>
+        ensures { (streams : Streams) → IsSlow self.now streams → IfOk result (λ reads.
+            HasRead reads (statement_reads streams.base.ids (state_after streams.base.state streams.journal) request.now)) }
     {
-        let Some(found) = self.spaces.get(&space.0) else {
-            return Ok(Reply::Refused(Refusal::SpaceMissing { space }));
-        };
-        let Some(def) = found.schema.index(index) else {
-            let refusal = index_missing(self.alloc, index, &found.schema.def.name)?;
-            return Ok(Reply::Refused(refusal));
-        };
-        if let Some(refusal) = key_refusal(def, pick)? {
-            return Ok(Reply::Refused(refusal));
-        }
-        let range = range(self.alloc, &def.key, pick.iterator, pick.key)?;
-        match gather_by_index(self.alloc, def, self.tuples_of(space), &range, pick) {
-            Ok(tuples) => Ok(Reply::Tuples(tuples)),
-            Err(SelectStop::TooLong) => Ok(Reply::Refused(Refusal::ResultTooLong)),
-            Err(SelectStop::NoMemory) => Err(AllocError),
-        }
-    }
-
-    /// The tuples that a space shows: its own, or the rows of another one.
-    fn tuples_of(&self, space: SpaceId) -> &[Keyed]
-        ensures { (state : plain.State) → KeepsTuples self.now state → StoresTuples (stored_list result.now) (tuples_in state (source_of space.0)) }
-    {
-        match self.spaces.get(&source_of(space).0) {
-            Some(found) => found.tuples.as_slice(),
-            None => &[],
-        }
-    }
-}
-
-fn move_spaces(
-    alloc: Global,
-    mut left: Vec<SpaceEntry>,
-) -> Result<BTreeMap<u32, SlowSpace>, AllocError>
-    ensures { IfOk result (λ spaces. (space : ℕ) → IsMoved (space_under space left.items) (get_by (nat_cmp space) spaces)) }
-{
-    let mut spaces = BTreeMap::new(alloc);
-    while let Some(SpaceEntry { id, space }) = left.pop() {
-        spaces.insert(id.0, move_space(alloc, space)?)?;
-    }
-    Ok(spaces)
-}
-
-fn move_space(alloc: Global, space: Space) -> Result<SlowSpace, AllocError>
-    ensures { IfOk result (λ moved. MovesSpace space moved) }
-{
-    let (schema, mut left) = space.into_parts();
-    let mut tuples = Vec::new(alloc);
-    while let Some((key, tuple)) = left.pop_first() {
-        tuples.push(Keyed { key, tuple })?;
-    }
-    Ok(SlowSpace { schema, tuples })
-}
-
-/// Puts a tuple into a space, where that is there.
-pub(crate) fn put_into(
-    spaces: &mut BTreeMap<u32, SlowSpace>,
-    space: SpaceId,
-    keyed: Keyed,
-) -> Result<(), AllocError>
-    ensures ok { (schemas : ℕ → Option Schema) (state : plain.State) (schema : Schema) (key : Key) → KeepsBy schemas (λ q. get_by (nat_cmp q) spaces.old) state
-        → schemas space.0 ≡ Some schema → IfSome (index_with 0 schema.indexes) (λ def. key_in def.key keyed.tuple ≡ Ok key) → AreFit key → keyed.key ≡ comparable_of key
-        → OnOk result (KeepsBy schemas (λ q. get_by (nat_cmp q) spaces.new) (with_tuple state space.0 key keyed.tuple)) }
-    ensures err { (schemas : ℕ → Option Schema) (state : plain.State) → KeepsBy schemas (λ q. get_by (nat_cmp q) spaces.old) state
-        → OnErr result (KeepsBy schemas (λ q. get_by (nat_cmp q) spaces.new) state) }
-{
-    let Some(found) = spaces.get_mut(&space.0) else {
-        return Ok(());
-    };
-    put(&mut found.tuples, keyed)
-}
-
-/// Puts a tuple into a list, in the place of the one that has its key.
-fn put(kept: &mut Vec<Keyed>, keyed: Keyed) -> Result<(), AllocError>
-    ensures { MatchResult result
-        (λ _. stored_list kept.new.items ≡ insert_entry (slice_cmp nat_cmp) (stored_list kept.old.items) keyed.key keyed.tuple)
-        (λ _. kept.new.items ≡ kept.old.items) }
-{
-    let place = place_of(kept, &keyed.key);
-    match kept.get_mut(place) {
-        Some(found) if found.key == keyed.key => {
-            found.tuple = keyed.tuple;
-            Ok(())
-        }
-        _ => Ok(kept.insert(place, keyed)?),
-    }
-}
-
-fn place_of(kept: &[Keyed], key: &Bytes) -> usize
-    ensures within { result ≤ length kept.now }
-    ensures below { All (λ one. is_lt (slice_cmp nat_cmp one.key key.now) ≡ true) (take result kept.now) }
-    ensures there { IfSome (slice_get kept.now result) (λ one. is_lt (slice_cmp nat_cmp one.key key.now) ≡ false) }
-{
-    let mut place = 0;
-    for one in kept {
-        if one.key >= *key {
-            return place;
-        }
-        place += 1;
-    }
-    place
-}
-
-/// Copies what is picked of tuples by an index, whose range this is.
-fn gather_by_index(
-    alloc: Global,
-    def: &IndexDef,
-    kept: &[Keyed],
-    range: &KeyRange,
-    pick: &Pick<'_>,
-) -> Result<Tuples, SelectStop>
-    ensures { (all : plain.Tuples) (key : Key) → StoresTuples (stored_list kept.now) all → AreFit key → range.now ≡ edges_of (range_of pick.now.iterator key)
-        → Finds (entries (tuples_by_index def.now all)) pick.now key result }
-{
-    if def.id.0 == 0 {
-        return gather(alloc, kept, range, pick);
-    }
-    let indexed = index_tuples(alloc, def, kept)?;
-    gather(alloc, indexed.as_slice(), range, pick)
-}
-
-/// Copies of tuples under their keys in an index.
-pub(crate) fn index_tuples(
-    alloc: Global,
-    def: &IndexDef,
-    kept: &[Keyed],
-) -> Result<Vec<Keyed>, AllocError>
-    ensures { (all : plain.Tuples) → StoresTuples (stored_list kept.now) all
-        → IfOk result (λ indexed. StoresTuples (stored_list indexed.items) (indexed_with def.now empty (entries all))) }
-{
-    let mut indexed = Vec::new(alloc);
-    for one in kept {
-        let keyed = index_tuple(alloc, def, one.key.as_slice(), one.tuple.as_slice())?;
-        put(&mut indexed, keyed)?;
-    }
-    Ok(indexed)
-}
-
-pub(crate) fn gather(
-    alloc: Global,
-    kept: &[Keyed],
-    range: &KeyRange,
-    pick: &Pick<'_>,
-) -> Result<Tuples, SelectStop>
-    ensures { Gathers (found_in (stored_list kept.now) range.now pick.now.iterator pick.now.offset pick.now.limit) result }
-{
-    let down = pick.iterator.descends();
-    let mut tuples = Tuples::new(alloc);
-    let mut rest = kept;
-    let mut offset = pick.offset;
-    let mut left = pick.limit;
-    let mut bytes = 0;
-    while left > 0 {
-        let Some((one, others)) = next_of(rest, down) else {
-            return Ok(tuples);
-        };
-        rest = others;
-        if !range.holds(one.key.as_slice()) {
-            continue;
-        }
-        if offset > 0 {
-            offset -= 1;
-            continue;
-        }
-        if one.tuple.len() > MAX_RESULT_SIZE - bytes {
-            return Err(SelectStop::TooLong);
-        }
-        bytes += one.tuple.len();
-        tuples.push(one.tuple.as_slice())?;
-        left -= 1;
-    }
-    Ok(tuples)
-}
-
-pub(crate) fn next_of(kept: &[Keyed], down: bool) -> Option<(&Keyed, &[Keyed])>
-    ensures { MatchOption result
-        (kept.now ≡ [])
-        (λ next. directed down kept.now ≡ next.0.now ∷ directed down next.1.now) }
-{
-    if down {
-        kept.split_last()
-    } else {
-        kept.split_first()
+        statement_reads(
+            self.alloc,
+            self.state_at(self.commits.len()),
+            &self.ids,
+            request,
+        )
     }
 }
