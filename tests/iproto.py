@@ -185,12 +185,17 @@ def packet(header, body=None, width=4):
 
 def request(name, sync=None, stream=None, **fields):
     """The packet of a request, by its name or the number of its type. It has no body where it has no fields."""
+    return packet(*request_parts(name, sync, stream, **fields))
+
+
+def request_parts(name, sync=None, stream=None, **fields):
+    """The header of a request, and its body, or None where it has no fields."""
     header = {TYPE: TYPES.get(name, name), SYNC: sync, STREAM: stream}
     header = {key: value for key, value in header.items() if value is not None}
     if fields.get("iterator") in ITERATORS:
         fields["iterator"] = ITERATORS.index(fields["iterator"])
     keys = KEYS | {"operations": OPERATIONS.get(name)}
-    return packet(header, {keys[field]: value for field, value in fields.items()} or None)
+    return header, {keys[field]: value for field, value in fields.items()} or None
 
 
 def reply(sync, body, kind=0, schema=0):

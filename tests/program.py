@@ -8,7 +8,7 @@ import subprocess
 import sys
 from pathlib import Path
 
-from iproto import GREETING_BYTES, SEED, greeting
+from iproto import GREETING_BYTES, SEED, greeting, pack, request_parts
 
 ROOT = Path(__file__).resolve().parent.parent
 PROGRAM = str(ROOT / "vurandy")
@@ -16,6 +16,8 @@ EXAMPLE = ROOT / "examples" / "first-connection"
 TRACE = ["trace", "DIR"]
 # What a connection is sent first in a run with this seed on a new directory.
 GREETING = greeting(SEED)
+# The program that asks the plain slow one.
+HISTORIES = ROOT / "crates" / "mx_histories"
 # How long a client waits for bytes over TCP, and for the end of a run that listens.
 SECONDS_TO_WAIT = 5
 
@@ -31,6 +33,31 @@ def environment(seed):
     if seed is not None:
         variables["VURANDY_SEED"] = seed
     return variables
+
+
+def build_histories():
+    """Builds `mx_histories`, whose proof comes first."""
+    built = subprocess.run(["rt", "run"], cwd=HISTORIES, stdin=subprocess.DEVNULL, capture_output=True)
+    if built.returncode != 0:
+        sys.exit(built.stdout.decode(errors="replace") + built.stderr.decode(errors="replace"))
+
+
+def ask_line(connection, name, stream=None, **fields):
+    """The line that asks `mx_histories` for a request."""
+    header, body = request_parts(name, stream=stream, **fields)
+    return f"ask {connection} {pack(header).hex()} {'' if body is None else pack(body).hex()}"
+
+
+def history_answers(lines):
+    """What `mx_histories` answers to each of these lines."""
+    lines = list(lines)
+    ended = subprocess.run(
+        [HISTORIES / "out" / "mx_histories"], input="\n".join(lines).encode(), stdout=subprocess.PIPE
+    )
+    expect("status of mx_histories", 0, ended.returncode)
+    answers = ended.stdout.decode().splitlines()
+    expect("number of answers", len(lines), len(answers))
+    return answers
 
 
 class Listening:

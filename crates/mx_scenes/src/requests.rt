@@ -1,6 +1,6 @@
 //! Requests that are no statements, and those that aren't built yet.
 
-use crate::database::{Asked, NO_KEY, Step, Told, play_at, play_both};
+use crate::database::{Asked, Database, NO_KEY, Step, Told, play, play_at, play_both};
 use crate::harness::{Exchange, check_refusals};
 use std::test::Fail;
 
@@ -18,14 +18,26 @@ fn bare_requests_are_answered(rt: HostRuntime) -> Result<(), Fail> {
 
 const SEVEN: &[u8] = b"\x91\x07";
 
-/// Requests that aren't built yet, and that nothing was changed.
-const NOT_BUILT: &[Step<'static>] = &[
+/// Requests of transactions, which only the slow program answers yet.
+const OF_TRANSACTIONS: &[Step<'static>] = &[
     (Asked::Begin, Told::Refused(48, b"Unknown request type 14")),
     (Asked::Commit, Told::Refused(48, b"Unknown request type 15")),
     (
         Asked::Rollback,
         Told::Refused(48, b"Unknown request type 16"),
     ),
+    (Asked::Select(512, 0, NO_KEY), Told::Tuples(b"")),
+];
+
+#[test]
+fn an_engine_refuses_transactions(rt: HostRuntime) -> Result<(), Fail> {
+    let alloc = rt.alloc();
+    let mut engine = Database::engine(&rt, alloc)?;
+    Ok(play(&rt, alloc, &mut engine, OF_TRANSACTIONS)?)
+}
+
+/// Requests that aren't built yet, and that nothing was changed.
+const NOT_BUILT: &[Step<'static>] = &[
     (Asked::Join, Told::Refused(48, b"Unknown request type 65")),
     (
         Asked::Subscribe,

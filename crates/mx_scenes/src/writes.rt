@@ -117,7 +117,11 @@ fn a_journal_writes_rows_of_nodes(rt: HostRuntime) -> Result<(), Fail> {
     let scope = scope_in(&state, alloc, Writer::Journal, 320);
     for (tuple, inserted) in NODES {
         let array = array_or_empty(tuple);
-        assert_eq!(&rt; code_in(scope.insert(array, &mut Notes::off())), *inserted, "{tuple:?}");
+        assert_eq!(&rt;
+            code_in(scope.insert(array, &mut Notes::off())),
+            *inserted,
+            "{tuple:?}"
+        );
     }
     Ok(())
 }
