@@ -1,37 +1,21 @@
 -- That the numbers in the ends of what statements read have 64 bits.
-use Rattle.std.proofs.Common.{arith, ◌≡◌, ℕ, zero, suc, ◌<◌, ◌≤◌, ◌^◌, pos, Bool, true, false, List, [], ◌∷◌, ◌++◌, length, take, drop, Option, Some, None, Result, Ok, Err, refl, sym, ap, ◌∙◌, subst}
-use Rattle.std.specs.Prelude.{IfOk, reverse, nat_lt, ◌==◌, if◌then◌else◌}
-use Rattle.std.specs.FinMap.{empty, entries, get, insert}
+use Rattle.std.proofs.Common.{ℕ, zero, suc, Bool, true, false, List, [], ◌∷◌, ◌++◌, length, take, drop, Option, Some, None, Result, Ok, Err}
+use Rattle.std.specs.Prelude.{IfOk, nat_lt, ◌==◌, if◌then◌else◌}
+use Rattle.std.specs.FinMap.{entries}
 use Rattle.std.specs.List.{AllByRecursion, filter}
-use Rattle.mx_base.specs.declared.kinds.Unsupported.TheVariants.{HashIterator}
-use Rattle.mx_base.specs.declared.refusal.Refusal.{Refusal}
-use Rattle.mx_base.specs.declared.refusal.Refusal.TheVariants.{ResultTooLong, Unsupported}
-use Rattle.mx_key.specs.declared.fault.Misfit.{Misfit}
-use Rattle.mx_key.specs.declared.fault.NoKey.{NoKey}
 use Rattle.mx_key.specs.declared.iterator.IterKind.{IterKind}
-use Rattle.mx_key.specs.Keys.{Key, AreFit, Integer}
+use Rattle.mx_key.specs.Keys.{Key, AreFit}
 use Rattle.mx_key.specs.Ranges.{Range, AreFitEnds, descends, lies_in, range_of, range_until}
-use Rattle.mx_key.proofs.KeyArrayLaws.{key_again}
-use Rattle.mx_schema.specs.declared.index_def.IndexDef.{IndexDef}
-use Rattle.mx_schema.specs.declared.schema.Schema.{Schema}
-use Rattle.mx_schema.specs.Catalogues.{index_with, schema_of}
-use Rattle.mx_schema.specs.Picks.{Indexed, Selection, directed, entries_of, entry_key, indexed_with, last_key, max_result_size, pick, picked, range_read, total_bytes, tuples_by_index, up_to_last, window}
-use Rattle.mx_schema.specs.Sound.{AreKeyed, IsSound}
-use Rattle.mx_schema.specs.State.{State, Tuples, key_in, key_or_none, source_of, tuples_in}
-use Rattle.mx_schema.proofs.StoredLaws.{each_none, each_put}
+use Rattle.mx_schema.specs.Picks.{Indexed, directed, last_key, max_result_size, picked, range_read, total_bytes, up_to_last}
 use Rattle.mx_space.proofs.PickLaws.{fit_ends}
 use Rattle.mx_space.specs.declared.pick.Pick.{Pick}
 use Rattle.mx_space.specs.Scans.{picked_of}
 use Rattle.mx_model.specs.SlowReadSteps.{scan_read}
 use mathlib.Core.List.{reverse_aux}
-use Rattle.mx_write.specs.declared.writable.Writer.TheVariants.{Client}
-use Rattle.mx_write.specs.Judge.{judged_write}
-use Rattle.mx_write.specs.Judged.{Judged, found, judged_as, next_stage, reads_of, stopped, unless}
-use Rattle.mx_write.specs.Reads.{Read, index_read, key_read, schema_reads, space_read}
+use Rattle.mx_write.specs.Judged.{found}
+use Rattle.mx_write.specs.Reads.{Read}
 use Rattle.mx_model.specs.SlowTouches.{AreFitReads, IsFitRange, IsFitRead}
-use Rattle.mx_model.specs.statements.Answer.{Answer, refusal_after, tuples_after}
-use Rattle.mx_model.specs.statements.Lookup.{in_def, in_schema}
-use Rattle.mx_model.specs.statements.Select.{asked_key, part_count, range_reads, select_answer, select_answer_in, select_by_key, select_found, select_in_index, takes_iterator}
+use Rattle.mx_model.specs.statements.Select.{range_reads}
 
 abbrev AreFitEntries : List Indexed → Type 0
 AreFitEntries all = AllByRecursion (λ (entry : Indexed). AreFit entry.0) all

@@ -1,5 +1,5 @@
 -- What the plain slow program answers to a statement, and keeps after it.
-use Rattle.std.proofs.Common.{◌≡◌, inl, inr, ℕ, List, [], ◌∷◌, Option, Some, None, Result, Ok, Err, refl, sym, ap, ◌∙◌, subst}
+use Rattle.std.proofs.Common.{◌≡◌, inl, inr, ℕ, List, [], Option, Some, None, Result, Ok, Err, refl, sym, ap, ◌∙◌, subst}
 use Rattle.std.specs.Prelude.{MatchResult}
 use Rattle.mx_base.specs.declared.ids.IndexId.{IndexId}
 use Rattle.mx_base.specs.declared.ids.SpaceId.{SpaceId}
@@ -17,7 +17,7 @@ use Rattle.mx_write.specs.Change.{Change, state_after_changed}
 use Rattle.mx_write.specs.Judge.{judged_write}
 use Rattle.mx_write.specs.Judged.{Judged}
 use Rattle.mx_write.specs.Made.{Made, nothing, row_with}
-use Rattle.mx_write.specs.Makes.{IsRefusedBy, MakesOf, MakesWrite, tuple_after, tuples_shown}
+use Rattle.mx_write.specs.Makes.{IsRefusedBy, MakesOf, tuple_after, tuples_shown}
 use Rattle.mx_write.specs.Writes.{Write, write_in}
 use Rattle.std.specs.Option.{option_map}
 use Rattle.mx_model.specs.declared.slow_state.answers.SlowAnswer.{SlowAnswer}

@@ -1,6 +1,6 @@
 -- What the plain slow program finds and keeps is what the definitions say.
-use Rattle.std.proofs.Common.{◌≡◌, inl, inr, ℕ, suc, ◌+◌, Bool, true, false, cond, not, ◌&&◌, List, [], ◌∷◌, ◌++◌, map, drop, get_or, length, ◌<◌, ◌≤◌, refl, sym, ap, ◌∙◌, subst, append-nil, arith, add-one, ne_eqb, eq-eqb, nat_cmp}
-use Rattle.std.specs.Prelude.{Option, Some, None, Result, Ok, Err, IfOk, IfSome, MatchResult, OnOk, ◌==◌, if◌then◌else◌}
+use Rattle.std.proofs.Common.{◌≡◌, inl, inr, ℕ, suc, ◌+◌, Bool, true, false, cond, List, [], ◌∷◌, map, drop, get_or, length, ◌<◌, ◌≤◌, refl, sym, ap, ◌∙◌, subst, arith, add-one, nat_cmp}
+use Rattle.std.specs.Prelude.{Option, Some, None, Result, Ok, Err, IfSome, MatchResult, OnOk, ◌==◌, if◌then◌else◌}
 use Rattle.std.specs.BTreeMap.{insert_entry, is_at}
 use Rattle.std.specs.FinMap.{empty, entries, insert, remove}
 use Rattle.std.specs.Cmp.Lexicographic.{slice_cmp}
@@ -9,7 +9,6 @@ use Rattle.std.proofs.lemmas.Bool.Decides.{nat_tests}
 use Rattle.std.proofs.lemmas.List.{drop_all}
 use Rattle.std.proofs.Math.Seq.{drop-cons}
 use Rattle.mx_key.specs.declared.edge.KeyRange.{KeyRange}
-use Rattle.mx_key.specs.declared.iterator.IterKind.{IterKind}
 use Rattle.mx_key.specs.Comparable.{comparable_of, edges_of}
 use Rattle.mx_key.specs.Keys.{Key, AreFit}
 use Rattle.mx_key.specs.Ranges.{range_of}
@@ -23,7 +22,6 @@ use Rattle.mx_schema.specs.Catalogues.{index_with}
 use Rattle.mx_schema.specs.Picks.{entry_key, indexed_with, total_bytes, max_result_size}
 use Rattle.mx_space.specs.Scans.{picked_of}
 use Rattle.mx_space.specs.Selecting.{found_in}
-use Rattle.mx_schema.specs.Sound.{IsSound}
 use Rattle.mx_schema.specs.State as plain
 use Rattle.mx_schema.specs.State.{State, key_in, tuples_in, with_tuple, without_tuple}
 use Rattle.mx_schema.specs.Stored.{StandByPrimary, StoredTuple, StoresSpace, StoresTuples, stored_list, stored_view}

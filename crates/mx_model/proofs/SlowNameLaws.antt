@@ -1,12 +1,11 @@
 -- The open transactions of the plain slow program, by their names.
-use Rattle.std.proofs.Common.{arith, ◌≡◌, ℕ, zero, suc, ◌+◌, ◌<◌, ◌≤◌, Bool, true, false, not, List, [], ◌∷◌, ◌++◌, length, take, drop, Option, Some, None, refl, sym, ap, ◌∙◌, subst, get_or}
+use Rattle.std.proofs.Common.{arith, ◌≡◌, ℕ, zero, suc, ◌+◌, ◌<◌, ◌≤◌, Bool, true, false, not, List, [], ◌∷◌, length, drop, Some, None, refl, sym, ap, ◌∙◌, subst, get_or}
 use Rattle.std.specs.Prelude.{◌==◌, slice_get, slice_set, if◌then◌else◌}
 use Rattle.std.specs.List.{AllZip, filter}
 use Rattle.mx_base.specs.declared.ids.TxnName.{TxnName}
-use Rattle.mx_model.specs.declared.slow.transactions.SlowStep.{SlowStep}
 use Rattle.mx_model.specs.declared.slow.transactions.SlowTransaction.{SlowTransaction}
-use Rattle.mx_model.specs.Overlaps.{Transaction, TransactionStep}
-use Rattle.mx_model.specs.Slow.{IsNamedAt, KeepsStep, KeepsTransaction}
+use Rattle.mx_model.specs.Overlaps.{Transaction}
+use Rattle.mx_model.specs.Slow.{IsNamedAt, KeepsTransaction}
 use Rattle.mx_model.specs.Streams.{is_name, of_connection, of_others, transaction_named, transaction_with, with_step, without_named}
 
 abbrev KeepAll : List SlowTransaction → List Transaction → Type 0

@@ -1,18 +1,14 @@
 -- What the plain slow program reads.
-use Rattle.std.proofs.Common.{◌≡◌, inl, inr, ℕ, ◌-◌, ◌<◌, Bool, true, false, cond, List, [], ◌∷◌, ◌++◌, map, filter, take, length, ◌≤◌, Option, Some, None, Result, Ok, Err, not, ◌&&◌, ne_eqb, refl, sym, ap, ◌∙◌, subst}
-use Rattle.std.specs.Prelude.{◌==◌, nat_lt, if◌then◌else◌}
+use Rattle.std.proofs.Common.{◌≡◌, inl, inr, ℕ, ◌-◌, ◌<◌, Bool, true, false, cond, List, [], ◌∷◌, ◌++◌, map, filter, take, length, ◌≤◌, Option, Some, None, Result, Ok, Err, refl, sym, ap, ◌∙◌, subst}
+use Rattle.std.specs.Prelude.{nat_lt, if◌then◌else◌}
 use Rattle.std.specs.FinMap.{entries}
 use Rattle.std.specs.Option.{option_map}
 use Rattle.std.proofs.lemmas.Bool.{lt-ltb, le-ltb, ltb-true, ltb-false}
-use Rattle.mx_vclock.specs.Vclocks.{max_lsn}
 use Rattle.mx_base.specs.declared.ids.IndexId.{IndexId}
 use Rattle.mx_base.specs.declared.ids.SpaceId.{SpaceId}
-use Rattle.mx_base.specs.declared.ids.TxnName.{TxnName}
 use Rattle.mx_base.specs.declared.refusal.Refusal.{Refusal}
-use Rattle.mx_base.specs.declared.refusal.Refusal.TheVariants.{LsnsUsedUp, ReadOnly}
 use Rattle.mx_request.specs.declared.request.Request.{Request}
 use Rattle.mx_request.specs.declared.request.Request.TheVariants as request
-use Rattle.mx_row.specs.declared.row.Row.{Row}
 use Rattle.mx_msgpack.proofs.Options.{same_some}
 use Rattle.mx_key.specs.declared.iterator.IterKind.{IterKind}
 use Rattle.mx_key.specs.declared.edge.KeyRange.{KeyRange}
@@ -41,14 +37,13 @@ use Rattle.mx_write.specs.Judge.{judged_write}
 use Rattle.mx_write.specs.Made.{Made}
 use Rattle.mx_write.specs.Writes.{Write, write_in}
 use Rattle.mx_write.specs.Reads.{Read, index_read, schema_reads, space_read}
-use Rattle.mx_model.specs.declared.slow_state.SlowState.{SlowState}
 use Rattle.mx_model.specs.Answers.{answer_to}
 use Rattle.mx_model.specs.SlowTouches.{AreFitReads, IsFitRange}
 use Rattle.mx_model.proofs.ReadFitLaws.{fit_both, range_fit}
 use Rattle.mx_model.specs.SlowReads.{read_view, reads_view}
 use Rattle.mx_model.specs.SlowReadSteps.{scan_read}
 use Rattle.mx_model.specs.SelectSteps.{TakesKey}
-use Rattle.mx_model.specs.statements.Answer.{Answer, refusal_after, refusal_alone}
+use Rattle.mx_model.specs.statements.Answer.{Answer}
 use Rattle.mx_model.specs.statements.Select.{iterator_of, range_reads, select_answer_in}
 use Rattle.mx_model.specs.statements.Write.{answer_of_outcome}
 use Rattle.mx_model.proofs.AnswerLaws.{result_is_too_long, tuples_are_picked, write_answered}

@@ -1,7 +1,6 @@
 -- What statements come to that the plain slow program runs alone.
-use Rattle.std.proofs.Common.{arith, ◌≡◌, inl, inr, ℕ, suc, ◌+◌, ◌-◌, ◌^◌, ◌<◌, ◌≤◌, Bool, true, false, ◌&&◌, ◌||◌, List, [], ◌∷◌, ◌++◌, length, map, Option, Some, None, refl, sym, ap, ◌∙◌, subst, append-nil, append_assoc}
-use Rattle.std.specs.Prelude.{not, min, ◌==◌, nat_le, nat_lt, if◌then◌else◌, IfOk, OnOk, MatchOption, Result, Ok, Err}
-use Rattle.std.proofs.lemmas.Bool.Decides.{nat_tests}
+use Rattle.std.proofs.Common.{arith, ◌≡◌, ℕ, ◌+◌, Bool, true, false, ◌&&◌, ◌||◌, List, [], ◌∷◌, ◌++◌, map, Option, Some, None, refl, sym, ap, ◌∙◌, subst, append-nil, append_assoc}
+use Rattle.std.specs.Prelude.{not, ◌==◌, if◌then◌else◌, IfOk, MatchOption, Result, Ok, Err}
 use Rattle.std.proofs.lemmas.List.Sums.{fold-append}
 use Rattle.std.specs.List.{AllZip, sum}
 use Rattle.std.specs.Option.{option_to_list}
@@ -9,21 +8,19 @@ use Rattle.mx_base.specs.declared.refusal.Refusal.TheVariants.{ReadOnly, Transac
 use Rattle.mx_request.specs.declared.request.Request.{Request}
 use Rattle.mx_request.specs.declared.request.Request.TheVariants as request
 use Rattle.mx_row.specs.declared.row.Row.{Row}
-use Rattle.mx_row.specs.Limits.{has_room, max_rows, max_transaction_size, row_size, rows_size}
+use Rattle.mx_row.specs.Limits.{has_room, row_size, rows_size}
 use Rattle.mx_schema.specs.State.{State}
 use Rattle.mx_write.specs.declared.made.Made as code
 use Rattle.mx_write.specs.Change.{Change, state_after_changed}
 use Rattle.mx_write.specs.Judge.{row_change}
 use Rattle.mx_write.specs.Reads.{Read}
 use Rattle.mx_model.specs.declared.ids.Ids.{Ids}
-use Rattle.mx_model.specs.declared.reply.Reply.{Reply}
 use Rattle.mx_model.specs.declared.reply.Reply.TheVariants.{Refused}
 use Rattle.mx_model.specs.declared.slow.run.SlowRun.{SlowRun}
 use Rattle.mx_model.specs.declared.slow.transactions.SlowStep.{SlowStep}
 use Rattle.mx_model.specs.declared.slow_state.answers.SlowAnswer.{SlowAnswer}
 use Rattle.mx_model.specs.declared.slow_state.answers.SlowWrite.{SlowWrite}
 use Rattle.mx_model.specs.declared.slow_state.SlowState.{SlowState}
-use Rattle.mx_model.specs.declared.slow_state.touched.TouchedKey.{TouchedKey}
 use Rattle.mx_model.specs.Answers.{answer_by_statement, answer_to, answer_without_space, state_after_row, state_after_rows}
 use Rattle.mx_model.specs.Frame.{answer_to_statement}
 use Rattle.mx_model.specs.Histories.{is_write, writable_node}
@@ -33,7 +30,7 @@ use Rattle.mx_model.specs.Slow.{KeepsStep, RunStands, reads_of_statement, satura
 use Rattle.mx_model.specs.SlowReads.{reads_view}
 use Rattle.mx_model.specs.SlowState.{HasAnswer, IsSlowMade, IsSlowState}
 use Rattle.mx_model.specs.SlowTouches.{AreFitReads, meet}
-use Rattle.mx_model.specs.Touches.{are_met, rows_meet, touched_by, touched_by_change}
+use Rattle.mx_model.specs.Touches.{are_met, rows_meet, touched_by_change}
 use Rattle.mx_model.specs.statements.Answer.{Answer, refusal_after, refusal_alone}
 use Rattle.mx_model.specs.statements.Statement.{Statement, statement_of}
 use Rattle.mx_model.proofs.FrameCommit.{row_after}

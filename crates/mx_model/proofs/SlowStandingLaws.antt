@@ -1,11 +1,10 @@
 -- How a transaction stands, as the plain slow program finds it.
-use Rattle.std.proofs.Common.{arith, ◌≡◌, ℕ, zero, suc, pred, ◌+◌, ◌-◌, ◌<◌, ◌≤◌, Bool, true, false, ◌&&◌, ◌||◌, List, [], ◌∷◌, ◌++◌, length, map, take, drop, Option, Some, None, refl, sym, ap, ◌∙◌, subst, append-nil, get_or, slice_range}
+use Rattle.std.proofs.Common.{arith, ◌≡◌, ℕ, zero, suc, pred, ◌+◌, ◌-◌, ◌<◌, ◌≤◌, Bool, true, false, ◌&&◌, ◌||◌, List, [], ◌∷◌, ◌++◌, length, drop, Option, Some, None, refl, sym, ap, ◌∙◌, subst, append-nil, get_or, slice_range}
 use Rattle.std.proofs.lemmas.Option.{slice_get-get_or}
 use Rattle.std.proofs.lemmas.List.Folds.{drop_split}
 use Rattle.std.proofs.Math.Seq.{drop-length}
 use Rattle.std.specs.Prelude.{nat_le, nat_lt, slice_get, if◌then◌else◌}
-use Rattle.std.specs.List.{AllByRecursion, AllZip, list_any}
-use Rattle.mx_request.specs.declared.request.Request.{Request}
+use Rattle.std.specs.List.{AllZip, list_any}
 use Rattle.mx_row.specs.declared.row.Row.{Row}
 use Rattle.mx_row.specs.declared.tx.Tx.{Tx}
 use Rattle.mx_schema.specs.State.{State}
@@ -17,14 +16,13 @@ use Rattle.mx_model.specs.declared.slow_state.read_ranges.ReadRange.{ReadRange}
 use Rattle.mx_model.specs.declared.slow_state.touched.TouchedKey.{TouchedKey}
 use Rattle.mx_model.specs.Answers.{state_after_rows}
 use Rattle.mx_model.specs.Histories.{is_write}
-use Rattle.mx_model.specs.Overlaps.{Active, Standing, TransactionStep, Transaction, doomed_or_view, first_overlap, has_row, has_schema_commit_since, has_written_since, is_some_row, overlap_of, place_by, place_read, reads_before, standing, standing_by, state_after_first, statements_in}
+use Rattle.mx_model.specs.Overlaps.{Active, TransactionStep, Transaction, doomed_or_view, first_overlap, has_row, has_schema_commit_since, has_written_since, is_some_row, overlap_of, place_by, place_read, reads_before, standing, standing_by, state_after_first, statements_in}
 use Rattle.mx_model.specs.RunAlone.{run_alone, writes}
 use Rattle.mx_model.specs.Slow.{KeepCommits, KeepsCommit, KeepsStep}
 use Rattle.mx_model.specs.SlowReads.{read_view, reads_view}
 use Rattle.mx_model.specs.SlowTouches.{AreFitReads, meet, touches}
 use Rattle.mx_model.specs.Touches.{rows_meet}
 use Rattle.mx_model.specs.Transactions.{is_schema_commit}
-use Rattle.mx_model.specs.statements.Statement.{Statement, statement_of}
 use Rattle.mx_model.proofs.SlowRunLaws.{statement_writes}
 
 -- ---- what statements read before a commit

@@ -1,15 +1,13 @@
 -- What the plain slow program keeps after each kind of request.
-use Rattle.std.proofs.Common.{arith, tests, ◌≡◌, ℕ, suc, pred, ◌||◌, ◌+◌, ◌-◌, ◌<◌, ◌≤◌, Bool, true, false, not, ◌&&◌, List, [], ◌∷◌, ◌++◌, length, Option, Some, None, Result, Ok, Err, refl, sym, ap, ◌∙◌, subst, append-nil}
-use Rattle.std.specs.Prelude.{nat_le, nat_lt, slice_index, slice_set, ◌==◌, if◌then◌else◌, MatchOption, MatchResult}
-use Rattle.std.proofs.lemmas.Bool.{eqb-true, le-leb, ne_eqb}
+use Rattle.std.proofs.Common.{arith, ◌≡◌, ℕ, pred, ◌||◌, ◌+◌, ◌-◌, ◌<◌, ◌≤◌, Bool, true, false, not, ◌&&◌, List, [], ◌∷◌, ◌++◌, length, Option, Some, None, refl, sym, ap, ◌∙◌, subst, append-nil}
+use Rattle.std.specs.Prelude.{nat_le, nat_lt, slice_index, slice_set, ◌==◌, if◌then◌else◌, MatchOption}
+use Rattle.std.proofs.lemmas.Bool.{eqb-true, le-leb}
 use Rattle.std.proofs.lemmas.Bool.Decides.{nat_tests}
-use Rattle.std.proofs.lemmas.List.{length-append, take_all, take_at}
 use Rattle.std.specs.List.{AllZip, list_any}
 use Rattle.std.specs.Option.{option_to_list}
 use Rattle.mx_base.specs.Keys.{stream_key}
 use Rattle.mx_base.specs.declared.ids.TxnName.{TxnName}
 use Rattle.mx_base.specs.declared.kinds.Unsupported.TheVariants.{SchemaInTransaction}
-use Rattle.mx_base.specs.declared.refusal.Refusal.{Refusal}
 use Rattle.mx_base.specs.declared.refusal.Refusal.TheVariants.{AllOfConnectionOpen, AllTransactionsOpen, Conflict, IllegalValue, LsnsUsedUp, ReadOnly, TransactionOpen, TransactionTooLong, Unsupported}
 use Rattle.mx_request.specs.declared.request.Request.{Request}
 use Rattle.mx_request.specs.declared.request.Request.TheVariants as request
@@ -20,7 +18,6 @@ use Rattle.mx_row.specs.Clocks.{clock_after, clock_after_one}
 use Rattle.mx_row.proofs.ClockLaws.{clock_after-append}
 use Rattle.mx_schema.specs.State.{State}
 use Rattle.mx_vclock.specs.Vclocks.{max_lsn}
-use Rattle.mx_write.specs.Reads.{Read}
 use Rattle.mx_write.specs.Writable.{describes_schema}
 use Rattle.mx_write.specs.Writes.{Write, write_in}
 use Rattle.mx_model.specs.declared.ids.Ids.{Ids}
@@ -29,27 +26,26 @@ use Rattle.mx_model.specs.declared.reply.Reply.TheVariants.{Empty, Refused}
 use Rattle.mx_model.specs.declared.slow.Slow.{Slow}
 use Rattle.mx_model.specs.declared.slow.SlowCommit.{SlowCommit}
 use Rattle.mx_model.specs.declared.slow.run.SlowRun.{SlowRun}
-use Rattle.mx_model.specs.declared.slow.transactions.SlowTransaction.{SlowTransaction}
 use Rattle.mx_model.specs.declared.slow_state.answers.SlowAnswer.{SlowAnswer}
 use Rattle.mx_model.specs.declared.slow_state.read_ranges.ReadRange.{ReadRange}
 use Rattle.mx_model.specs.Answers.{answer_in_space, state_after_rows}
 use Rattle.mx_model.specs.Histories.{with_lsn, writable_node}
 use Rattle.mx_model.specs.Overlaps.{Active, Doomed, Standing, Transaction, TransactionStep, View, doomed_or_view, has_row, has_schema_commit_since, has_written_since, is_some_row, overlap_of, place_by, standing, standing_by, state_after_first, statements_in}
 use Rattle.mx_model.specs.RunAlone.{Run, answer_alone, answer_in_run, run_alone, statement_answer, within_limits, writes}
-use Rattle.mx_model.specs.Slow.{Answers, IsSlow, KeepCommits, KeepsCommit, KeepsTransaction, RunStands, Tells, reads_of_statement, statement_reads, told_by}
+use Rattle.mx_model.specs.Slow.{IsSlow, KeepCommits, KeepsCommit, KeepsTransaction, RunStands, Tells, reads_of_statement, statement_reads, told_by}
 use Rattle.mx_model.specs.SlowReads.{HasRead, reads_view}
 use Rattle.mx_model.specs.SlowState.{IsSlowState}
 use Rattle.mx_model.specs.SlowTouches.{AreFitReads, meet}
-use Rattle.mx_model.specs.Streams.{Becomes, Ends, Goes, Opens, Outcome, Stays, Streams, begins_beside, commit_with, commits_rows, commits_standing, ends_told, goes_on_with, in_stream, max_transactions, max_transactions_of_connection, of_connection, open_after, outcome_of, standing_now, state_read, states, states_alone, states_alone_by, states_in, states_standing, streams_after, tells_statement, told_alone, transaction_named, with_step, without_named}
+use Rattle.mx_model.specs.Streams.{Ends, Opens, Outcome, Stays, Streams, begins_beside, commit_with, commits_rows, commits_standing, ends_told, goes_on_with, in_stream, max_transactions, max_transactions_of_connection, of_connection, open_after, outcome_of, standing_now, state_read, states, states_alone, states_alone_by, states_in, states_standing, streams_after, tells_statement, told_alone, transaction_named, with_step, without_named}
 use Rattle.mx_model.specs.Touches.{rows_meet}
-use Rattle.mx_model.specs.Transactions.{is_schema_commit, is_schema_row, state_after}
+use Rattle.mx_model.specs.Transactions.{is_schema_row, state_after}
 use Rattle.mx_model.specs.statements.Answer.{Answer, refusal_after, refusal_alone}
 use Rattle.mx_model.specs.statements.Statement.{Operation, Selects, Statement, Writes, statement_of}
 use Rattle.mx_model.specs.statements.Select.{iterator_of}
 use Rattle.mx_model.proofs.AlonePlaces.{never_overlapped, whole_state}
 use Rattle.mx_model.proofs.SlowRunLaws.{written}
 use Rattle.mx_model.proofs.SlowStandingLaws.{same_length}
-use Rattle.mx_model.proofs.HistoryLaws.{select_no_row, state_after-append}
+use Rattle.mx_model.proofs.HistoryLaws.{select_no_row}
 
 -- ---- outcomes that commit nothing
 

@@ -1,12 +1,10 @@
 -- That the keys which the plain slow program has of a write lie in a range that was read exactly where the definitions say so.
-use Rattle.std.proofs.Common.{arith, ◌≡◌, ℕ, Bool, true, false, ◌&&◌, ◌||◌, List, [], ◌∷◌, ◌++◌, map, Option, Some, None, refl, sym, ap, ◌∙◌, subst, append-nil, append_assoc, eqb-true, eq-eqb}
-use Rattle.std.specs.Prelude.{◌==◌, if◌then◌else◌, take, drop, length, ◌≤◌, ◌<◌}
-use Rattle.std.proofs.lemmas.Bool.Decides.{nat_tests}
-use Rattle.std.specs.FinMap.{get}
+use Rattle.std.proofs.Common.{◌≡◌, ℕ, Bool, true, false, ◌&&◌, ◌||◌, List, [], ◌∷◌, ◌++◌, map, Option, Some, None, refl, sym, ap, ◌∙◌, subst, eqb-true}
+use Rattle.std.specs.Prelude.{◌==◌, if◌then◌else◌}
 use Rattle.std.specs.List.{AllByRecursion, list_any}
 use Rattle.mx_key.specs.Comparable.{comparable_of, edges_of, holds}
 use Rattle.mx_key.specs.Keys.{Key, AreFit}
-use Rattle.mx_key.specs.Ranges.{Range, lies_in}
+use Rattle.mx_key.specs.Ranges.{lies_in}
 use Rattle.mx_key.proofs.RangeLaws.{range_holds}
 use Rattle.mx_schema.specs.declared.index_def.IndexDef.{IndexDef}
 use Rattle.mx_schema.specs.declared.schema.Schema.{Schema}
@@ -14,14 +12,13 @@ use Rattle.mx_schema.specs.Catalogues.{index_with, schema_of}
 use Rattle.mx_schema.specs.State.{State, tuples_in}
 use Rattle.mx_write.specs.Change.{Change}
 use Rattle.mx_write.specs.Reads.{Read}
-use Rattle.mx_model.specs.declared.slow_state.read_ranges.ReadRange.{ReadRange}
 use Rattle.mx_model.specs.declared.slow_state.touched.TouchedKey.{TouchedKey}
 use Rattle.mx_model.specs.SlowReads.{read_view, reads_view}
 use Rattle.mx_base.specs.declared.ids.IndexId.{IndexId}
 use Rattle.mx_msgpack.specs.Readers.{◌>>=◌}
 use Rattle.mx_schema.specs.Sound.{AreKeyed, IsSound}
 use Rattle.mx_model.specs.SlowTouches.{AreFitReads, AreOwn, IsFitRead, meet, meet_in, meets_in, touches}
-use Rattle.mx_model.specs.Touches.{Touched, are_met, index_by_state, is_met, lies_in_index, touched_at, touched_by, touched_key}
+use Rattle.mx_model.specs.Touches.{Touched, are_met, index_by_state, is_met, lies_in_index, touched_at, touched_key}
 
 -- ---- tests of lists
 

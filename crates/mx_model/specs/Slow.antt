@@ -1,5 +1,5 @@
 -- What the plain slow program keeps of streams, and what it tells.
-use Rattle.std.specs.Prelude.{◌≡◌, ⊤, ℕ, ◌<◌, ◌-◌, ◌^◌, List, [], ◌∷◌, length, min, Option, Some, None, MatchOption, slice_get, slice_set}
+use Rattle.std.specs.Prelude.{◌≡◌, ⊤, ℕ, ◌-◌, ◌^◌, List, [], ◌∷◌, min, Option, Some, None, MatchOption, slice_get, slice_set}
 use Rattle.std.specs.List.{AllZip}
 use Rattle.mx_base.specs.declared.ids.TxnName.{TxnName}
 use Rattle.mx_base.specs.declared.refusal.Refusal.TheVariants.{Conflict}

@@ -53,8 +53,8 @@ impl Slow {
             (λ reply. Tells self.new streams name (states_alone streams statement) reply)
             (λ _. IsSlow self.new streams) }
     {
-        let mut run = self.run(self.commits.len(), &[])?;
-        let Some(answer) = statement_answer(&run.state, &self.ids, request)? else {
+        let newest = self.commits.len();
+        let Some(answer) = statement_answer(self.state_at(newest), &self.ids, request)? else {
             return Err(AllocError);
         };
         let SlowAnswer { reply, write } = answer;
@@ -64,6 +64,7 @@ impl Slow {
         let Some(last) = self.last_lsn(1) else {
             return Ok(Reply::Refused(Refusal::LsnsUsedUp));
         };
+        let mut run = self.run(newest, &[])?;
         run.take(write)?;
         self.install(run, last)?;
         Ok(reply)

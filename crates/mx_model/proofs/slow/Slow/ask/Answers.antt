@@ -1,4 +1,4 @@
-use Rattle.std.proofs.Common.{◌≡◌, refl, sym, ap, ◌∙◌, subst}
+use Rattle.std.proofs.Common.{sym, ap, subst}
 use Rattle.std.specs.Prelude.{MatchResult}
 use Rattle.mx_model.specs.Slow.{IsSlow, Tells}
 use Rattle.mx_model.specs.Streams.{Outcome}

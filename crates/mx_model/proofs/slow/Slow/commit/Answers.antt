@@ -1,4 +1,4 @@
-use Rattle.std.proofs.Common.{rules, ◌≡◌, ◌<◌, length, Some, None, Result, refl, sym, ap, ◌∙◌, subst}
+use Rattle.std.proofs.Common.{rules, ◌≡◌, ◌<◌, length, refl, sym, ap, ◌∙◌, subst}
 use Rattle.std.specs.Prelude.{MatchResult}
 use Rattle.std.specs.List.{AllZip}
 use Rattle.std.proofs.lemmas.Bool.{ne_eqb}
@@ -8,7 +8,7 @@ use Rattle.mx_model.specs.declared.reply.Reply.TheVariants.{Empty, Refused}
 use Rattle.mx_model.specs.Overlaps.{statements_in}
 use Rattle.mx_model.specs.RunAlone.{run_alone}
 use Rattle.mx_model.specs.Slow.{IsSlow, KeepsStep, KeepsTransaction, RunStands, Tells, standing_view}
-use Rattle.mx_model.specs.Streams.{Outcome, commits, commits_standing, in_stream, transaction_named}
+use Rattle.mx_model.specs.Streams.{Outcome, commits, in_stream, transaction_named}
 use Rattle.mx_model.specs.Transactions.{state_after}
 use Rattle.mx_model.proofs.SlowNameLaws.{kept_there}
 use Rattle.mx_model.proofs.SlowStreamLaws.{all_within, commits_active, commits_doomed, commits_view, ends_with, newest_there, no_stream_test, stays_told, with_stream, without_stream}

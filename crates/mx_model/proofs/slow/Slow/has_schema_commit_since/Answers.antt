@@ -1,4 +1,4 @@
-use Rattle.std.proofs.Common.{arith, ◌≡◌, ◌⊎◌, inl, inr, ◌<◌, ◌≤◌, ◌-◌, ℕ, drop, refl, sym, ap, ◌∙◌}
+use Rattle.std.proofs.Common.{arith, ◌⊎◌, inl, inr, ◌<◌, ◌≤◌, ◌-◌, ℕ, drop, sym, ap, ◌∙◌}
 use Rattle.std.specs.List.{list_any}
 use Rattle.mx_model.specs.declared.slow.SlowCommit.{SlowCommit}
 use Rattle.mx_model.proofs.SlowStandingLaws.{none_behind, rest_behind}

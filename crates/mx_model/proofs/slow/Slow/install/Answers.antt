@@ -1,4 +1,4 @@
-use Rattle.std.proofs.Common.{◌≡◌, ◌++◌, ◌∷◌, [], List, refl, sym, ap, ◌∙◌, subst}
+use Rattle.std.proofs.Common.{◌≡◌, refl, ap, ◌∙◌}
 use Rattle.std.specs.List.{list_any}
 use Rattle.std.proofs.lemmas.Result.{err_from_is_err_and}
 use Rattle.mx_model.specs.declared.slow.Slow.{Slow}

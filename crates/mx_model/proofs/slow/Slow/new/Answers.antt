@@ -1,4 +1,4 @@
-use Rattle.std.proofs.Common.{◌≡◌, [], List, refl, sym, ap, ◌∙◌, subst}
+use Rattle.std.proofs.Common.{[], sym, subst}
 use Rattle.std.specs.List.{AllZip}
 use Rattle.mx_model.specs.Slow.{KeepCommits, KeepsTransaction}
 use Rattle.mx_model.proofs.slow.Slow.new.Goals as goal

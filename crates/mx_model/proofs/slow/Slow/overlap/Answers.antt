@@ -1,9 +1,7 @@
-use Rattle.std.proofs.Common.{arith, ◌≡◌, ◌≤◌, ◌<◌, ◌+◌, ℕ, suc, false, true, drop, length, List, Option, Some, refl, sym, ap, ◌∙◌, subst}
+use Rattle.std.proofs.Common.{arith, ◌≡◌, ◌+◌, suc, false, true, drop, length, Some, sym, ap, ◌∙◌, subst}
 use Rattle.std.specs.Prelude.{slice_get}
-use Rattle.mx_model.specs.declared.slow.transactions.SlowStep.{SlowStep}
-use Rattle.mx_model.specs.Overlaps.{first_overlap, overlap_of, reads_before, state_after_first}
-use Rattle.mx_model.specs.Touches.{rows_meet}
-use Rattle.mx_model.proofs.SlowStandingLaws.{StandsAt, commit_at, found_there, met_by_steps, overlap_here, overlap_next, overlap_none, same_length}
+use Rattle.mx_model.specs.Overlaps.{first_overlap, overlap_of, state_after_first}
+use Rattle.mx_model.proofs.SlowStandingLaws.{commit_at, found_there, met_by_steps, overlap_here, overlap_next, overlap_none, same_length}
 use Rattle.mx_model.proofs.slow.Slow.overlap.Goals as goal
 
 pub loop-commit-init : goal.loop-commit-init

@@ -1,4 +1,4 @@
-use Rattle.std.proofs.Common.{arith, rules, ◌≡◌, refl, sym, ap, ◌∙◌, length}
+use Rattle.std.proofs.Common.{arith, rules, ◌≡◌, ap, ◌∙◌, length}
 use Rattle.mx_model.specs.Overlaps.{place_by}
 use Rattle.mx_model.proofs.SlowStandingLaws.{one_less, same_length}
 use Rattle.mx_model.proofs.slow.Slow.place_read.Goals as goal

@@ -1,4 +1,4 @@
-use Rattle.std.proofs.Common.{rules, ◌≡◌, length, refl, sym, ap, ◌∙◌, subst}
+use Rattle.std.proofs.Common.{rules, ◌≡◌, length, subst}
 use Rattle.std.specs.Prelude.{IfOk}
 use Rattle.mx_model.specs.declared.ids.Ids.{Ids}
 use Rattle.mx_model.specs.Slow.{statement_reads}

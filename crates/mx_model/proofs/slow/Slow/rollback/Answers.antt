@@ -1,4 +1,4 @@
-use Rattle.std.proofs.Common.{◌≡◌, refl, sym, ap, ◌∙◌, subst}
+use Rattle.std.proofs.Common.{refl}
 use Rattle.std.proofs.lemmas.Bool.{ne_eqb}
 use Rattle.mx_base.specs.Keys.{stream_key}
 use Rattle.mx_base.specs.declared.refusal.Refusal.TheVariants.{IllegalValue}

@@ -1,10 +1,9 @@
-use Rattle.std.proofs.Common.{arith, ◌≡◌, ◌≤◌, ◌-◌, ◌||◌, drop, length, refl, sym, ap, ◌∙◌, subst}
+use Rattle.std.proofs.Common.{arith, ◌≤◌, ◌-◌, ◌||◌, drop, length, refl, sym, ap, ◌∙◌, subst}
 use Rattle.std.specs.Prelude.{nat_le, ◌&&◌}
 use Rattle.std.specs.List.{AllZip, list_any}
-use Rattle.mx_model.specs.declared.slow.SlowCommit.{SlowCommit}
 use Rattle.mx_model.specs.declared.slow.transactions.SlowStep.{SlowStep}
 use Rattle.mx_model.specs.Histories.{is_write}
-use Rattle.mx_model.specs.Overlaps.{doomed_or_view, has_schema_commit_since, has_written_since, is_some_row, state_after_first, statements_in}
+use Rattle.mx_model.specs.Overlaps.{doomed_or_view, is_some_row}
 use Rattle.mx_model.specs.Slow.{KeepsStep}
 use Rattle.mx_model.specs.Transactions.{is_schema_commit}
 use Rattle.mx_model.proofs.SlowStandingLaws.{active_where, one_less, overlapped_where, schema_since, written_since}

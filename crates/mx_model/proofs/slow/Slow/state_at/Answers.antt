@@ -1,4 +1,4 @@
-use Rattle.std.proofs.Common.{arith, ◌≡◌, ◌-◌, ◌≤◌, ℕ, suc, Some, length, refl, sym, ap, ◌∙◌, subst}
+use Rattle.std.proofs.Common.{arith, ◌≡◌, ◌-◌, suc, Some, length, sym, ap, subst}
 use Rattle.std.specs.Prelude.{slice_get}
 use Rattle.mx_model.specs.Overlaps.{state_after_first}
 use Rattle.mx_model.specs.SlowState.{IsSlowState}

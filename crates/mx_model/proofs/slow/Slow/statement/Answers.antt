@@ -1,4 +1,4 @@
-use Rattle.std.proofs.Common.{◌≡◌, Some, None, refl, sym, ap, ◌∙◌, subst}
+use Rattle.std.proofs.Common.{sym, ap, subst}
 use Rattle.std.specs.Prelude.{MatchResult}
 use Rattle.std.specs.List.{AllZip}
 use Rattle.mx_model.specs.Slow.{IsSlow, KeepsTransaction, Tells}

@@ -1,4 +1,4 @@
-use Rattle.std.proofs.Common.{◌≡◌, ◌∷◌, refl, sym, ap, ◌∙◌, subst, get_or}
+use Rattle.std.proofs.Common.{◌∷◌, refl, sym, ◌∙◌, subst}
 use Rattle.std.specs.Prelude.{slice_set}
 use Rattle.std.specs.Vec.{with_item}
 use Rattle.std.specs.List.{AllZip}
@@ -7,7 +7,6 @@ use Rattle.mx_base.specs.declared.kinds.Unsupported.TheVariants.{SchemaInTransac
 use Rattle.mx_base.specs.declared.refusal.Refusal.TheVariants.{Unsupported}
 use Rattle.mx_model.specs.declared.reply.Reply.TheVariants.{Refused}
 use Rattle.mx_model.specs.declared.slow.transactions.SlowTransaction.{SlowTransaction}
-use Rattle.mx_model.specs.Overlaps.{Transaction}
 use Rattle.mx_model.specs.Slow.{KeepsStep, KeepsTransaction}
 use Rattle.mx_model.specs.Streams.{states_in, transaction_with, with_step}
 use Rattle.mx_model.proofs.SlowNameLaws.{kept_there, stays_there, step_kept}

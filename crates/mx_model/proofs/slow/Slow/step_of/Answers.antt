@@ -1,20 +1,17 @@
-use Rattle.std.proofs.Common.{rules, ◌≡◌, length, Some, refl, sym, ap, ◌∙◌, subst}
+use Rattle.std.proofs.Common.{rules, ◌≡◌, length, Some, sym, ap, ◌∙◌, subst}
 use Rattle.std.specs.List.{AllZip}
 use Rattle.mx_model.specs.declared.ids.Ids.{Ids}
-use Rattle.mx_model.specs.declared.reply.Reply.{Reply}
-use Rattle.mx_model.specs.declared.slow_state.answers.SlowAnswer.{SlowAnswer}
-use Rattle.mx_write.specs.Reads.{Read}
 use Rattle.mx_model.specs.Overlaps.{TransactionStep, standing, state_after_first, statements_in}
-use Rattle.mx_model.specs.RunAlone.{answer_alone, answer_in_run, run_alone, statement_answer}
-use Rattle.mx_model.specs.Slow.{KeepsStep, RunStands, reads_of_statement, statement_reads, told_by}
-use Rattle.mx_model.specs.SlowReads.{HasRead, reads_view}
+use Rattle.mx_model.specs.RunAlone.{answer_alone, answer_in_run, run_alone}
+use Rattle.mx_model.specs.Slow.{KeepsStep, RunStands, statement_reads, told_by}
+use Rattle.mx_model.specs.SlowReads.{HasRead}
 use Rattle.mx_model.specs.SlowState.{HasAnswer}
 use Rattle.mx_model.specs.Streams.{state_read}
 use Rattle.mx_model.specs.statements.Answer.{Answer}
 use Rattle.mx_model.specs.statements.Statement.{Statement, statement_of}
 use Rattle.mx_model.proofs.SlowRunLaws.{statement_writes}
 use Rattle.mx_model.proofs.SlowStandingLaws.{same_length}
-use Rattle.mx_model.proofs.SlowStreamLaws.{answer_is, limited_reads, reads_are, states_told}
+use Rattle.mx_model.proofs.SlowStreamLaws.{answer_is, reads_are, states_told}
 use Rattle.mx_model.proofs.slow.Slow.step_of.Goals as goal
 
 pub returns : goal.returns

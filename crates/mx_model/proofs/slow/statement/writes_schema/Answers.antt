@@ -1,4 +1,4 @@
-use Rattle.std.proofs.Common.{◌≡◌, ◌&&◌, true, false, refl, sym, ap, ◌∙◌}
+use Rattle.std.proofs.Common.{◌&&◌, sym, ap, ◌∙◌}
 use Rattle.mx_write.specs.Writable.{describes_schema}
 use Rattle.mx_model.proofs.SlowStreamLaws.{names_space}
 use Rattle.mx_model.proofs.slow.statement.writes_schema.Goals as goal

@@ -1,9 +1,6 @@
-use Rattle.std.proofs.Common.{rules, tests, arith, ◌≡◌, ◌<◌, ◌≤◌, ◌+◌, ℕ, suc, List, Some, false, true, length, refl, sym, ap, ◌∙◌, subst, get_or}
-use Rattle.std.specs.Prelude.{slice_get}
-use Rattle.std.specs.List.{AllZip}
+use Rattle.std.proofs.Common.{rules, arith, ◌≡◌, ◌<◌, ◌≤◌, ◌+◌, suc, length, refl, sym, ap, ◌∙◌, subst, get_or}
 use Rattle.mx_model.specs.declared.slow.transactions.SlowTransaction.{SlowTransaction}
-use Rattle.mx_model.specs.Overlaps.{Transaction}
-use Rattle.mx_model.specs.Slow.{IsNamedAt, KeepsTransaction}
+use Rattle.mx_model.specs.Slow.{IsNamedAt}
 use Rattle.mx_model.specs.Streams.{is_name}
 use Rattle.mx_model.proofs.SlowNameLaws.{PartFound, here_found, item_there, none_found, none_passed, one_passed, stands_there}
 use Rattle.mx_model.proofs.slow.transactions.place_of.Goals as goal

@@ -1,6 +1,5 @@
 use Rattle.std.proofs.Common.{rules, ◌≡◌, [], ◌∷◌, pos, refl, sym, subst, ◌<◌, ◌^◌}
-use Rattle.std.specs.Prelude.{IfOk, Result, Ok, Err}
-use Rattle.mx_key.specs.Comparable.{AreParts, comparable_of}
+use Rattle.mx_key.specs.Comparable.{AreParts}
 use Rattle.mx_key.specs.Keys.{Key, AreFit, Integer}
 use Rattle.mx_msgpack.specs.declared.value.Value.{Int}
 use Rattle.mx_msgpack.specs.Owned.{value_list}

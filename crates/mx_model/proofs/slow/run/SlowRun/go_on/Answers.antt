@@ -1,4 +1,4 @@
-use Rattle.std.proofs.Common.{◌≡◌, ◌++◌, ◌∷◌, [], refl, sym, ap, subst}
+use Rattle.std.proofs.Common.{◌++◌, refl, sym, ap, subst}
 use Rattle.std.specs.Option.{option_to_list}
 use Rattle.mx_model.specs.RunAlone.{run_with}
 use Rattle.mx_model.specs.SlowState.{IsSlowMade}

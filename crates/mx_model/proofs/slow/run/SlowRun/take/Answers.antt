@@ -1,4 +1,4 @@
-use Rattle.std.proofs.Common.{rules, ◌≡◌, ◌+◌, ◌||◌, List, Option, Some, None, Result, Ok, Err, refl, sym, ap, ◌∙◌, subst}
+use Rattle.std.proofs.Common.{rules, ◌≡◌, ◌+◌, ◌||◌, List, Option, Result, Ok, Err, sym, subst}
 use Rattle.std.specs.Prelude.{MatchResult, OnOk}
 use Rattle.mx_write.specs.Change.{Change}
 use Rattle.mx_write.specs.Reads.{Read}
