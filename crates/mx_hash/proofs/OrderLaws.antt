@@ -1,5 +1,5 @@
 -- The keys of a map as a list in order.
-use Rattle.std.proofs.Common.{◌≡◌, ℕ, ◌+◌, Bool, true, false, cond, List, [], ◌∷◌, map, Option, Some, None, Vec, HashMap, sym, refl, ap, ◌∙◌, T, ◌&&◌, ◌||◌, is_some, slice_index_or, arith}
+use Rattle.std.proofs.Common.{◌≡◌, ℕ, ◌+◌, Bool, true, false, cond, List, [], ◌∷◌, map, Option, Some, None, HashMap, sym, refl, ap, ◌∙◌, T, ◌&&◌, ◌||◌, is_some, slice_index_or, arith}
 use mathlib.Core.Bool.{true≢false}
 use Rattle.std.specs.HashMap as hash
 use Rattle.std.specs.FinMap as finite
@@ -18,7 +18,7 @@ use Rattle.std.proofs.lemmas.List.Sorted.{list_any-IsPermutation}
 use Rattle.std.proofs.lemmas.Map.Keys.{IsDistinct-IsPermutation, apart_from_distinct, sorted_from_all_adjacent}
 use Rattle.std.proofs.lemmas.Map.Made.{is_some-lookup}
 use Rattle.mx_hash.specs.Views.{map_of}
-use Rattle.mx_hash.proofs.TableLaws.{same_numbers, same_bytes, same_test, find_by_test, bytes_distinct, found, flipped_test}
+use Rattle.mx_hash.proofs.TableLaws.{same_numbers, same_bytes, same_test, find_by_test, found, flipped_test}
 
 -- keys that differ and don't fall, rise
 rises : (a b : List ℕ) → bytes_eq a b ≡ false → is_lt (slice_cmp nat_cmp b a) ≡ false → slice_cmp nat_cmp a b ≡ Less
@@ -81,17 +81,10 @@ keys_in_order m ks rise members =
     ∙ ap (map (λ e. e.0)) (sym (entries-from_sorted (slice_cmp nat_cmp) (numbered number ks) sorted))
     ∙ ap finite.keys (sym same)
 
-module _ {Y : Type 0} where
-  any_by_bytes : (ks : List (Vec ℕ Y)) (q : List ℕ) → list_any (λ k. bytes_eq q k.items) ks ≡ list_any (bytes_eq q) (map (λ k. k.items) ks)
-  any_by_bytes [] q = refl
-  any_by_bytes (k ∷ ks) q = ap (λ b. bytes_eq q k.items || b) (any_by_bytes ks q)
-
-  -- the keys of a table, sorted
-  pub keys_sorted : {S : Type 0} (m : HashMap (Vec ℕ Y) ℕ S) (ks : List (List ℕ)) → hash.IsUnique (λ x y. bytes_eq x.items y.items) m
-      → IsPermutation (map (λ k. k.items) (hash.keys m)) ks → IsSorted (slice_cmp nat_cmp) ks → ks ≡ finite.keys (map_of m.entries)
-  keys_sorted m ks unique permuted sorted =
-      let bytes = map (λ k. k.items) (hash.keys m) in
-      let distinct = IsDistinct-IsPermutation bytes_eq flipped_test bytes ks permuted (bytes_distinct (hash.keys m) unique) in
-      keys_in_order (map_of m.entries) ks (rising ks distinct sorted) (λ q.
-      ap is_some (found m.entries q) ∙ is_some-lookup (λ k. bytes_eq q k.items) m.entries ∙ any_by_bytes (hash.keys m) q
-      ∙ list_any-IsPermutation (bytes_eq q) bytes ks permuted)
+-- the keys of a table, sorted
+pub keys_sorted : {S : Type 0} (m : HashMap (List ℕ) ℕ S) (ks : List (List ℕ)) → hash.IsUnique bytes_eq m
+    → IsPermutation (hash.keys m) ks → IsSorted (slice_cmp nat_cmp) ks → ks ≡ finite.keys (map_of m.entries)
+keys_sorted m ks unique permuted sorted =
+    let distinct = IsDistinct-IsPermutation bytes_eq flipped_test (hash.keys m) ks permuted unique in
+    keys_in_order (map_of m.entries) ks (rising ks distinct sorted) (λ q.
+    ap is_some (found m.entries q) ∙ is_some-lookup (bytes_eq q) m.entries ∙ list_any-IsPermutation (bytes_eq q) (hash.keys m) ks permuted)

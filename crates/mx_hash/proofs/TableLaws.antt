@@ -1,5 +1,5 @@
 -- What a table of entries maps, and what a change of one key makes of it.
-use Rattle.std.proofs.Common.{◌≡◌, ℕ, Bool, true, false, cond, List, [], ◌∷◌, map, Option, Some, None, Vec, HashMap, sym, refl, ap, subst, ◌∙◌, is_some}
+use Rattle.std.proofs.Common.{◌≡◌, ℕ, Bool, true, false, cond, List, [], ◌∷◌, Option, Some, None, HashMap, sym, refl, ap, ◌∙◌, is_some}
 use mathlib.Core.Bool.{true≢false}
 use Rattle.std.specs.HashMap as hash
 use Rattle.std.specs.FinMap as finite
@@ -7,14 +7,14 @@ use Rattle.std.specs.FinMap.{FinMap, find, get-from_entries, get-insert, get-rem
 use Rattle.std.specs.Cmp.Lexicographic.{slice_cmp, bytes_decides, nat_list_cmp_total, nat_list_eq_equiv}
 use Rattle.std.specs.Ordering.{nat_cmp, eq_by_cmp}
 use Rattle.std.specs.Map.{lookup, keys_of, KeepsOthers}
-use Rattle.std.specs.List.{AllByRecursion, IsDistinct}
+use Rattle.std.specs.List.{IsDistinct}
 use Rattle.std.specs.List.Sorted.{IsPermutation}
 use Rattle.std.specs.Str.{bytes_eq}
 use Rattle.std.proofs.lemmas.List.Sorted.{IsPermutation-map, IsPermutation-sym, Contains-permutation}
 use Rattle.std.proofs.lemmas.Map.Keys.{IsDistinct-IsPermutation}
 use Rattle.std.proofs.lemmas.Map.Text.{is_eq-slice_cmp}
 use Rattle.std.proofs.lemmas.Map.Views.{Contains-from_lookup, lookup-from_Contains}
-use Rattle.mx_hash.specs.Views.{by_bytes, map_of}
+use Rattle.mx_hash.specs.Views.{map_of}
 
 -- two maps with the same number at each key are the same
 pub same_numbers : {X : Type 0} (m n : FinMap (slice_cmp nat_cmp) X) → ((q : List ℕ) → finite.get m q ≡ finite.get n q) → m ≡ n
@@ -65,34 +65,12 @@ module _ {X : Type 0} where
       by_case None is = absent es fs q (found_there fs es q es_distinct (IsPermutation-sym es fs moved)) is
       by_case (Some v) is = found_there es fs q fs_distinct moved v is
 
-module _ {Y : Type 0} where
-  differs_from_each : (key : List ℕ) (ks : List (Vec ℕ Y)) → AllByRecursion (λ k. bytes_eq key k.items ≡ false) ks → AllByRecursion (λ k. bytes_eq key k ≡ false) (map (λ k. k.items) ks)
-  differs_from_each key [] all = tt
-  differs_from_each key (k ∷ ks) all = (all.0, differs_from_each key ks all.1)
-
-  pub bytes_distinct : (ks : List (Vec ℕ Y)) → IsDistinct (λ x y. bytes_eq x.items y.items) ks → IsDistinct bytes_eq (map (λ k. k.items) ks)
-  unfolding IsDistinct
-  bytes_distinct [] distinct = tt
-  bytes_distinct (k ∷ ks) distinct = (differs_from_each k.items ks distinct.0, bytes_distinct ks distinct.1)
-
-module _ {Y X : Type 0} where
-  lookup_by_bytes : (es : List (Vec ℕ Y × X)) (q : List ℕ) → lookup (bytes_eq q) (by_bytes es) ≡ lookup (λ k. bytes_eq q k.items) es
-  lookup_by_bytes [] q = refl
-  lookup_by_bytes (e ∷ es) q = ap (cond (bytes_eq q e.0.items) (Some e.1)) (lookup_by_bytes es q)
-
   -- the number of a key
-  pub found : (es : List (Vec ℕ Y × X)) (q : List ℕ) → finite.get (map_of es) q ≡ lookup (λ k. bytes_eq q k.items) es
-  found es q = get-from_entries nat_list_cmp_total (by_bytes es) q ∙ find_by_test (by_bytes es) q ∙ lookup_by_bytes es q
-
-  same_keys : (es : List (Vec ℕ Y × X)) → keys_of (by_bytes es) ≡ map (λ k. k.items) (keys_of es)
-  same_keys [] = refl
-  same_keys (e ∷ es) = ap (λ ks. e.0.items ∷ ks) (same_keys es)
-
-  keys_distinct : (es : List (Vec ℕ Y × X)) → IsDistinct (λ x y. bytes_eq x.items y.items) (keys_of es) → IsDistinct bytes_eq (keys_of (by_bytes es))
-  keys_distinct es unique = subst (IsDistinct bytes_eq) (sym (same_keys es)) (bytes_distinct (keys_of es) unique)
+  pub found : (es : List (List ℕ × X)) (q : List ℕ) → finite.get (map_of es) q ≡ lookup (bytes_eq q) es
+  found es q = get-from_entries nat_list_cmp_total es q ∙ find_by_test es q
 
   module _ {S : Type 0} where
-    found_after : (m n : HashMap (Vec ℕ Y) X S) (bs : List ℕ) (w : Option X) → hash.UpdatesBy (λ x y. bytes_eq x.items y.items) (λ k. bytes_eq bs k.items) m n w
+    found_after : (m n : HashMap (List ℕ) X S) (bs : List ℕ) (w : Option X) → hash.UpdatesBy bytes_eq (bytes_eq bs) m n w
         → (q : List ℕ) → finite.get (map_of n.entries) q ≡ cond (eq_by_cmp (slice_cmp nat_cmp) q bs) w (finite.get (map_of m.entries) q)
     unfolding KeepsOthers
     found_after m n bs w updates q =
@@ -100,28 +78,23 @@ module _ {Y X : Type 0} where
         ∙ ap (cond (bytes_eq bs q) w) (sym (found m.entries q))
         ∙ ap (λ b. cond b w (finite.get (map_of m.entries) q)) (turned_test bs q)
       where
-        by_test : (b : Bool) → bytes_eq bs q ≡ b → lookup (λ k. bytes_eq q k.items) n.entries ≡ cond b w (lookup (λ k. bytes_eq q k.items) m.entries)
-        by_test true same = ap (λ q. lookup (λ k. bytes_eq q k.items) n.entries) (sym (same_bytes bs q same)) ∙ updates.1
-        by_test false differs = updates.3 (λ k. bytes_eq q k.items) (λ x y. nat_list_eq_equiv.congr q x.items y.items) (λ k. other_differs bs q k.items differs)
+        by_test : (b : Bool) → bytes_eq bs q ≡ b → lookup (bytes_eq q) n.entries ≡ cond b w (lookup (bytes_eq q) m.entries)
+        by_test true same = ap (λ q. lookup (bytes_eq q) n.entries) (sym (same_bytes bs q same)) ∙ updates.1
+        by_test false differs = updates.3 (bytes_eq q) (nat_list_eq_equiv.congr q) (λ k. other_differs bs q k differs)
 
     -- a number set at a key
-    pub inserted : (m n : HashMap (Vec ℕ Y) X S) (bs : List ℕ) (number : X) → hash.UpdatesBy (λ x y. bytes_eq x.items y.items) (λ k. bytes_eq bs k.items) m n (Some number)
+    pub inserted : (m n : HashMap (List ℕ) X S) (bs : List ℕ) (number : X) → hash.UpdatesBy bytes_eq (bytes_eq bs) m n (Some number)
         → map_of n.entries ≡ finite.insert (map_of m.entries) bs number
     inserted m n bs number updates = same_numbers _ _ (λ q. found_after m n bs (Some number) updates q ∙ sym (get-insert nat_list_cmp_total (map_of m.entries) bs number q))
 
     -- a key taken away
-    pub taken : (m n : HashMap (Vec ℕ Y) X S) (bs : List ℕ) → hash.UpdatesBy (λ x y. bytes_eq x.items y.items) (λ k. bytes_eq bs k.items) m n None
+    pub taken : (m n : HashMap (List ℕ) X S) (bs : List ℕ) → hash.UpdatesBy bytes_eq (bytes_eq bs) m n None
         → map_of n.entries ≡ finite.remove (map_of m.entries) bs
     taken m n bs updates = same_numbers _ _ (λ q. found_after m n bs None updates q ∙ sym (get-remove nat_list_cmp_total (map_of m.entries) bs q))
 
     -- entries in another order
-    pub moved : (m n : HashMap (Vec ℕ Y) X S) → IsPermutation m.entries n.entries → hash.IsUnique (λ x y. bytes_eq x.items y.items) n
+    pub moved : (m n : HashMap (List ℕ) X S) → IsPermutation m.entries n.entries → hash.IsUnique bytes_eq n
         → map_of n.entries ≡ map_of m.entries
     moved m n permuted unique =
-        let there = IsPermutation-map (λ e. (e.0.items, e.1)) m.entries n.entries permuted in
-        let distinct = keys_distinct n.entries unique in
-        let before = IsDistinct-IsPermutation bytes_eq flipped_test (keys_of (by_bytes n.entries)) (keys_of (by_bytes m.entries)) (IsPermutation-map (λ e. e.0) (by_bytes n.entries) (by_bytes m.entries) (IsPermutation-sym _ _ there)) distinct in
-        same_numbers _ _ (λ q.
-        get-from_entries nat_list_cmp_total (by_bytes n.entries) q ∙ find_by_test (by_bytes n.entries) q
-        ∙ lookup_moved (by_bytes m.entries) (by_bytes n.entries) q before distinct there
-        ∙ sym (get-from_entries nat_list_cmp_total (by_bytes m.entries) q ∙ find_by_test (by_bytes m.entries) q))
+        let before = IsDistinct-IsPermutation bytes_eq flipped_test (keys_of n.entries) (keys_of m.entries) (IsPermutation-map (λ e. e.0) n.entries m.entries (IsPermutation-sym _ _ permuted)) unique in
+        same_numbers _ _ (λ q. found n.entries q ∙ lookup_moved m.entries n.entries q before unique permuted ∙ sym (found m.entries q))

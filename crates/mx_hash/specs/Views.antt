@@ -1,5 +1,5 @@
 -- How a hash map is seen as a `Table`, which only its type and the proofs need.
-use Rattle.std.specs.Prelude.{ℕ, List, map, Vec, refl}
+use Rattle.std.specs.Prelude.{ℕ, List, refl}
 use Rattle.std.specs.Cmp.Lexicographic.{slice_cmp}
 use Rattle.std.specs.Coded.{Coded, code_by, coded×, coded_ℕ, coded_list}
 use Rattle.std.specs.FinMap as finite
@@ -15,11 +15,7 @@ abbrev pub table_code : Coded Table
 table_code =
     code_by (FinMap (slice_cmp nat_cmp) ℕ × ℕ) (coded× (finite.code (coded_list coded_ℕ) coded_ℕ) coded_ℕ) (λ t. (t.map, t.spare)) (λ p. record { map = p.0; spare = p.1 }) (λ _. refl)
 
-module _ {Y X : Type 0} where
-  -- the entries by the bytes of their keys
-  abbrev pub by_bytes : List (Vec ℕ Y × X) → List (List ℕ × X)
-  by_bytes entries = map (λ e. (e.0.items, e.1)) entries
-
+module _ {X : Type 0} where
   -- a list of entries as a map
-  abbrev pub map_of : List (Vec ℕ Y × X) → FinMap (slice_cmp nat_cmp) X
-  map_of entries = finite.from_entries (by_bytes entries)
+  abbrev pub map_of : List (List ℕ × X) → FinMap (slice_cmp nat_cmp) X
+  map_of entries = finite.from_entries entries

@@ -1,6 +1,6 @@
 //! A hash map from byte strings to numbers, which inserts without taking memory once it has reserved.
 
-ghost use Rattle.std.specs.Prelude.{◌≡◌, ◌≤◌, ◌+◌, if◌then◌else◌, is_some, map, IfOk, OnOk, OnErr};
+ghost use Rattle.std.specs.Prelude.{◌≡◌, ◌≤◌, ◌+◌, if◌then◌else◌, is_some, IfOk, OnOk, OnErr};
 ghost use Rattle.std.specs.FinMap as finite;
 ghost use Rattle.std.specs.HashMap as stored;
 ghost use Rattle.std.specs.Str.{bytes_eq};
@@ -15,7 +15,7 @@ use std::marker::Model;
 #[derive(Debug, Drop)]
 pub struct Hash {
     alloc: Global,
-    numbers: HashMap<Vec<u8>, u64>,
+    numbers: HashMap<Bytes, u64>,
     // Counted here, since a reservation that fails may still leave the map more room than it had.
     spare: usize,
 }
@@ -69,18 +69,18 @@ impl Hash {
         ensures map { self.new.map ≡ finite.insert self.old.map key value }
         ensures spare { self.new.spare + (if is_some result then 0 else 1) ≡ self.old.spare }
     {
-        if let Some(number) = self.numbers.get_mut(key.as_slice()) {
+        if let Some(number) = self.numbers.get_mut(&key) {
             let before = *number;
             *number = value;
             return Some(before);
         }
         self.spare -= 1;
-        let before: Result<_, _> = self.numbers.insert(key.into_vec(), value);
+        let before: Result<_, _> = self.numbers.insert(key, value);
         before.unwrap()
     }
 
     /// Removes a key, and returns its number.
-    pub fn remove(&mut self, key: &[u8]) -> Option<u64>
+    pub fn remove(&mut self, key: &Bytes) -> Option<u64>
         ensures before { result ≡ finite.get self.old.map key.now }
         ensures map { self.new.map ≡ finite.remove self.old.map key.now }
         ensures spare { self.new.spare ≡ self.old.spare }
@@ -89,7 +89,7 @@ impl Hash {
     }
 
     /// The number of a key.
-    pub fn get(&self, key: &[u8]) -> Option<u64>
+    pub fn get(&self, key: &Bytes) -> Option<u64>
         ensures { result ≡ finite.get self.now.map key.now }
     {
         self.numbers.get(key).copied()
@@ -105,9 +105,9 @@ impl Hash {
     }
 }
 
-fn copied_keys(alloc: Global, numbers: &HashMap<Vec<u8>, u64>) -> Result<Vec<Bytes>, AllocError>
-    ensures keys { IfOk result (λ keys. keys.items ≡ map (λ k. k.items) (stored.keys numbers.now)) }
-    ensures unique { IfOk result (λ _. stored.IsUnique (λ a b. bytes_eq a.items b.items) numbers.now) }
+fn copied_keys(alloc: Global, numbers: &HashMap<Bytes, u64>) -> Result<Vec<Bytes>, AllocError>
+    ensures keys { IfOk result (λ keys. keys.items ≡ stored.keys numbers.now) }
+    ensures unique { IfOk result (λ _. stored.IsUnique bytes_eq numbers.now) }
 {
     let mut keys = Vec::with_capacity(alloc, numbers.len())?;
     for key in numbers.keys() {

@@ -13,3 +13,5 @@ pub mod Items
 pub mod Types
 pub mod Lookups
 pub mod Maps
+pub mod Short
+pub mod Stored

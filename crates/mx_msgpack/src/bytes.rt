@@ -2,26 +2,41 @@
 
 ghost use Rattle.std.specs.Prelude.{◌≡◌, ◌≤◌, ◌+◌, ◌++◌, [], length, take, drop, Some, IfOk, IsTrue, MatchResult, ◌↔◌, nat_eq};
 ghost use Rattle.std.specs.Cmp.{partial_equiv_from_equiv};
-ghost use Rattle.std.specs.Cmp.Lexicographic.{pointwise, slice_cmp, texts_po, texts_ties};
+ghost use Rattle.std.specs.Cmp.Lexicographic.{pointwise, slice_cmp, texts_po, texts_ties, bytes_decides};
 ghost use Rattle.std.specs.Ordering.{nat_cmp};
+ghost use Rattle.std.specs.Hash as fed;
+ghost use Rattle.std.proofs.Common.{ap};
 ghost use Rattle.std.proofs.lemmas.Cmp.{nat_list_eq_equiv, nat_list_cmp_total};
 
+use crate::short_bytes::ShortBytes;
+use crate::storage::Storage;
 use std::alloc::{AllocError, Global};
 use std::cmp::Ordering;
+use std::fmt::{self, Debug, Formatter, Write};
+use std::hash::{Hash, Hasher};
 use std::marker::Model;
 
-/// A row of bytes, of any values.
-#[derive(Debug, Drop)]
+/// A row of bytes, of any values. Up to 30 are kept in place, with no allocation.
+#[derive(Drop)]
 pub struct Bytes {
-    items: Vec<u8>,
+    storage: Storage,
 }
 
 impl Model for Bytes {
     ghost use Rattle.std.specs.Prelude.{ℕ, List};
+    ghost use Rattle.mx_msgpack.specs.Stored.{stored_bytes};
 
     ghost Value = { List ℕ };
 
-    ghost view = { λ b. b.items.items };
+    ghost view = { λ b. stored_bytes b.storage };
+}
+
+impl Debug for Bytes {
+    fn fmt<W: Write>(&self, f: &mut Formatter<W>) -> fmt::Result {
+        f.debug_struct("Bytes")
+            .field("items", &self.as_slice())
+            .finish()
+    }
 }
 
 impl PartialEq for Bytes {
@@ -30,7 +45,7 @@ impl PartialEq for Bytes {
     ghost laws = { partial_equiv_from_equiv nat_list_eq_equiv };
 
     fn eq(&self, other: &Bytes) -> bool {
-        self.items.as_slice() == other.items.as_slice()
+        self.as_slice() == other.as_slice()
     }
 }
 
@@ -59,7 +74,17 @@ impl Ord for Bytes {
     ghost matches_eq = { texts_ties };
 
     fn cmp(&self, other: &Bytes) -> Ordering {
-        self.items.as_slice().cmp(other.items.as_slice())
+        self.as_slice().cmp(other.as_slice())
+    }
+}
+
+impl Hash for Bytes {
+    ghost hash_input = { fed.slice fed.u8 };
+
+    ghost respects_eq = { λ a b same. ap (fed.slice fed.u8) ((bytes_decides a b).0 same) };
+
+    fn hash<H: Hasher>(&self, state: &mut H) {
+        self.as_slice().hash(state);
     }
 }
 
@@ -69,30 +94,32 @@ impl Bytes {
         ensures { result ≡ [] }
     {
         Bytes {
-            items: Vec::new(alloc),
+            storage: Storage::Short(ShortBytes::new(alloc)),
         }
     }
 
-    /// The bytes of the vector.
+    /// The bytes of the vector, which stays as it is.
     pub fn from_vec(items: Vec<u8>) -> Bytes
         ensures { result ≡ items.items }
     {
-        Bytes { items }
-    }
-
-    /// The bytes as a vector.
-    pub fn into_vec(self) -> Vec<u8>
-        ensures { result.items ≡ self }
-    {
-        self.items
+        Bytes {
+            storage: Storage::Long(items),
+        }
     }
 
     /// A copy of the bytes.
     pub fn from_slice(alloc: Global, bytes: &[u8]) -> Result<Bytes, AllocError>
         ensures { IfOk result (λ copy. copy ≡ bytes.now) }
     {
+        let mut short = ShortBytes::new(alloc);
+        if short.has_room(bytes.len()) {
+            short.extend_from_slice(bytes);
+            return Ok(Bytes {
+                storage: Storage::Short(short),
+            });
+        }
         Ok(Bytes {
-            items: bytes.to_vec(alloc)?,
+            storage: Storage::Long(bytes.to_vec(alloc)?),
         })
     }
 
@@ -100,14 +127,26 @@ impl Bytes {
     pub fn as_slice(&self) -> &[u8]
         ensures { result.now ≡ self.now }
     {
-        self.items.as_slice()
+        match &self.storage {
+            Storage::Short(short) => short.as_slice(),
+            Storage::Long(items) => items.as_slice(),
+        }
     }
 
     /// Makes room for so many further bytes, which are then added without growing again.
     pub fn reserve(&mut self, additional: usize) -> Result<(), AllocError>
         ensures { self.new ≡ self.old }
     {
-        self.items.reserve(additional)
+        match &mut self.storage {
+            Storage::Short(short) => {
+                if !short.has_room(additional) {
+                    let items = short.to_vec(additional)?;
+                    self.storage = Storage::Long(items);
+                }
+                Ok(())
+            }
+            Storage::Long(items) => items.reserve(additional),
+        }
     }
 
     /// Adds these bytes at the end.
@@ -117,7 +156,19 @@ impl Bytes {
     pub fn extend_from_slice(&mut self, bytes: &[u8]) -> Result<(), AllocError>
         ensures { MatchResult result (λ _. self.new ≡ self.old ++ bytes.now) (λ _. self.new ≡ self.old) }
     {
-        self.items.extend_from_slice(bytes)
+        match &mut self.storage {
+            Storage::Short(short) => {
+                if short.has_room(bytes.len()) {
+                    short.extend_from_slice(bytes);
+                } else {
+                    let mut items = short.to_vec(bytes.len())?;
+                    items.extend_from_slice(bytes)?;
+                    self.storage = Storage::Long(items);
+                }
+                Ok(())
+            }
+            Storage::Long(items) => items.extend_from_slice(bytes),
+        }
     }
 
     /// Puts these bytes into the place of as many that begin at `at`.
@@ -125,27 +176,36 @@ impl Bytes {
         requires { at + length bytes.now ≤ length self.old }
         ensures { self.new ≡ take at self.old ++ (bytes.now ++ drop (at + length bytes.now) self.old) }
     {
-        self.items[at..at + bytes.len()].copy_from_slice(bytes);
+        match &mut self.storage {
+            Storage::Short(short) => short.write_at(at, bytes),
+            Storage::Long(items) => items[at..at + bytes.len()].copy_from_slice(bytes),
+        }
     }
 
     /// Keeps the first `len` bytes; does nothing where there are no more.
     pub fn truncate(&mut self, len: usize)
         ensures { self.new ≡ take len self.old }
     {
-        self.items.truncate(len);
+        match &mut self.storage {
+            Storage::Short(short) => short.truncate(len),
+            Storage::Long(items) => items.truncate(len),
+        }
     }
 
     /// How many bytes there are.
     pub fn len(&self) -> usize
         ensures { result ≡ length self.now }
     {
-        self.items.len()
+        match &self.storage {
+            Storage::Short(short) => short.len(),
+            Storage::Long(items) => items.len(),
+        }
     }
 
     /// Whether there is no byte.
     pub fn is_empty(&self) -> bool
         ensures { IsTrue result ↔ (self.now ≡ []) }
     {
-        self.items.is_empty()
+        self.as_slice().is_empty()
     }
 }

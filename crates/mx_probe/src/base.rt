@@ -207,7 +207,14 @@ fn of_names(name: &str, arguments: &mut Arguments<'_>) -> Refusal {
 
 /// The next argument as a name.
 fn name_of(arguments: &mut Arguments<'_>) -> Name {
-    Name::from_vec(arguments.bytes().into_vec())
+    let alloc = arguments.alloc();
+    match arguments.bytes().as_slice().to_vec(alloc) {
+        Ok(bytes) => Name::from_vec(bytes),
+        Err(_) => {
+            arguments.refuse(Fault::NoMemory);
+            Name::from_vec(Vec::new(alloc))
+        }
+    }
 }
 
 /// The bytes of two names, one a copy and the other a vector's, and whether they are the same.

@@ -45,11 +45,11 @@ fn step(
         }
         "get" => {
             let key = arguments.bytes_in(rest);
-            show(hash.get(key.as_slice()), answer)
+            show(hash.get(&key), answer)
         }
         "remove" => {
             let key = arguments.bytes_in(rest);
-            show(hash.remove(key.as_slice()), answer)
+            show(hash.remove(&key), answer)
         }
         "sorted" => show_keys(hash, answer),
         "fill" => {
@@ -60,7 +60,7 @@ fn step(
         "drain" => {
             let count: u16 = arguments.number_in(first);
             let stride: u16 = arguments.number_in(second);
-            drain(hash, count, stride, answer)
+            drain(arguments.alloc(), hash, count, stride, answer)
         }
         _ => {
             arguments.refuse_text("step", text);
@@ -116,10 +116,17 @@ fn fill(
 }
 
 /// Removes the same keys, and tells the sum of their numbers.
-fn drain(hash: &mut Hash, count: u16, stride: u16, answer: &mut String) -> Result<(), AllocError> {
+fn drain(
+    alloc: Global,
+    hash: &mut Hash,
+    count: u16,
+    stride: u16,
+    answer: &mut String,
+) -> Result<(), AllocError> {
     let mut sum: u64 = 0;
     for number in 0..count {
-        let removed = hash.remove(&number.wrapping_mul(stride).to_be_bytes());
+        let key = Bytes::from_slice(alloc, &number.wrapping_mul(stride).to_be_bytes())?;
+        let removed = hash.remove(&key);
         sum = sum.saturating_add(removed.unwrap_or(0));
     }
     write!(answer, "{sum}")

@@ -253,7 +253,7 @@ fn compared(alloc: Global, size: usize, out: &Bytes) -> Result<String, AllocErro
 fn bytes(arguments: &mut Arguments<'_>) -> Result<String, AllocError> {
     let alloc = arguments.alloc();
     let bytes = arguments.bytes();
-    let other = Bytes::from_vec(arguments.bytes().into_vec());
+    let other = Bytes::from_vec(arguments.bytes().as_slice().to_vec(alloc)?);
     let copy = Bytes::from_slice(alloc, bytes.as_slice())?;
     let count = copy.len();
     let is_empty = copy.is_empty();

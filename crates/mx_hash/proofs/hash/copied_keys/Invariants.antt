@@ -1,4 +1,4 @@
-use Rattle.std.proofs.Common.{◌≡◌, ◌≤◌, ◌+◌, ◌++◌, length, map}
+use Rattle.std.proofs.Common.{◌≡◌, ◌≤◌, ◌+◌, ◌++◌, length}
 use Rattle.std.specs.HashMap as stored
 use Rattle.std.specs.Vec.{vec_capacity}
 use Rattle.mx_hash.proofs.hash.copied_keys.Given as goal
@@ -7,5 +7,5 @@ abbrev pub invariant-loop-key : goal.invariant-loop-key
 invariant-loop-key l =
     record {
       room : length l.keys.items + length l.key-iterator ≤ vec_capacity l.keys;
-      told : l.keys.items ++ map (λ k. k.items) l.key-iterator ≡ map (λ k. k.items) (stored.keys l.numbers);
+      told : l.keys.items ++ l.key-iterator ≡ stored.keys l.numbers;
     }
