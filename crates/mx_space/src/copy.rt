@@ -1,6 +1,9 @@
 //! Copies of what a space keeps.
 
-ghost use Rattle.std.specs.Prelude.{◌≡◌, IfOk};
+ghost use Rattle.std.specs.Prelude.{◌≡◌, IfOk, OnOk};
+ghost use Rattle.std.specs.BTreeMap.{insert_entry};
+ghost use Rattle.std.specs.Cmp.Lexicographic.{slice_cmp};
+ghost use Rattle.std.specs.Ordering.{nat_cmp};
 
 use crate::tree_index::TreeIndex;
 use mx_msgpack::Bytes;
@@ -15,9 +18,23 @@ pub(crate) fn copy_of_entries(
 {
     let mut copy = BTreeMap::new(alloc);
     for (key, value) in entries {
-        copy.insert(copy_of(alloc, key)?, copy_of(alloc, value)?)?;
+        let key = copy_of(alloc, key)?;
+        let value = copy_of(alloc, value)?;
+        set_entry(&mut copy, key, value)?;
     }
     Ok(copy)
+}
+
+/// Puts a value under its key, in place of one that is there.
+pub(crate) fn set_entry(
+    entries: &mut BTreeMap<Bytes, Bytes>,
+    key: Bytes,
+    value: Bytes,
+) -> Result<(), AllocError>
+    ensures { OnOk result (entries.new.entries ≡ insert_entry (slice_cmp nat_cmp) entries.old.entries key value) }
+{
+    entries.insert(key, value)?;
+    Ok(())
 }
 
 pub(crate) fn copy_of_indexes(

@@ -21,6 +21,7 @@ ghost use Rattle.mx_schema.specs.Stored.{StoresTuples, stored_tuple};
 ghost use Rattle.mx_space.specs.Scans.{Selects, SelectsByKey};
 ghost use Rattle.mx_space.specs.Selecting.{AreFitEntries, IsCollected, IsStopped, as_fault, found_in, rows_found};
 
+use crate::copy::set_entry;
 use crate::index::Index;
 use crate::pick::{Pick, SelectFault, SelectStop, Source, collect, collect_one, pass_over};
 use crate::tree_index::TreeIndex;
@@ -119,7 +120,7 @@ fn index_tuples(
     let mut indexed = BTreeMap::new(alloc);
     for (key, tuple) in tuples {
         let Keyed { key, tuple } = index_tuple(alloc, def, key.as_slice(), tuple.as_slice())?;
-        indexed.insert(key, tuple)?;
+        set_entry(&mut indexed, key, tuple)?;
     }
     Ok(indexed)
 }

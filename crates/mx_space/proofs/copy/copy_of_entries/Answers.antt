@@ -8,13 +8,8 @@ loop-key-init c =
 
 pub loop-key-preserved : goal.loop-key-preserved
 loop-key-preserved c =
-    one_copied c.loop-key.copy.entries c.loop-key.key-iterator c.next.new.self c.insert.new.self.entries c.args.entries.now.entries c.in-Some.key.now c.in-Some.value.now c.in_ok-copy_of.field-0 c.in_ok-copy_of-2.field-0
-    c.in-Some.ensures.steps c.in_ok-copy_of.ensures c.in_ok-copy_of-2.ensures c.in_ok-insert.ensures.entries c.loop-key.invariant
-
-pub loop-key-preserved-in_ok-insert : goal.loop-key-preserved-in_ok-insert
-loop-key-preserved-in_ok-insert c =
-    one_copied c.loop-key.copy.entries c.loop-key.key-iterator c.next.new.self c.insert.new.self.entries c.args.entries.now.entries c.in-Some.key.now c.in-Some.value.now c.in_ok-copy_of.field-0 c.in_ok-copy_of-2.field-0
-    c.in-Some.ensures.steps c.in_ok-copy_of.ensures c.in_ok-copy_of-2.ensures c.in_ok-insert.ensures.entries c.loop-key.invariant
+    one_copied c.loop-key.copy.entries c.loop-key.key-iterator c.next.new.self c.set_entry.new.entries.entries c.args.entries.now.entries c.in-Some.key.now c.in-Some.value.now c.in_ok-key.key c.in_ok-value.value
+    c.in-Some.ensures.steps c.in_ok-key.ensures c.in_ok-value.ensures c.in_ok-set_entry.ensures c.loop-key.invariant
 
 pub returns : goal.returns
 returns c = all_copied c.loop-key.copy.entries c.loop-key.key-iterator c.args.entries.now.entries c.in-None.ensures.steps.0 c.loop-key.invariant
