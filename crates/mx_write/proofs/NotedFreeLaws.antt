@@ -1,10 +1,11 @@
 -- What the tests note whether a tuple's keys are free.
-use Rattle.std.proofs.Common.{◌≡◌, ◌≢◌, ℕ, zero, suc, drop, true, not, List, [], ◌∷◌, Option, Some, None, Result, Ok, Err, sym, ap, ◌∙◌, subst}
+use Rattle.std.proofs.Common.{◌≡◌, ◌≢◌, ◌⊎◌, ℕ, zero, suc, drop, true, not, List, [], ◌∷◌, Option, Some, None, Result, Ok, Err, sym, ap, ◌∙◌, subst}
 use Rattle.std.specs.Prelude.{◌||◌, if◌then◌else◌}
 use Rattle.std.proofs.lemmas.Bool.{ne_eqb}
 use Rattle.std.specs.FinMap.{get}
 use Rattle.std.specs.List.{AllByRecursion}
 use Rattle.mx_base.specs.declared.refusal.Refusal.{Refusal}
+use Rattle.mx_base.specs.declared.refusal.Refusal.TheVariants.{OutOfMemory}
 use Rattle.mx_key.specs.Keys.{Key}
 use Rattle.mx_schema.specs.declared.index_def.IndexDef.{IndexDef}
 use Rattle.mx_schema.specs.declared.schema.Schema.{Schema}
@@ -20,13 +21,13 @@ use Rattle.mx_write.specs.Lookup.{all_indexes, holder_of, other_indexes, own_key
 use Rattle.mx_write.specs.Made.{Made, made}
 use Rattle.mx_write.specs.Notes.{AddsReads, IsNotedUpTo, Noted}
 use Rattle.mx_write.specs.Reads.{key_read}
-use Rattle.mx_write.specs.Steps.{IsTarget, refusal_of}
+use Rattle.mx_write.specs.Steps.{IsTarget, Refuses, refusal_of}
 use Rattle.mx_write.specs.Unique.{are_free, duplicate_refusal, held_refusal, is_free}
 use Rattle.mx_write.specs.Update.{key_change, put_in_place}
 use Rattle.mx_write.specs.Writes.{Insert, Write}
 use Rattle.mx_write.proofs.EntryLaws.{unique_is}
-use Rattle.mx_write.proofs.NoteLaws.{made_quiet, noted_here, noted_on, quiet_here, quiet_on, then_quiet, unless_quiet}
-use Rattle.mx_write.proofs.StageLaws.{goes_on, none_refuses, went_on}
+use Rattle.mx_write.proofs.NoteLaws.{made_quiet, noted_here, noted_on, quiet_here, quiet_on, quiet_refusal, then_quiet, unless_quiet}
+use Rattle.mx_write.proofs.StageLaws.{goes_on, none_refuses, refuses_so, went_on}
 use Rattle.mx_write.proofs.UniqueLaws.{holder_is, number_is}
 
 -- what each has, those from a place on have
@@ -162,3 +163,10 @@ module _ (before : State) (space : ℕ) (schema : Schema) (primary : IndexDef) (
       quiet_on (unless (tuple_fault schema primary tuple)) (λ _. to_same) (unless_quiet _) old tt now (none_refuses _ takes)
       (quiet_on (unless (key_change schema (own_key primary tuple) own)) (λ _. (tests >>= to_made)) (unless_quiet _) old tt now (none_refuses _ same)
       (subst (AddsReads old now) (sym (then_quiet tests to_made (λ u. made_quiet space write own (Some tuple) shown))) noted))
+
+-- one that the space doesn't take
+pub noted_not_taken : (before : State) (space : ℕ) (schema : Schema) (primary : IndexDef) (write : Write) (own : Key) (tuple : List ℕ) (shown : List (List ℕ)) (old : Noted) (why : Refusal)
+    → Refuses why (tuple_fault schema primary tuple) → (why ≡ OutOfMemory) ⊎ AddsReads old old (put_in_place before space schema primary write own tuple shown).reads
+noted_not_taken before space schema primary write own tuple shown old why refuses =
+    let rest = λ (u : Unit {0}). unless (key_change schema (own_key primary tuple) own) >>= λ _. (are_free before space schema primary (Some own) tuple (other_indexes schema.indexes) >>= λ _. made space write own (Some tuple) shown) in
+    quiet_refusal (unless (tuple_fault schema primary tuple)) rest (unless_quiet _) old why (refuses_so _ why refuses)

@@ -1,4 +1,5 @@
 use Rattle.std.proofs.Common.{inr, Some, sym, ap, ◌∙◌}
+use Rattle.std.proofs.lemmas.Result.{err_from_is_err_and}
 use Rattle.mx_base.specs.declared.refusal.Refusal.TheVariants.{PrimaryKeyChanged}
 use Rattle.mx_write.specs.Lookup.{other_indexes}
 use Rattle.mx_write.specs.Made.{made}
@@ -10,7 +11,8 @@ use Rattle.mx_write.proofs.MadeLaws.{judged_made}
 use Rattle.mx_write.proofs.PlaceLaws.{key_changes, key_is, key_stays, not_free, not_same, reaches}
 use Rattle.mx_write.proofs.StageLaws.{judged_by, stopped_so, went_on}
 use Rattle.mx_write.proofs.TargetLaws.{has_key}
-use Rattle.mx_write.proofs.NotedFreeLaws.{noted_other_key, noted_same_key}
+use Rattle.mx_write.proofs.NoteLaws.{as_result}
+use Rattle.mx_write.proofs.NotedFreeLaws.{noted_not_taken, noted_other_key, noted_same_key}
 use Rattle.mx_write.proofs.place.put_in_place.Goals as goal
 
 pub returns-then-ne-clause-judges : goal.returns-then-ne-clause-judges
@@ -56,6 +58,15 @@ returns-clause-judges c = λ before own target fit bytes same_row.
     (key_stays schema primary tuple c.in_ok-new_key.new_key c.args.key own checked.1 fit bytes test) free)
     (judged_made before space write schema own _ _ _ (target.stored.sees.state.holds.is ∙ ap Some (sym target.schema)) fit bytes
     (has_key schema primary own tuple target.primary (key_is schema primary tuple c.in_ok-new_key.new_key c.args.key own checked.1 fit bytes test)) same_row c.make.result c.make.ensures)
+
+pub returns-in_err-new_key-clause-notes : goal.returns-in_err-new_key-clause-notes
+returns-in_err-new_key-clause-notes c = λ before own target fit bytes.
+    let p = err_from_is_err_and c.from_residual.result c.from_residual.ensures.1 in
+    let t = c.args.target.now in
+    let tuple = c.args.tuple in
+    let why = c.in_err-new_key.field-0.0 in
+    rw (p.1, p.2) (as_result why (noted_not_taken before t.scope.space.0 t.schema.now t.primary.now (write_view c.args.write.now) own tuple (shown_if c.args.is_shown tuple) c.args.notes.now why
+    (rw c.as_slice.ensures at c.in_err-new_key.ensures)))
 
 pub returns-then-ne-clause-notes : goal.returns-then-ne-clause-notes
 returns-then-ne-clause-notes c = λ before own target fit bytes.
