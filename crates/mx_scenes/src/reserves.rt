@@ -1,11 +1,11 @@
 //! Changes of a commit in memory: reserved and installed they make what puts and removals make one by one,
-//! and released they make nothing. A copy stays as it is while its original changes.
+//! and released they make nothing. A copy stays as it is while its original changes, and so does a kept state.
 
 use mx_base::{IndexId, Name, SpaceId};
 use mx_key::{IterKind, KeyDef, Part, PartKind};
 use mx_msgpack::{Bytes, Tuples};
 use mx_schema::{Catalogue, IndexDef, IndexKind, Keyed, SpaceDef, array_or_empty, key_tuple};
-use mx_space::{Pick, State, TupleChange, TupleChanges};
+use mx_space::{KeptStates, Pick, State, TupleChange, TupleChanges};
 use mx_tuple::{Format, FormatEntries};
 use std::alloc::{AllocError, Global};
 use std::test::Fail;
@@ -200,6 +200,36 @@ fn copies(alloc: Global) -> Result<bool, AllocError> {
     Ok(after.as_slice() == &AFTER[..] && kept.as_slice() == &BEFORE[..] && followed == after)
 }
 
+/// What each index has in the state that is kept after so many commits; nothing where none is kept.
+fn kept(alloc: Global, states: &KeptStates, commits: u64) -> Result<Bytes, AllocError> {
+    match states.at(commits) {
+        Some(state) => shown(alloc, state),
+        None => Ok(Bytes::new(alloc)),
+    }
+}
+
+/// States are kept before two changes, one of them again after it. Those before the oldest one that is read
+/// are dropped, and the others are as they were.
+fn keeps(alloc: Global) -> Result<bool, AllocError> {
+    let mut state = first_state(alloc)?;
+    let mut states = KeptStates::new(alloc);
+    states.keep(alloc, 3, &state)?;
+    make_each(alloc, &mut state, &CHANGES)?;
+    states.keep(alloc, 3, &state)?;
+    states.keep(alloc, 4, &state)?;
+    make_each(alloc, &mut state, &FIRST)?;
+    let first = kept(alloc, &states, 3)?;
+    let second = kept(alloc, &states, 4)?;
+    let both = first.as_slice() == &BEFORE[..] && second.as_slice() == &AFTER[..];
+    states.trim(Some(3));
+    let all = states.len() == 2;
+    states.trim(Some(4));
+    let left = kept(alloc, &states, 4)?;
+    let one = states.len() == 1 && states.at(3).is_none() && left.as_slice() == &AFTER[..];
+    states.trim(None);
+    Ok(both && all && one && states.is_empty())
+}
+
 #[test]
 fn installed_changes_are_those_made_one_by_one(rt: HostRuntime) -> Result<(), Fail> {
     assert!(rt; installs(rt.alloc())?);
@@ -215,5 +245,11 @@ fn released_changes_leave_nothing(rt: HostRuntime) -> Result<(), Fail> {
 #[test]
 fn a_copy_stays_while_its_original_changes(rt: HostRuntime) -> Result<(), Fail> {
     assert!(rt; copies(rt.alloc())?);
+    Ok(())
+}
+
+#[test]
+fn kept_states_stay_until_no_view_reads_them(rt: HostRuntime) -> Result<(), Fail> {
+    assert!(rt; keeps(rt.alloc())?);
     Ok(())
 }

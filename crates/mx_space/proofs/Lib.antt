@@ -14,6 +14,7 @@ pub mod IndexScanLaws
 pub mod IndexedLaws
 pub mod ItemLaws
 pub mod JoinLaws
+pub mod KeptStateLaws
 pub mod KeyMapLaws
 pub mod MapLaws
 pub mod MemberLaws

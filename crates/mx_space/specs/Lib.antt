@@ -4,6 +4,7 @@ pub mod Changes
 pub mod Entries
 pub mod Kept
 pub mod KeptKeys
+pub mod KeptStates
 pub mod Overlays
 pub mod OwnChanges
 pub mod OwnCommit

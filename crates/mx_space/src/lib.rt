@@ -7,6 +7,7 @@ mod changes;
 mod copy;
 mod entries;
 mod index;
+mod kept_states;
 mod overlay;
 mod own_changes;
 mod pick;
@@ -28,6 +29,7 @@ mod view_select;
 
 pub use build::BuildFault;
 pub use index::Index;
+pub use kept_states::KeptStates;
 pub use overlay::OverlaidSpace;
 pub use own_changes::Overlay;
 pub use pick::{MAX_RESULT_SIZE, Pick, SelectFault, SelectStop};
