@@ -25,6 +25,7 @@ pub mod OwnChangeLaws
 pub mod OwnCommitLaws
 pub mod OwnHeldLaws
 pub mod OwnOrderLaws
+pub mod OwnSchemaLaws
 pub mod PartLaws
 pub mod PickLaws
 pub mod PlaceLaws

@@ -1,11 +1,14 @@
 -- What memory holds of own changes after one more.
-use Rattle.std.proofs.Common.{◌≡◌, ℕ, Bool, true, false, cond, List, ◌∷◌, Option, Some, None, refl, sym, ap, ◌∙◌, subst, arith, eqb-true, eq-eqb}
-use Rattle.std.specs.Prelude.{◌==◌, if◌then◌else◌}
+use Rattle.std.proofs.Common.{◌≡◌, ◌≢◌, ℕ, Bool, true, false, cond, List, ◌∷◌, Option, Some, None, refl, sym, ap, ◌∙◌, subst, arith, eqb-true, eq-eqb, true≢false}
+use Rattle.std.specs.Prelude.{◌==◌, if◌then◌else◌, is_some}
 use Rattle.std.specs.BTreeMap as tree
 use Rattle.std.specs.BTreeMap.{BTreeMap, is_at}
-use Rattle.std.specs.FinMap.{empty, insert}
-use Rattle.std.specs.Ordering.{nat_cmp}
+use Rattle.std.specs.Cmp.{tied_itself}
+use Rattle.std.specs.FinMap.{empty, get, get-empty, get-insert, insert}
+use Rattle.std.specs.Ordering.{is_eq, nat_cmp}
 use Rattle.std.proofs.lemmas.Bool.Decides.{nat_tests}
+use Rattle.mx_key.specs.Keys.{Key, key_cmp}
+use Rattle.mx_key.proofs.KeyLaws.{key_cmp_total}
 use Rattle.mx_schema.specs.declared.schema.Schema.{Schema}
 use Rattle.mx_space.specs.declared.overlay.OverlaidSpace.{OverlaidSpace}
 use Rattle.mx_space.specs.declared.own_changes.Overlay.{Overlay}
@@ -21,6 +24,17 @@ use Rattle.mx_space.specs.Reserves.{MayStand, PlainChange}
 
 pub at_number : (a b : ℕ) → is_at (nat_cmp a) b ≡ (a == b)
 at_number a b = grind (arith, nat_tests)
+
+some_not_none : {X : Type 0} (x : X) → Some x ≢ None
+some_not_none x is = true≢false (ap is_some is)
+
+-- a write more isn't none
+pub not_empty : (written : OwnWrites) (key : Key) (tuple : Option (List ℕ)) → insert written key tuple ≢ empty
+not_empty written key tuple is = some_not_none tuple (
+    ap (λ o. cond (is_eq o) (Some tuple) (get written key)) (sym (tied_itself key_cmp_total key))
+    ∙ sym (get-insert key_cmp_total written key tuple key)
+    ∙ ap (λ (w : OwnWrites). get w key) is
+    ∙ get-empty key_cmp key)
 
 -- the writes in one space are others now
 abbrev pub SetsWrites : (old new : Overlay) → (id : ℕ) → OverlaidSpace → Type 0
@@ -41,6 +55,16 @@ module _ (schemas : ℕ → Option Schema) (old new : Overlay) (own : List Plain
           subst (λ o. StoresOver (schemas q) o (written_by q later)) (sym (sets q ∙ ap (λ b. cond b (Some over) (overlaid q old)) (at_number id q ∙ e)))
           (subst (StoresOver (schemas q) (overlaid q old)) (sym (others q e)) (holds.each q))
 
+  -- no space without changes has writes
+  none_at : (id : ℕ) (over : OverlaidSpace) (later : List PlainChange) → SetsWrites old new id over
+      → ((q : ℕ) → (id == q) ≡ false → written_by q later ≡ written_by q own)
+      → written_by id later ≢ empty → (q : ℕ) → written_by q later ≡ empty → overlaid q new ≡ None
+  none_at id over later sets others some q none = by_test (id == q) refl
+    where
+      by_test : (b : Bool) → (id == q) ≡ b → overlaid q new ≡ None
+      by_test true e = absurd (some (subst (λ n. written_by n later ≡ empty) (sym (eqb-true id q e)) none))
+      by_test false e = sets q ∙ ap (λ b. cond b (Some over) (overlaid q old)) (at_number id q ∙ e) ∙ holds.none q (sym (others q e) ∙ none)
+
   -- a change more
   pub holds_more : (change : PlainChange) (over : OverlaidSpace) → SetsWrites old new change.space over → MayStand schemas change
       → StoresWritten (schemas change.space) over (insert (written_by change.space own) change.key change.tuple) → HoldsOwn schemas new (change ∷ own)
@@ -49,12 +73,20 @@ module _ (schemas : ℕ → Option Schema) (old new : Overlay) (own : List Plain
         (λ q apart. ap (λ b. if b then insert (written_by q own) change.key change.tuple else written_by q own) apart)
         (subst (λ b. StoresWritten (schemas change.space) over (if b then insert (written_by change.space own) change.key change.tuple else written_by change.space own))
         (sym (eq-eqb change.space change.space refl)) here);
+    none = none_at change.space over (change ∷ own) sets
+        (λ q apart. ap (λ b. if b then insert (written_by q own) change.key change.tuple else written_by q own) apart)
+        (λ none. not_empty (written_by change.space own) change.key change.tuple
+        (sym (ap (λ b. if b then insert (written_by change.space own) change.key change.tuple else written_by change.space own) (eq-eqb change.space change.space refl)) ∙ none));
     stand = (stands, holds.stand);
   }
 
   -- as before
-  pub holds_still : (id : ℕ) (over : OverlaidSpace) → SetsWrites old new id over → StoresWritten (schemas id) over (written_by id own) → HoldsOwn schemas new own
-  holds_still id over sets here = record { each = holds_at id over own sets (λ q apart. refl) here; stand = holds.stand }
+  pub holds_still : (id : ℕ) (found over : OverlaidSpace) → overlaid id old ≡ Some found → SetsWrites old new id over → StoresWritten (schemas id) over (written_by id own) → HoldsOwn schemas new own
+  holds_still id found over there sets here = record {
+    each = holds_at id over own sets (λ q apart. refl) here;
+    none = none_at id over own sets (λ q apart. refl) (λ none. some_not_none found (sym there ∙ holds.none id none));
+    stand = holds.stand;
+  }
 
   -- the writes in a space
   pub writes_there : (id : ℕ) (over : OverlaidSpace) → overlaid id old ≡ Some over → StoresWritten (schemas id) over (written_by id own)

@@ -37,9 +37,10 @@ abbrev pub overlaid_in : (space : ℕ) → Option Overlay → Option OverlaidSpa
 overlaid_in space None = None
 overlaid_in space (Some overlay) = overlaid space overlay
 
--- memory has these own changes, in spaces that are described so
+-- memory has these own changes, in spaces that are described so, and nothing of a space without own changes
 pub record HoldsOwn (schemas : ℕ → Option Schema) (overlay : Overlay) (own : List PlainChange) : Type 0 where
   pub each : (space : ℕ) → StoresOver (schemas space) (overlaid space overlay) (written_by space own)
+  pub none : (space : ℕ) → written_by space own ≡ empty → overlaid space overlay ≡ None
   pub stand : AllByRecursion (MayStand schemas) own
 
 -- the same where there may be no overlay

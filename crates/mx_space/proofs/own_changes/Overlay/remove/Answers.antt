@@ -31,7 +31,7 @@ returns-in-Some-clause-err c = λ schemas own holds.
     let after = c.remove.new.self in
     let new : Overlay = record { spaces = c.get_mut.follows.lender after } in
     let there : overlaid space c.args.self.now ≡ Some found = sym c.get_mut.ensures.value ∙ ap option_copied_mut c.in-Some.is in
-    on_err_weaker c.remove.result (λ stores. holds_still schemas c.args.self.now new own holds space after ((c.get_mut.follows.holds after).3 (ap is_some there)).0 stores)
+    on_err_weaker c.remove.result (λ stores. holds_still schemas c.args.self.now new own holds space found after there ((c.get_mut.follows.holds after).3 (ap is_some there)).0 stores)
     (c.remove.ensures.err (schemas space) (written_by space own) (writes_there schemas c.args.self.now new own holds space found there))
 
 pub returns-clause-ok : goal.returns-clause-ok
