@@ -1,7 +1,7 @@
 -- What a SELECT is answered, by the first test that it fails.
 use Rattle.std.proofs.Common.{◌≡◌, ◌⊎◌, inl, inr, ℕ, ◌≤◌, Bool, true, false, List, [], ◌∷◌, length, refl, sym, ap, ◌∙◌, subst, Option}
-use Rattle.std.specs.Option.{unwrap_or}
-use Rattle.std.specs.Prelude.{Result, Ok, Err, ◌==◌, Some, None, if◌then◌else◌}
+use Rattle.std.specs.Option.{option_map, unwrap_or}
+use Rattle.std.specs.Prelude.{Result, Ok, Err, IfSome, OnOk, ◌==◌, Some, None, if◌then◌else◌}
 use Rattle.std.proofs.lemmas.Bool.{eqb-true}
 use Rattle.mx_base.specs.declared.ids.SpaceId.{SpaceId}
 use Rattle.mx_base.specs.declared.ids.IndexId.{IndexId}
@@ -15,8 +15,10 @@ use Rattle.mx_model.specs.declared.reply.Reply.TheVariants.{Tuples, Refused}
 use Rattle.mx_key.specs.declared.iterator.IterKind.{IterKind}
 use Rattle.mx_key.specs.declared.fault.Misfit.{Misfit}
 use Rattle.mx_msgpack.specs.Items.{items_of}
-use Rattle.mx_key.specs.Keys.{Key}
+use Rattle.mx_key.specs.Comparable.{edges_of}
+use Rattle.mx_key.specs.Keys.{Key, AreFit}
 use Rattle.mx_key.specs.Parts.{key_of_array, whole_key_of_items}
+use Rattle.mx_key.specs.Ranges.{Range, AreFitEnds, range_of}
 use Rattle.mx_schema.specs.declared.index_def.IndexDef.{IndexDef}
 use Rattle.mx_schema.specs.declared.index_def.IndexKind.{IndexKind}
 use Rattle.mx_schema.specs.declared.index_def.IndexKind.TheVariants.{Tree, Hash}
@@ -25,16 +27,18 @@ use Rattle.mx_schema.specs.Catalogues.{index_with, schema_of}
 use Rattle.mx_key.specs.declared.edge.KeyRange.{KeyRange}
 use Rattle.mx_key.specs.declared.part.Part.{Part}
 use Rattle.mx_schema.specs.Picks.{entries_of, total_bytes, max_result_size}
-use Rattle.mx_schema.specs.State.{State}
-use Rattle.mx_space.specs.Scans.{SelectsByKey}
+use Rattle.mx_schema.specs.State.{State, source_of}
+use Rattle.mx_space.specs.Scans.{SelectsByKey, picked_of}
 use Rattle.mx_space.specs.declared.pick.Pick.{Pick}
 use Rattle.mx_space.specs.declared.pick.SelectFault.{SelectFault}
 use Rattle.mx_space.specs.declared.pick.SelectFault.TheVariants as faults
 use Rattle.mx_model.specs.Answers.{answer_to}
 use Rattle.mx_write.specs.Lookup.{misfit_refusal}
 use Rattle.mx_model.specs.SelectSteps.{RefusesKey, TakesKey}
-use Rattle.mx_model.specs.statements.Select.{asked_key, iterator_of, key_by_kind, part_count, select_answer_in, select_by_key, select_in_index, takes_iterator}
-use Rattle.mx_write.specs.Reads.{schema_reads}
+use Rattle.mx_model.specs.statements.Select.{asked_key, iterator_of, key_by_kind, part_count, range_reads, select_answer_in, select_by_key, select_in_index, takes_iterator}
+use Rattle.mx_write.specs.Notes.{AddsReads, Noted}
+use Rattle.mx_write.specs.Reads.{index_read, schema_reads, space_read}
+use Rattle.mx_write.proofs.NoteLaws.{adds_both, adds_nothing}
 use Rattle.mx_model.specs.statements.Lookup.{in_index, in_space}
 use Rattle.mx_model.specs.statements.Answer.{Answer, refusal_after}
 use Rattle.mx_model.proofs.AnswerLaws.{select_misses_space, select_misses_index, key_is_misfit, key_is_refused, tuples_are_picked, result_is_too_long}
@@ -127,7 +131,7 @@ module _ (before : State) (space index : ℕ) (wanted : Pick) where
       module _ (taken : TakesKey def wanted.iterator wanted.key.now) where
         -- and these tuples were found
         pub tells_tuples : (tuples : List (List ℕ)) (read : Option KeyRange) → SelectsByKey (entries_of before space def) def wanted tuples (Ok read) → IsReplyOf (Tuples tuples) select
-        tells_tuples tuples read (fitting, fits, fit, is, few, _) =
+        tells_tuples tuples read (fitting, fits, fit, is, few, _, _) =
             inl (ap (λ t. Tuples t) is
             ∙ sym (ap (λ a. a.reply) (tuples_are_picked before space index wanted.limit wanted.offset wanted.iterator wanted.key.now schema described def there taken fitting fits
             (subst (λ t. total_bytes t ≤ max_result_size) is few))))
@@ -154,4 +158,88 @@ module _ (before : State) (space index : ℕ) (wanted : Pick) where
               by_fault (inl (found, also, fits)) = absurd cc
               by_fault (inr (inl (long, fitting, fits, fit, above))) =
                   inl (sym (ap (λ a. a.reply) (result_is_too_long before space index wanted.limit wanted.offset wanted.iterator wanted.key.now schema described def there taken fitting fits above)))
+              by_fault (inr (inr none)) = absurd cc
+
+-- ---- what it notes
+
+-- a range that was read
+pub notes_range : {T E : Type 0} (result : Result T E) (space index : ℕ) (old new : Noted) (read : KeyRange)
+    → ((one : Range) → AreFitEnds one → read ≡ edges_of one → OnOk result (AddsReads old new (range_reads space index (Some one))))
+    → (range : Option Range) → IfSome range AreFitEnds → Some read ≡ option_map edges_of range → OnOk result (AddsReads old new (range_reads space index range))
+notes_range result space index old new read says None fit is = absurd cc
+notes_range result space index old new read says (Some one) fit is = let same : read ≡ edges_of one = cc in says one fit same
+
+-- and none
+pub notes_no_range : (space index : ℕ) (now : Noted) (range : Option Range) → None ≡ option_map edges_of range → AddsReads now now (range_reads space index range)
+notes_no_range space index now None is = adds_nothing now
+notes_no_range space index now (Some one) is = absurd cc
+
+module _ (before : State) (space index : ℕ) (wanted : Pick) (old first : Noted) (spaces : AddsReads old first (space_read space ∷ [])) where
+  abbrev its_answer : Answer
+  its_answer = select_answer_in before space index wanted.limit wanted.offset wanted.iterator wanted.key.now
+
+  pub notes_no_space : (refusal : Refusal) → (schema_of before space ≡ None) × (refusal ≡ SpaceMissing (record { 0 = space })) → AddsReads old first its_answer.reads
+  notes_no_space refusal (none, is) =
+      subst (AddsReads old first) (sym (ap (λ a. a.reads) (select_misses_space before space index wanted.limit wanted.offset wanted.iterator wanted.key.now none))) spaces
+
+  module _ (second : Noted) (indexes : AddsReads first second (index_read space ∷ [])) (schema shown : Schema) (described : schema_of before space ≡ Some schema) (same : shown ≡ schema) where
+    schema_noted : AddsReads old second (schema_reads space)
+    schema_noted = adds_both old first second (space_read space ∷ []) (index_read space ∷ []) spaces indexes
+
+    -- the reads of an answer that is known
+    noted_by : (whole : Answer) → its_answer ≡ whole → AddsReads old second whole.reads → AddsReads old second its_answer.reads
+    noted_by whole is noted = subst (AddsReads old second) (sym (ap (λ a. a.reads) is)) noted
+
+    pub notes_no_index : (refusal : Refusal)
+        → ((index_with index shown.indexes ≡ None) × (refusal ≡ IndexMissing (record { 0 = index }) shown.def.name)) ⊎ (refusal ≡ OutOfMemory)
+        → (refusal ≡ OutOfMemory) ⊎ AddsReads old second its_answer.reads
+    notes_no_index refusal (inl (none, is)) =
+        inr (noted_by (refusal_after (schema_reads space) (IndexMissing (record { 0 = index }) schema.def.name))
+        (select_misses_index before space index wanted.limit wanted.offset wanted.iterator wanted.key.now schema described
+        (ap (λ (s : Schema). index_with index s.indexes) (sym same) ∙ none)) schema_noted)
+    notes_no_index refusal (inr none) = inl none
+
+    module _ (def : IndexDef) (found : index_with index shown.indexes ≡ Some def) where
+      its : index_with index schema.indexes ≡ Some def
+      its = ap (λ (s : Schema). index_with index s.indexes) (sym same) ∙ found
+
+      pub notes_refusal : (refusal : Refusal) → RefusesKey def wanted.iterator wanted.key.now refusal ⊎ (refusal ≡ OutOfMemory) → (refusal ≡ OutOfMemory) ⊎ AddsReads old second its_answer.reads
+      notes_refusal refusal (inl refuses) =
+          inr (noted_by (refusal_after (schema_reads space) refusal)
+          (key_is_refused before space index wanted.limit wanted.offset wanted.iterator wanted.key.now schema described def its refusal refuses) schema_noted)
+      notes_refusal refusal (inr none) = inl none
+
+      module _ (taken : TakesKey def wanted.iterator wanted.key.now) (tuples : List (List ℕ)) where
+        pub notes_tuples : (read : Option KeyRange) (last : Noted) → SelectsByKey (entries_of before space def) def wanted tuples (Ok read)
+            → ((range : Option Range) → IfSome range AreFitEnds → read ≡ option_map edges_of range → AddsReads second last (range_reads (source_of space) def.id.0 range))
+            → AddsReads old last its_answer.reads
+        notes_tuples read last (fitting, fits, fit, is, few, edges, ends) noted =
+            subst (AddsReads old last)
+            (sym (ap (λ a. a.reads) (tuples_are_picked before space index wanted.limit wanted.offset wanted.iterator wanted.key.now schema described def its taken fitting fits
+            (subst (λ t. total_bytes t ≤ max_result_size) is few))))
+            (adds_both old second last (schema_reads space) (range_reads (source_of space) def.id.0 (picked_of (entries_of before space def) wanted fitting).read) schema_noted
+            (noted (picked_of (entries_of before space def) wanted fitting).read ends edges))
+
+        module _ (fault : SelectFault) (tells : SelectsByKey (entries_of before space def) def wanted tuples (Err fault)) where
+          pub notes_misfit : (misfit : Misfit) → fault ≡ faults.Misfit misfit → AddsReads old second its_answer.reads
+          notes_misfit misfit is = by_fault tells
+            where
+              by_fault : SelectsByKey (entries_of before space def) def wanted tuples (Err fault) → AddsReads old second its_answer.reads
+              by_fault (inl (one, also, fits)) =
+                  noted_by (refusal_after (schema_reads space) (misfit_refusal (length def.key) one))
+                  (key_is_misfit before space index wanted.limit wanted.offset wanted.iterator wanted.key.now schema described def its taken one fits) schema_noted
+              by_fault (inr (inl (long, fitting, fits, fit, above))) = absurd cc
+              by_fault (inr (inr none)) = absurd cc
+
+          pub notes_long : (last : Noted) → fault ≡ faults.TooLong
+              → ((key : Key) → key_of_array def.key wanted.key.now ≡ Ok key → AreFit key → AddsReads second last (range_reads (source_of space) def.id.0 (Some (range_of wanted.iterator key))))
+              → AddsReads old last its_answer.reads
+          notes_long last is noted = by_fault tells
+            where
+              by_fault : SelectsByKey (entries_of before space def) def wanted tuples (Err fault) → AddsReads old last its_answer.reads
+              by_fault (inl (one, also, fits)) = absurd cc
+              by_fault (inr (inl (long, fitting, fits, fit, above))) =
+                  subst (AddsReads old last)
+                  (sym (ap (λ a. a.reads) (result_is_too_long before space index wanted.limit wanted.offset wanted.iterator wanted.key.now schema described def its taken fitting fits above)))
+                  (adds_both old second last (schema_reads space) (range_reads (source_of space) def.id.0 (Some (range_of wanted.iterator fitting))) schema_noted (noted fitting fits fit))
               by_fault (inr (inr none)) = absurd cc

@@ -29,6 +29,7 @@ pub mod OwnSchemaLaws
 pub mod PartLaws
 pub mod PickLaws
 pub mod PlaceLaws
+pub mod ReadFitLaws
 pub mod ReadiedLaws
 pub mod ReserveLaws
 pub mod ScanLaws

@@ -40,8 +40,8 @@ stop_told def stop fault key pick_of fitting fits fit told (inr none) = inr (inr
 pub selects_told : (all : List Indexed) (def : IndexDef) (wanted : Pick) (tuples : List (List ℕ)) (key : Key) → key_of_array def.key wanted.key.now ≡ Ok key → AreFit key
     → (read : Result (Option KeyRange) SelectStop) (told : Result (Option KeyRange) SelectFault) → told ≡ as_fault read → Selects all wanted key tuples read
     → SelectsByKey all def wanted tuples told
-selects_told all def wanted tuples key fits fit (Ok read) told is (picked, short, range) =
-    subst (SelectsByKey all def wanted tuples) (sym is) (key, fits, fit, picked, short, range)
+selects_told all def wanted tuples key fits fit (Ok read) told is (picked, short, edges, ends) =
+    subst (SelectsByKey all def wanted tuples) (sym is) (key, fits, fit, picked, short, edges, ends)
 selects_told all def wanted tuples key fits fit (Err why) told is stopped =
     subst (SelectsByKey all def wanted tuples) (sym is) (stop_told def.key why (stop_fault_of why) wanted.key.now (λ found. (picked_of all wanted found).tuples) key fits fit refl stopped)
 

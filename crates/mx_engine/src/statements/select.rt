@@ -1,25 +1,34 @@
 //! SELECT.
 
-ghost use Rattle.std.specs.Prelude.{◌≡◌, ◌⊎◌, ℕ, List, MatchResult};
+ghost use Rattle.std.specs.Prelude.{◌≡◌, ◌⊎◌, ℕ, List, Option, Some, Ok, Err, IfSome, MatchResult, OnOk};
+ghost use Rattle.std.specs.Option.{option_map};
 ghost use Rattle.mx_base.specs.declared.refusal.Refusal.TheVariants.{OutOfMemory};
+ghost use Rattle.mx_key.specs.Comparable.{edges_of};
+ghost use Rattle.mx_key.specs.Keys.{Key, AreFit};
+ghost use Rattle.mx_key.specs.Parts.{key_of_array};
+ghost use Rattle.mx_key.specs.Ranges.{AreFitEnds, Range, range_of};
 ghost use Rattle.mx_msgpack.specs.Items.{IsArray};
 ghost use Rattle.mx_schema.specs.declared.index_def.IndexKind.TheVariants.{Hash};
 ghost use Rattle.mx_schema.specs.State as plain;
+ghost use Rattle.mx_schema.specs.State.{source_of};
+ghost use Rattle.mx_space.specs.OwnChanges.{HoldsView};
 ghost use Rattle.mx_space.specs.Stored.{Holds};
+ghost use Rattle.mx_write.specs.Notes.{AddsReads};
 ghost use Rattle.mx_model.specs.SelectSteps.{RefusesKey, TakesKey};
-ghost use Rattle.mx_model.specs.statements.Select.{part_count, select_answer_in};
+ghost use Rattle.mx_model.specs.statements.Select.{part_count, range_reads, select_answer_in};
 ghost use Rattle.mx_engine.specs.Steps.{IsReplyOf};
 ghost use Rattle.mx_engine.specs.Views.{reply_of};
 
 use crate::answer::Answered;
 use crate::engine::Engine;
 use mx_base::{IndexId, Refusal, SpaceId, Unsupported};
-use mx_key::IterKind;
+use mx_key::{IterKind, KeyRange, range};
 use mx_model::{misfit_refusal, part_count_refusal, takes_iterator};
 use mx_msgpack::{Tuples, known_array};
-use mx_schema::{IndexDef, IndexKind};
+use mx_schema::{IndexDef, IndexKind, source_of};
 use mx_space::{Pick, SelectFault, StateView};
-use mx_write::{find_index, find_space};
+use mx_write::{Notes, find_index, find_space};
+use std::alloc::{AllocError, Global};
 
 impl Engine {
     /// The key is known to be an array.
@@ -35,16 +44,79 @@ impl Engine {
             (select_answer_in state space.0 index.0 pick.now.limit pick.now.offset pick.now.iterator pick.now.key.now) }
     {
         let view = StateView::of(&self.state);
-        let stored = find_space(view, space)?;
-        let def = find_index(self.alloc, stored.schema(), index)?;
-        check_key(def, pick.iterator, pick.key)?;
-        match view.select(self.alloc, space, stored, def, pick, found) {
-            Ok(_read) => Ok(Answered::Tuples),
-            Err(SelectFault::Misfit(misfit)) => Err(misfit_refusal(def, misfit)),
-            Err(SelectFault::TooLong) => Err(Refusal::ResultTooLong),
-            Err(SelectFault::NoMemory) => Err(Refusal::OutOfMemory),
-        }
+        let mut notes = Notes::off();
+        select(view, self.alloc, &mut notes, space, index, pick, found)
     }
+}
+
+/// Answers a SELECT of what is seen of a state, and notes what it reads, also where it is refused. The key is
+/// known to be an array.
+pub(crate) fn select(
+    view: StateView<'_>,
+    alloc: Global,
+    notes: &mut Notes,
+    space: SpaceId,
+    index: IndexId,
+    pick: &Pick<'_>,
+    found: &mut Tuples,
+) -> Result<Answered, Refusal>
+    requires { IsArray pick.now.key.now }
+    ensures told { (seen : plain.State) → HoldsView view.entry seen → IsReplyOf (reply_of result found.new)
+        (select_answer_in seen space.0 index.0 pick.now.limit pick.now.offset pick.now.iterator pick.now.key.now) }
+    ensures notes { (seen : plain.State) → HoldsView view.entry seen → (result ≡ Err OutOfMemory) ⊎ AddsReads notes.old notes.new
+        (select_answer_in seen space.0 index.0 pick.now.limit pick.now.offset pick.now.iterator pick.now.key.now).reads }
+{
+    notes.note_space(alloc, space)?;
+    let stored = find_space(view, space)?;
+    notes.note_indexes(alloc, space)?;
+    let def = find_index(alloc, stored.schema(), index)?;
+    check_key(def, pick.iterator, pick.key)?;
+    match view.select(alloc, space, stored, def, pick, found) {
+        Ok(read) => {
+            note_read(notes, space, def.id, read)?;
+            Ok(Answered::Tuples)
+        }
+        Err(SelectFault::Misfit(misfit)) => Err(misfit_refusal(def, misfit)),
+        Err(SelectFault::TooLong) => {
+            note_whole_range(alloc, notes, space, def, pick)?;
+            Err(Refusal::ResultTooLong)
+        }
+        Err(SelectFault::NoMemory) => Err(Refusal::OutOfMemory),
+    }
+}
+
+/// Notes the range of an index's keys that was read, where one was.
+fn note_read(
+    notes: &mut Notes,
+    space: SpaceId,
+    index: IndexId,
+    read: Option<KeyRange>,
+) -> Result<(), AllocError>
+    ensures { (range : Option Range) → IfSome range AreFitEnds → read ≡ option_map edges_of range
+        → OnOk result (AddsReads notes.old notes.new (range_reads (source_of space.0) index.0 range)) }
+{
+    match read {
+        Some(range) => notes.note_range(source_of(space), index, range),
+        None => Ok(()),
+    }
+}
+
+/// Notes that all of the range was read that an iterator scans from a key, which fits the index.
+fn note_whole_range(
+    alloc: Global,
+    notes: &mut Notes,
+    space: SpaceId,
+    def: &IndexDef,
+    pick: &Pick<'_>,
+) -> Result<(), AllocError>
+    ensures { (key : Key) → key_of_array def.now.key pick.now.key.now ≡ Ok key → AreFit key
+        → OnOk result (AddsReads notes.old notes.new (range_reads (source_of space.0) def.now.id.0 (Some (range_of pick.now.iterator key)))) }
+{
+    if notes.as_reads().is_none() {
+        return Ok(());
+    }
+    let read = range(alloc, &def.key, pick.iterator, pick.key)?;
+    notes.note_range(source_of(space), def.id, read)
 }
 
 /// Checks that an index takes an iterator with a key, which is an array, but for the types of its parts.

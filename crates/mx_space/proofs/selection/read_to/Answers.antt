@@ -8,6 +8,7 @@ use Rattle.mx_schema.specs.Picks.{pick}
 use Rattle.mx_schema.specs.Stored.{StoredTuple, stored_tuple}
 use Rattle.mx_space.specs.Selecting.{found_in, last_key_of}
 use Rattle.mx_space.proofs.PickLaws.{HoldsItsKeys, fit_ends, reads_to_end, reads_to_last, tuples_are_picked}
+use Rattle.mx_space.proofs.ReadFitLaws.{read_fit}
 use Rattle.mx_space.proofs.selection.read_to.Goals as goal
 use Rattle.mx_space.proofs.selection.read_to.Goals.{then-len-wanted+in-Some+in_ok-end_with, then-len-wanted+in_default, else-len-wanted}
 
@@ -40,4 +41,4 @@ returns c all key fits fit edges found =
           let to = reads_to_end iterator key law all fits (map stored_tuple all) refl offset limit more (λ full. short (ap length tuples ∙ full)) in
           ap Some (w.range-is ∙ edges) ∙ ap (option_map edges_of) (sym to)
     ] in
-    (tuples, found.1, read)
+    (tuples, found.1, read, read_fit iterator key offset limit all fit fits)
