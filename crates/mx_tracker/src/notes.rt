@@ -1,6 +1,6 @@
 //! The notes of one slot.
 
-ghost use Rattle.std.specs.Prelude.{◌≡◌, [], ◌++◌, IsTrue, MatchResult, IfOk, ◌↔◌};
+ghost use Rattle.std.specs.Prelude.{◌≡◌, [], ◌++◌, length, take, IsTrue, MatchResult, IfOk, ◌↔◌};
 ghost use Rattle.mx_tracker.specs.Overlaps.{is_overlapped};
 
 use crate::noted_read::NotedRead;
@@ -38,6 +38,19 @@ impl Notes {
         ensures { MatchResult result (λ _. self.new ≡ self.old ++ reads.now) (λ _. self.new ≡ self.old) }
     {
         self.items.append(&mut copies(alloc, reads)?)
+    }
+
+    /// Keeps the first `len` reads; does nothing where there are no more.
+    pub(crate) fn truncate(&mut self, len: usize)
+        ensures { self.new ≡ take len self.old }
+    {
+        self.items.truncate(len);
+    }
+
+    pub(crate) fn len(&self) -> usize
+        ensures { result ≡ length self.now }
+    {
+        self.items.len()
     }
 
     /// Whether one of these keys lies in one of the reads.

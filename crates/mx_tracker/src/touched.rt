@@ -1,6 +1,6 @@
 //! Keys that a commit touches.
 
-ghost use Rattle.std.specs.Prelude.{◌≡◌, [], ◌∷◌, ◌++◌, length, IsTrue, MatchResult, ◌↔◌};
+ghost use Rattle.std.specs.Prelude.{◌≡◌, [], ◌∷◌, ◌++◌, length, take, IsTrue, MatchResult, ◌↔◌};
 
 use mx_msgpack::Bytes;
 use std::alloc::{AllocError, Global};
@@ -48,6 +48,13 @@ impl TouchedKeys {
     {
         self.items.push(touched)?;
         Ok(())
+    }
+
+    /// Keeps the first `len` keys; does nothing where there are no more.
+    pub fn truncate(&mut self, len: usize)
+        ensures { self.new ≡ take len self.old }
+    {
+        self.items.truncate(len);
     }
 
     /// Drops all keys, and keeps their room.

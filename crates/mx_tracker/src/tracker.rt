@@ -1,6 +1,6 @@
 //! The notes of all slots.
 
-ghost use Rattle.std.specs.Prelude.{◌≡◌, ◌≢◌, ℕ, ◌<◌, ◌≤◌, ◌-◌, [], ◌++◌, length, IfOk, OnOk, OnErr};
+ghost use Rattle.std.specs.Prelude.{◌≡◌, ◌≢◌, ℕ, ◌<◌, ◌≤◌, ◌-◌, [], ◌++◌, length, take, IfOk, OnOk, OnErr};
 ghost use Rattle.mx_tracker.specs.Marks.{slots, is_marked};
 ghost use Rattle.mx_tracker.specs.Overlaps.{is_overlapped};
 ghost use Rattle.mx_tracker.specs.Tracks.{noted_reads, ChangesReads, AreEmptyFrom};
@@ -60,6 +60,25 @@ impl Tracker {
         self.notes[slot].extend(self.alloc, reads.as_slice())?;
         self.used = self.used.max(slot + 1);
         Ok(())
+    }
+
+    /// Keeps the first `reads` reads of a slot; does nothing where it has no more.
+    pub fn truncate(&mut self, slot: u32, reads: usize)
+        requires { slot < slots }
+        ensures { ChangesReads self.old self.new slot (take reads (noted_reads self.old slot)) }
+    {
+        self.notes[slot as usize].truncate(reads);
+        self.used = used_below(self.notes.as_slice(), self.used);
+    }
+
+    /// How many reads a slot has.
+    pub fn len(&self, slot: u32) -> usize
+        ensures { result ≡ length (noted_reads self.now slot) }
+    {
+        match self.notes.get(slot as usize) {
+            Some(notes) => notes.len(),
+            None => 0,
+        }
     }
 
     /// Drops all notes of a slot.
