@@ -8,13 +8,14 @@ use Rattle.mx_row.specs.declared.row.Row.{Row}
 use Rattle.mx_schema.specs.State.{State}
 use Rattle.mx_write.specs.Change.{state_after_changed}
 use Rattle.mx_write.specs.Judge.{row_change}
+use Rattle.mx_write.specs.Touches.{Touched, are_met, touched_by_change}
 use Rattle.mx_model.specs.declared.ids.Ids.{Ids}
 use Rattle.mx_model.specs.Answers.{state_after_row, state_after_rows}
 use Rattle.mx_model.specs.Frame.{IsDataStatement, StaysSound, answer_to_statement, reads_in}
 use Rattle.mx_model.specs.Histories.{writable_node}
 use Rattle.mx_row.specs.Limits.{has_room}
 use Rattle.mx_model.specs.RunAlone.{Run, answer_in_run, run_alone, run_with, statement_answer, within_limits, writes}
-use Rattle.mx_model.specs.Touches.{Touched, are_met, rows_meet, touched_by_change}
+use Rattle.mx_model.specs.Touches.{rows_meet}
 use Rattle.mx_model.specs.statements.Answer.{Answer, refusal_after, refusal_alone}
 use Rattle.mx_model.specs.statements.Statement.{Statement}
 use Rattle.mx_model.proofs.FrameReads.{both_false, missed_parts}

@@ -19,10 +19,10 @@ use Rattle.mx_space.proofs.EntriesLaws.{tied_is, ties_itself}
 use Rattle.mx_write.specs.Change.{state_after_change, state_with}
 use Rattle.mx_write.specs.Descriptions.{index_named_by, space_named_by}
 use Rattle.mx_write.specs.Installs.{MayChange}
+use Rattle.mx_write.specs.Touches.{Touched, touched_at, touched_by}
 use Rattle.mx_write.proofs.DescriptionLaws.{DroppedIndex, dropped_index}
 use Rattle.mx_write.proofs.EachSpaceLaws.{after_put, change_of}
 use Rattle.mx_model.specs.Frame.{AgreeAt, AgreeBut, IsIndexTouched, IsTouched}
-use Rattle.mx_model.specs.Touches.{Touched, touched_at, touched_by}
 
 -- the first of a list is in it
 contains_first : {X : Type 0} (x : X) (xs : List X) → Contains (x ∷ xs) x

@@ -7,9 +7,9 @@ use Rattle.mx_write.specs.declared.writable.Writer.TheVariants.{Client}
 use Rattle.mx_write.specs.Judge.{judged_write}
 use Rattle.mx_write.specs.Judged.{Judged}
 use Rattle.mx_write.specs.Made.{Made}
+use Rattle.mx_write.specs.Touches.{Touched, are_met}
 use Rattle.mx_model.specs.Answers.{answer_in_space}
 use Rattle.mx_model.specs.Frame.{AgreeBut, IsNoSchemaWrite}
-use Rattle.mx_model.specs.Touches.{Touched, are_met}
 use Rattle.mx_model.specs.statements.Select.{iterator_of}
 use Rattle.mx_model.specs.statements.Statement.{Operation, Selects, Writes}
 use Rattle.mx_model.specs.statements.Write.{answer_of, answer_of_outcome}

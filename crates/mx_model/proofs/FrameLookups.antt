@@ -22,9 +22,9 @@ use Rattle.mx_write.specs.Judged.{found, reads_of, unless, ◌>>=◌}
 use Rattle.mx_write.specs.Lookup.{entry_under, entry_with, holder_of, is_unique, other_indexes, own_key, primary_key_of, tuple_under}
 use Rattle.mx_write.specs.Reads.{key_read}
 use Rattle.mx_write.specs.Unique.{are_free, held_refusal, is_free, is_free_if_unique}
+use Rattle.mx_write.specs.Touches.{Touched, are_met}
 use Rattle.mx_write.proofs.UniqueLaws.{number_is}
 use Rattle.mx_model.specs.Frame.{AgreeAt}
-use Rattle.mx_model.specs.Touches.{Touched, are_met}
 use Rattle.mx_model.proofs.FrameReads.{AreMissed, missed_parts}
 use Rattle.mx_model.proofs.FrameCatalogue.{alike_in, prefix_itself}
 use Rattle.mx_model.proofs.FrameSound.{are_apart, index_known}

@@ -9,7 +9,7 @@ use Rattle.mx_schema.specs.declared.index_def.IndexDef.{IndexDef}
 use Rattle.mx_schema.specs.Picks.{entry_key}
 use Rattle.mx_schema.specs.State.{State}
 use Rattle.mx_write.specs.Reads.{Read}
-use Rattle.mx_model.specs.Touches.{Touched, index_by_state, is_met, lies_in_index, are_met}
+use Rattle.mx_write.specs.Touches.{Touched, index_by_state, is_met, lies_in_index, are_met}
 
 -- neither of two tests holds
 pub both_false : (a b : Bool) → (a || b) ≡ false → (a ≡ false) × (b ≡ false)

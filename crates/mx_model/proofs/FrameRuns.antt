@@ -13,9 +13,10 @@ use Rattle.mx_write.specs.Judge.{row_change}
 use Rattle.mx_write.specs.Made.{write_of}
 use Rattle.mx_write.specs.Reads.{Read}
 use Rattle.mx_write.specs.Writes.{HasBytes}
+use Rattle.mx_write.specs.Touches.{Touched, index_by_state, is_met, lies_in_index, are_met, touched_by_change}
 use Rattle.mx_model.specs.Answers.{state_after_row, state_after_rows}
 use Rattle.mx_model.specs.Frame.{AgreeBut, IsDataStatement, StaysSound, answer_to_statement, answers_from, reads_in, state_after_statement, state_after_statements}
-use Rattle.mx_model.specs.Touches.{Touched, index_by_state, is_met, lies_in_index, are_met, rows_meet, touched_by_change}
+use Rattle.mx_model.specs.Touches.{rows_meet}
 use Rattle.mx_model.specs.statements.Answer.{Answer}
 use Rattle.mx_model.specs.statements.Statement.{Statement}
 use Rattle.mx_model.proofs.FrameLaws.{answered_same}

@@ -17,8 +17,8 @@ use Rattle.mx_schema.specs.State.{State, Tuples, index_rows, shown_index_rows, s
 use Rattle.mx_schema.proofs.DescribedLaws.{its_keyed}
 use Rattle.mx_space.proofs.IndexedLaws.{AreApart}
 use Rattle.mx_write.specs.Reads.{index_read, schema_reads, space_read}
+use Rattle.mx_write.specs.Touches.{Touched}
 use Rattle.mx_model.specs.Frame.{AgreeAt, AgreeBut}
-use Rattle.mx_model.specs.Touches.{Touched}
 use Rattle.mx_model.specs.statements.Answer.{Answer, refusal_after, tuples_after}
 use Rattle.mx_model.specs.statements.Lookup.{in_def, in_schema}
 use Rattle.mx_model.specs.statements.Select.{asked_key, part_count, range_reads, select_answer, select_answer_in, select_by_key, select_found, select_in_index, takes_iterator}

@@ -26,7 +26,7 @@ use Rattle.mx_space.proofs.HolderLaws.{unique_apart}
 use Rattle.mx_space.proofs.IndexedLaws.{AreApart}
 use Rattle.mx_space.proofs.ScanLaws.{many_apart}
 use Rattle.mx_write.proofs.UniqueLaws.{number_is}
-use Rattle.mx_model.specs.Touches.{index_by_state}
+use Rattle.mx_write.specs.Touches.{index_by_state}
 
 -- what each index has, that of a number has
 pub index_has : (P : IndexDef → Type 0) (id : ℕ) (defs : List IndexDef) (def : IndexDef) → index_with id defs ≡ Some def → AllByRecursion P defs → P def

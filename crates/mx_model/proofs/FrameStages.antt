@@ -10,8 +10,8 @@ use Rattle.mx_schema.specs.State.{State}
 use Rattle.mx_write.specs.Judged.{Judged, found_or, next_stage, unless, ◌>>=◌}
 use Rattle.mx_write.specs.Lookup.{the_index, the_space, the_unique_index}
 use Rattle.mx_write.specs.Reads.{index_read, space_read}
+use Rattle.mx_write.specs.Touches.{Touched}
 use Rattle.mx_model.specs.Frame.{AgreeBut}
-use Rattle.mx_model.specs.Touches.{Touched}
 use Rattle.mx_model.proofs.FrameReads.{AreMissed, missed_both, missed_parts}
 use Rattle.mx_model.proofs.FrameCatalogue.{BothThere, schema_same, there_alike}
 

@@ -25,12 +25,12 @@ use Rattle.mx_write.specs.Made.{Made, nothing, write_of}
 use Rattle.mx_write.specs.Reads.{schema_reads}
 use Rattle.mx_write.specs.Writable.{describes_schema}
 use Rattle.mx_write.specs.Writes.{HasBytes, Write}
+use Rattle.mx_write.specs.Touches.{Touched, touched_by_change}
 use Rattle.mx_write.proofs.EachSpaceLaws.{after_put, change_of}
 use Rattle.mx_write.proofs.SoundLaws.{stays_sound}
 use Rattle.mx_write.proofs.WrittenLaws.{Wrote, makes, wrote}
 use Rattle.mx_model.specs.Answers.{answer_in_space, state_after_row}
 use Rattle.mx_model.specs.Frame.{AgreeBut, IsNoSchemaWrite, OperationHasBytes}
-use Rattle.mx_model.specs.Touches.{Touched, touched_by_change}
 use Rattle.mx_model.specs.statements.Answer.{refusal_after, tuples_after}
 use Rattle.mx_model.specs.statements.Lookup.{in_def, in_schema}
 use Rattle.mx_model.specs.statements.Select.{asked_key, iterator_of, part_count, range_reads, select_answer, select_answer_in, select_by_key, select_found, select_in_index, takes_iterator}

@@ -30,9 +30,9 @@ use Rattle.mx_write.specs.Update.{key_change, put_in_place, the_operations, tupl
 use Rattle.mx_write.specs.Upsert.{upsert_found, upserts}
 use Rattle.mx_write.specs.Writable.{describes_schema, primary_name, tuple_in_space, write_refusal}
 use Rattle.mx_write.specs.Writes.{Write, Insert, Replace, Update, Delete, Upsert}
+use Rattle.mx_write.specs.Touches.{Touched}
 use Rattle.mx_write.proofs.StageLaws.{came_by, was_found}
 use Rattle.mx_model.specs.Frame.{AgreeBut}
-use Rattle.mx_model.specs.Touches.{Touched}
 use Rattle.mx_model.proofs.FrameCatalogue.{tuples_agree}
 use Rattle.mx_model.proofs.FrameLookups.{IsAlike, by_number, entry_same, free_same, others_known, under_same}
 use Rattle.mx_model.proofs.FrameReads.{AreMissed, both_false, missed_parts}

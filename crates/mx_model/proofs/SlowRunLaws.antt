@@ -14,6 +14,7 @@ use Rattle.mx_write.specs.declared.made.Made as code
 use Rattle.mx_write.specs.Change.{Change, state_after_changed}
 use Rattle.mx_write.specs.Judge.{row_change}
 use Rattle.mx_write.specs.Reads.{Read}
+use Rattle.mx_write.specs.Touches.{are_met, touched_by_change}
 use Rattle.mx_model.specs.declared.ids.Ids.{Ids}
 use Rattle.mx_model.specs.declared.reply.Reply.TheVariants.{Refused}
 use Rattle.mx_model.specs.declared.slow.run.SlowRun.{SlowRun}
@@ -30,7 +31,7 @@ use Rattle.mx_model.specs.Slow.{KeepsStep, RunStands, reads_of_statement, satura
 use Rattle.mx_model.specs.SlowReads.{reads_view}
 use Rattle.mx_model.specs.SlowState.{HasAnswer, IsSlowMade, IsSlowState}
 use Rattle.mx_model.specs.SlowTouches.{AreFitReads, meet}
-use Rattle.mx_model.specs.Touches.{are_met, rows_meet, touched_by_change}
+use Rattle.mx_model.specs.Touches.{rows_meet}
 use Rattle.mx_model.specs.statements.Answer.{Answer, refusal_after, refusal_alone}
 use Rattle.mx_model.specs.statements.Statement.{Statement, statement_of}
 use Rattle.mx_model.proofs.FrameCommit.{row_after}

@@ -1,6 +1,6 @@
 -- That the keys which the plain slow program has of a write lie in a range that was read exactly where the definitions say so.
-use Rattle.std.proofs.Common.{◌≡◌, ℕ, Bool, true, false, ◌&&◌, ◌||◌, List, [], ◌∷◌, ◌++◌, map, Option, Some, None, refl, sym, ap, ◌∙◌, subst, eqb-true}
-use Rattle.std.specs.Prelude.{◌==◌, if◌then◌else◌}
+use Rattle.std.proofs.Common.{◌≡◌, ℕ, Bool, true, false, ◌&&◌, ◌||◌, List, [], ◌∷◌, ◌++◌, map, Option, Some, None, refl, sym, ap, ◌∙◌, subst}
+use Rattle.std.specs.Prelude.{◌==◌}
 use Rattle.std.specs.List.{AllByRecursion, list_any}
 use Rattle.mx_key.specs.Comparable.{comparable_of, edges_of, holds}
 use Rattle.mx_key.specs.Keys.{Key, AreFit}
@@ -12,38 +12,15 @@ use Rattle.mx_schema.specs.Catalogues.{index_with, schema_of}
 use Rattle.mx_schema.specs.State.{State, tuples_in}
 use Rattle.mx_write.specs.Change.{Change}
 use Rattle.mx_write.specs.Reads.{Read}
+use Rattle.mx_write.specs.Touches.{Touched, are_met, is_met, touched_at, touched_key}
+use Rattle.mx_write.proofs.TouchLaws.{any_both, any_either, lies_by, lies_once, met_by_schema, or_assoc, or_false}
 use Rattle.mx_model.specs.declared.slow_state.touched.TouchedKey.{TouchedKey}
 use Rattle.mx_model.specs.SlowReads.{read_view, reads_view}
 use Rattle.mx_base.specs.declared.ids.IndexId.{IndexId}
-use Rattle.mx_msgpack.specs.Readers.{◌>>=◌}
 use Rattle.mx_schema.specs.Sound.{AreKeyed, IsSound}
 use Rattle.mx_model.specs.SlowTouches.{AreFitReads, AreOwn, IsFitRead, meet, meet_in, meets_in, touches}
-use Rattle.mx_model.specs.Touches.{Touched, are_met, index_by_state, is_met, lies_in_index, touched_at, touched_key}
 
 -- ---- tests of lists
-
-or_assoc : (a b c : Bool) → ((a || b) || c) ≡ (a || (b || c))
-or_assoc true b c = refl
-or_assoc false b c = refl
-
-or_false : (a : Bool) → (a || false) ≡ a
-or_false true = refl
-or_false false = refl
-
-any_both : {X : Type 0} (p : X → Bool) (a b : List X) → list_any p (a ++ b) ≡ (list_any p a || list_any p b)
-any_both p [] b = refl
-any_both p (x ∷ a) b = ap (λ t. p x || t) (any_both p a b) ∙ sym (or_assoc (p x) (list_any p a) (list_any p b))
-
-exchanged : (a b c d : Bool) → ((a || b) || (c || d)) ≡ ((a || c) || (b || d))
-exchanged true b c d = refl
-exchanged false true true d = refl
-exchanged false true false d = refl
-exchanged false false c d = refl
-
--- some of them pass one of two tests
-any_either : {X : Type 0} (p q : X → Bool) (all : List X) → list_any (λ x. p x || q x) all ≡ (list_any p all || list_any q all)
-any_either p q [] = refl
-any_either p q (x ∷ all) = ap (λ t. (p x || q x) || t) (any_either p q all) ∙ exchanged (p x) (q x) (list_any p all) (list_any q all)
 
 never : {X : Type 0} (all : List X) → list_any (λ x. false) all ≡ false
 never [] = refl
@@ -84,10 +61,6 @@ pub none_meet : (reads : List Read) → meet [] (reads_view reads) ≡ false
 none_meet reads = meet_by_reads [] reads ∙ never reads
 
 -- ---- the keys of a tuple in the indexes of its space
-
--- a tuple's key in an index lies in what was read of that index
-abbrev pub lies_by : Touched → Read → IndexDef → Bool
-lies_by touched read def = (touched.space == read.space) && ((def.id.0 == read.index) && lies_in read.range (touched_key def touched))
 
 -- one more key
 pub one_meets : (out : List TouchedKey) (key : TouchedKey) (touched : Touched) (def : IndexDef) (reads : List Read) → key.space.0 ≡ touched.space → key.index ≡ def.id
@@ -135,73 +108,6 @@ more_beside old out touched defs def key space_is index_is is fit beside reads f
         (ap (λ t. list_any (lies_by touched read) defs || t) (sym (or_false (lies_by touched read def))) ∙ sym (any_both (lies_by touched read) defs (def ∷ [])))
         ∙ ap (λ t. list_any (lies_by touched read) (defs ++ def ∷ []) || t) (by_reads all)
 
-absorbs : (a b : Bool) → (a || (b && a)) ≡ a
-absorbs true b = refl
-absorbs false true = refl
-absorbs false false = refl
-
--- one of the indexes is the one that was read
-module _ (all : List IndexDef) (touched : Touched) (read : Read) where
-  abbrev there : Bool
-  there = lies_in_index (index_with read.index all) read.range touched
-
-  abbrev has_read : List IndexDef → Bool
-  has_read defs = list_any (λ def. def.id.0 == read.index) defs
-
-  lies_there : (defs : List IndexDef) → AllByRecursion (λ def. index_with def.id.0 all ≡ Some def) defs
-      → list_any (λ def. (def.id.0 == read.index) && lies_in read.range (touched_key def touched)) defs ≡ (has_read defs && there)
-  lies_there [] apart = refl
-  lies_there (def ∷ defs) (own, apart) = by_test (def.id.0 == read.index) refl (lies_there defs apart)
-    where
-      by_test : (b : Bool) → (def.id.0 == read.index) ≡ b
-          → list_any (λ def. (def.id.0 == read.index) && lies_in read.range (touched_key def touched)) defs ≡ (has_read defs && there)
-          → list_any (λ def. (def.id.0 == read.index) && lies_in read.range (touched_key def touched)) (def ∷ defs) ≡ (has_read (def ∷ defs) && there)
-      by_test false is rest =
-          ap (λ t. (t && lies_in read.range (touched_key def touched)) || list_any (λ def. (def.id.0 == read.index) && lies_in read.range (touched_key def touched)) defs) is
-          ∙ rest
-          ∙ ap (λ t. (t || has_read defs) && there) (sym is)
-      by_test true is rest =
-          let found : index_with read.index all ≡ Some def = ap (λ i. index_with i all) (sym (eqb-true def.id.0 read.index is)) ∙ own in
-          let same : there ≡ lies_in read.range (touched_key def touched) = ap (λ o. lies_in_index o read.range touched) found in
-          ap (λ t. (t && lies_in read.range (touched_key def touched)) || list_any (λ def. (def.id.0 == read.index) && lies_in read.range (touched_key def touched)) defs) is
-          ∙ ap (λ t. lies_in read.range (touched_key def touched) || t) rest
-          ∙ ap (λ t. t || (has_read defs && there)) (sym same)
-          ∙ absorbs there (has_read defs)
-          ∙ ap (λ t. (t || has_read defs) && there) (sym is)
-
-  none_there : (defs : List IndexDef) → has_read defs ≡ false → lies_in_index (index_with read.index defs) read.range touched ≡ false
-  none_there [] none = refl
-  none_there (def ∷ defs) none = by_test (def.id.0 == read.index) none (none_there defs)
-    where
-      by_test : (b : Bool) → (b || has_read defs) ≡ false → (has_read defs ≡ false → lies_in_index (index_with read.index defs) read.range touched ≡ false)
-          → lies_in_index (if b then Some def else index_with read.index defs) read.range touched ≡ false
-      by_test true none rest = absurd cc
-      by_test false none rest = rest none
-
-  pub lies_once : AllByRecursion (λ def. index_with def.id.0 all ≡ Some def) all → list_any (lies_by touched read) all ≡ meets_in all touched read
-  lies_once apart = by_space (touched.space == read.space) refl
-    where
-      in_space : (defs : List IndexDef) → (touched.space == read.space) ≡ true
-          → list_any (lies_by touched read) defs ≡ list_any (λ def. (def.id.0 == read.index) && lies_in read.range (touched_key def touched)) defs
-      in_space [] here = refl
-      in_space (def ∷ defs) here =
-          ap (λ t. (t && ((def.id.0 == read.index) && lies_in read.range (touched_key def touched))) || list_any (lies_by touched read) defs) here
-          ∙ ap (λ t. ((def.id.0 == read.index) && lies_in read.range (touched_key def touched)) || t) (in_space defs here)
-
-      elsewhere : (defs : List IndexDef) → (touched.space == read.space) ≡ false → list_any (lies_by touched read) defs ≡ false
-      elsewhere [] away = refl
-      elsewhere (def ∷ defs) away =
-          ap (λ t. (t && ((def.id.0 == read.index) && lies_in read.range (touched_key def touched))) || list_any (lies_by touched read) defs) away
-          ∙ elsewhere defs away
-
-      by_read : (b : Bool) → has_read all ≡ b → (b && there) ≡ there
-      by_read true is = refl
-      by_read false is = sym (none_there all is)
-
-      by_space : (b : Bool) → (touched.space == read.space) ≡ b → list_any (lies_by touched read) all ≡ meets_in all touched read
-      by_space false is = elsewhere all is ∙ ap (λ t. t && there) (sym is)
-      by_space true is = in_space all is ∙ lies_there all apart ∙ by_read (has_read all) refl ∙ ap (λ t. t && there) (sym is)
-
 -- all keys of a tuple were added
 pub all_meet : (old out : List TouchedKey) (touched : Touched) (all : List IndexDef) → AllByRecursion (λ def. index_with def.id.0 all ≡ Some def) all
     → MeetBeside old out touched all → (reads : List Read) → AreFitReads reads
@@ -221,25 +127,13 @@ none_touched old all reads = sym (or_false (meet old (reads_view reads))) ∙ ap
 -- ---- what a change touches
 
 module _ (before : State) (schema : Schema) (space : ℕ) (described : schema_of before space ≡ Some schema) where
-  meets_known : (touched : Touched) (read : Read) → touched.space ≡ space → is_met before read touched ≡ meets_in schema.indexes touched read
-  meets_known touched read here = by_space (touched.space == read.space) refl
-    where
-      by_space : (b : Bool) → (touched.space == read.space) ≡ b
-          → (b && lies_in_index (index_by_state before read.space read.index) read.range touched) ≡ (b && lies_in_index (index_with read.index schema.indexes) read.range touched)
-      by_space false is = refl
-      by_space true is =
-          let known : schema_of before read.space ≡ Some schema = ap (schema_of before) (sym (eqb-true touched.space read.space is) ∙ here) ∙ described in
-          let same : index_by_state before read.space read.index ≡ index_with read.index schema.indexes =
-          ap (λ (o : Option Schema). o >>= (λ s. index_with read.index s.indexes)) known in
-          ap (λ o. lies_in_index o read.range touched) same
-
   abbrev AreHere : List Touched → Type 0
   AreHere all = AllByRecursion (λ (touched : Touched). touched.space ≡ space) all
 
   any_known : (all : List Touched) (read : Read) → AreHere all → list_any (is_met before read) all ≡ list_any (λ touched. meets_in schema.indexes touched read) all
   any_known [] read here = refl
   any_known (touched ∷ all) read (one, others) =
-      ap (λ t. t || list_any (is_met before read) all) (meets_known touched read one) ∙ ap (λ t. meets_in schema.indexes touched read || t) (any_known all read others)
+      ap (λ t. t || list_any (is_met before read) all) (met_by_schema before schema touched read (ap (schema_of before) one ∙ described)) ∙ ap (λ t. meets_in schema.indexes touched read || t) (any_known all read others)
 
   all_known : (all : List Touched) (reads : List Read) → AreHere all → are_met before all reads ≡ meet_in schema.indexes all reads
   all_known all [] here = refl

@@ -11,8 +11,8 @@ use Rattle.mx_write.specs.Change.{state_after_changed}
 use Rattle.mx_write.specs.Reads.{Read}
 use Rattle.mx_write.specs.Writable.{describes_schema}
 use Rattle.mx_write.specs.Writes.{HasBytes}
+use Rattle.mx_write.specs.Touches.{Touched}
 use Rattle.mx_model.specs.Answers.{answer_in_space, state_after_row}
-use Rattle.mx_model.specs.Touches.{Touched}
 use Rattle.mx_model.specs.statements.Answer.{Answer}
 use Rattle.mx_model.specs.statements.Statement.{Operation, Selects, Statement, Writes}
 

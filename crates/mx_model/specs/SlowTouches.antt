@@ -6,9 +6,9 @@ use Rattle.mx_key.specs.Ranges.{AreFitEnds, Range}
 use Rattle.mx_schema.specs.declared.index_def.IndexDef.{IndexDef}
 use Rattle.mx_schema.specs.Catalogues.{index_with}
 use Rattle.mx_write.specs.Reads.{Read}
+use Rattle.mx_write.specs.Touches.{Touched, lies_in_index}
 use Rattle.mx_model.specs.declared.slow_state.read_ranges.ReadRange.{ReadRange}
 use Rattle.mx_model.specs.declared.slow_state.touched.TouchedKey.{TouchedKey}
-use Rattle.mx_model.specs.Touches.{Touched, lies_in_index}
 
 -- the key is one of the index that was read, and lies in the range
 abbrev pub touches : TouchedKey → ReadRange → Bool

@@ -12,12 +12,13 @@ ghost use Rattle.mx_model.specs.Answers.{answer_in_space, answer_to, state_after
 ghost use Rattle.mx_model.specs.Directories.{AllFollow, IsDirectoryState, Reached, SameOutcome};
 ghost use Rattle.mx_model.specs.Frame.{AgreeBut, IsNoSchemaWrite, IsDataStatement, OperationHasBytes, StaysSound, answers_from, reads_in, rows_in, state_after_statements};
 ghost use Rattle.mx_model.specs.Histories.{Base, History, IsLegal, asks_in, asking, history_from, journal_of, remembered, state_of};
-ghost use Rattle.mx_model.specs.Touches.{Touched, are_met, rows_meet, touched_by_change};
+ghost use Rattle.mx_model.specs.Touches.{rows_meet};
 ghost use Rattle.mx_model.specs.statements.Statement.{Operation, Statement};
 ghost use Rattle.mx_write.specs.Change.{state_after_changed};
 ghost use Rattle.mx_write.specs.Judge.{row_change};
 ghost use Rattle.mx_write.specs.Made.{write_of};
 ghost use Rattle.mx_write.specs.Writes.{HasBytes};
+ghost use Rattle.mx_write.specs.Touches.{Touched, are_met, touched_by_change};
 
 /// A theorem, which does nothing when it is called: the asks of a legal history determine its steps and
 /// replies, but for the requests that were answered out of memory; it is as if these hadn't been asked.

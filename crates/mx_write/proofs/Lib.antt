@@ -19,6 +19,7 @@ pub mod DescriptionLaws
 pub mod SoundLaws
 mod EntryLaws
 mod EntryStageLaws
+pub mod TouchLaws
 pub mod MemberLaws
 pub mod PlaceLaws
 pub mod FieldLaws

@@ -19,3 +19,4 @@ pub mod Views
 pub mod Makes
 pub mod Steps
 pub mod Installs
+pub mod Touches

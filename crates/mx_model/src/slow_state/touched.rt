@@ -10,10 +10,10 @@ ghost use Rattle.mx_schema.specs.State as plain;
 ghost use Rattle.mx_write.specs.Change.{Change};
 ghost use Rattle.mx_write.specs.Makes.{tuple_after};
 ghost use Rattle.mx_write.specs.Reads.{Read};
+ghost use Rattle.mx_write.specs.Touches.{are_met, touched_at, touched_by, touched_key};
 ghost use Rattle.mx_model.specs.SlowReads.{reads_view};
 ghost use Rattle.mx_model.specs.SlowState.{IsSlowMade, IsSlowState};
 ghost use Rattle.mx_model.specs.SlowTouches.{AreFitReads, AreOwn, meet, meet_in, touches};
-ghost use Rattle.mx_model.specs.Touches.{are_met, touched_at, touched_by, touched_key};
 
 use crate::slow_state::SlowState;
 use crate::slow_state::list::find;

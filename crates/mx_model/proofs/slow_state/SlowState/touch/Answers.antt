@@ -10,9 +10,9 @@ use Rattle.mx_schema.specs.Stored.{StoresTuples, stored_list}
 use Rattle.mx_schema.proofs.TakenLaws.{stored_get}
 use Rattle.mx_write.specs.Change.{Change}
 use Rattle.mx_write.specs.Makes.{tuple_after}
+use Rattle.mx_write.specs.Touches.{are_met, touched_at, touched_by}
 use Rattle.mx_model.specs.SlowReads.{reads_view}
 use Rattle.mx_model.specs.SlowTouches.{meet, meet_in}
-use Rattle.mx_model.specs.Touches.{are_met, touched_at, touched_by}
 use Rattle.mx_model.proofs.SlowLaws.{none_found, space_found}
 use Rattle.mx_model.proofs.SlowTouchLaws.{change_meets, own_indexes, same_change}
 use Rattle.mx_model.proofs.slow_state.SlowState.touch.Goals as goal

@@ -1,7 +1,7 @@
 use Rattle.std.proofs.Common.{rules, ◌≡◌, ◌<◌, ◌++◌, ◌∷◌, [], length, take, refl, sym, ap, ◌∙◌, subst, get_or}
 use Rattle.std.proofs.lemmas.List.{take_all, take_more}
 use Rattle.mx_schema.specs.declared.index_def.IndexDef.{IndexDef}
-use Rattle.mx_model.specs.Touches.{Touched}
+use Rattle.mx_write.specs.Touches.{Touched}
 use Rattle.mx_model.proofs.SlowTouchLaws.{MeetBeside, all_meet, more_beside, none_beside}
 use Rattle.mx_model.proofs.slow_state.touched.push_keys.Goals as goal
 

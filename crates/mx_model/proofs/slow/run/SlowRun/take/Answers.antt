@@ -2,12 +2,12 @@ use Rattle.std.proofs.Common.{rules, ◌≡◌, ◌+◌, ◌||◌, List, Option,
 use Rattle.std.specs.Prelude.{MatchResult, OnOk}
 use Rattle.mx_write.specs.Change.{Change}
 use Rattle.mx_write.specs.Reads.{Read}
+use Rattle.mx_write.specs.Touches.{are_met, touched_by_change}
 use Rattle.mx_model.specs.declared.slow.run.SlowRun.{SlowRun}
 use Rattle.mx_model.specs.Slow.{saturated}
 use Rattle.mx_model.specs.SlowReads.{reads_view}
 use Rattle.mx_model.specs.SlowState.{IsSlowMade}
 use Rattle.mx_model.specs.SlowTouches.{AreFitReads, meet}
-use Rattle.mx_model.specs.Touches.{are_met, touched_by_change}
 use Rattle.mx_model.proofs.SlowRunLaws.{change_is, one_taken}
 use Rattle.mx_model.proofs.slow.run.SlowRun.take.Goals as goal
 
