@@ -18,6 +18,7 @@ mod replace;
 mod scope;
 mod stage;
 mod target;
+mod touched;
 mod unique;
 mod update;
 mod upsert;
