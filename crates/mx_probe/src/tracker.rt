@@ -4,6 +4,7 @@
 
 use crate::answers::no_call;
 use crate::arguments::Arguments;
+use crate::display::Hex;
 use mx_tracker::{Edge, MarkSet, Read, Reads, SLOTS, Touched, TouchedKeys, Tracker};
 use std::alloc::AllocError;
 
@@ -51,9 +52,24 @@ fn step(
             show(marks, answer)
         }
         "marks" => show(marks, answer),
+        "truncate" => {
+            let (slot, reads) = rest.split_once(':').unwrap_or((rest, ""));
+            truncate(arguments, tracker, slot, reads);
+            answer.push_str("ok")
+        }
+        "len" => {
+            let slot: u32 = arguments.number_in(rest);
+            write!(answer, "{}", tracker.len(slot))
+        }
         "forget" => {
             forget(arguments, tracker, rest);
             answer.push_str("ok")
+        }
+        "first" => {
+            let (count, keys) = rest.split_once(':').unwrap_or((rest, ""));
+            let mut keys = keys_in(arguments, keys)?;
+            keys.truncate(arguments.number_in(count));
+            show_keys(&keys, answer)
         }
         _ => {
             arguments.refuse_text("step", text);
@@ -76,6 +92,15 @@ fn note(
     tracker.note(slot, reads)
 }
 
+fn truncate(arguments: &mut Arguments<'_>, tracker: &mut Tracker, text: &str, reads: &str) {
+    let slot: u32 = arguments.number_in(text);
+    if slot as usize >= SLOTS {
+        arguments.refuse_text("slot", text);
+        return;
+    }
+    tracker.truncate(slot, arguments.number_in(reads));
+}
+
 fn forget(arguments: &mut Arguments<'_>, tracker: &mut Tracker, text: &str) {
     let slot: u32 = arguments.number_in(text);
     if slot as usize >= SLOTS {
@@ -96,6 +121,20 @@ fn show(marks: &MarkSet, answer: &mut String) -> Result<(), AllocError> {
     }
     if between.is_empty() {
         return answer.push_str("none");
+    }
+    Ok(())
+}
+
+/// The keys with commas between them.
+fn show_keys(keys: &TouchedKeys, answer: &mut String) -> Result<(), AllocError> {
+    if keys.is_empty() {
+        return answer.push_str("none");
+    }
+    let mut between = "";
+    for touched in keys.as_slice() {
+        let key = Hex(touched.key.as_slice());
+        write!(answer, "{between}{}:{}:{key}", touched.space, touched.index)?;
+        between = ",";
     }
     Ok(())
 }
