@@ -4,7 +4,6 @@ use Rattle.std.specs.Prelude.{◌==◌}
 use Rattle.std.specs.List.{AllByRecursion, list_any}
 use Rattle.mx_key.specs.Comparable.{comparable_of, edges_of, holds}
 use Rattle.mx_key.specs.Keys.{Key, AreFit}
-use Rattle.mx_key.specs.Ranges.{lies_in}
 use Rattle.mx_key.proofs.RangeLaws.{range_holds}
 use Rattle.mx_schema.specs.declared.index_def.IndexDef.{IndexDef}
 use Rattle.mx_schema.specs.declared.schema.Schema.{Schema}

@@ -1,4 +1,4 @@
--- That the keys which were added of a write lie in a range that was read exactly where the definitions say so.
+-- That the keys that are added for a write lie in a range that was read exactly where the definitions say so.
 use Rattle.std.proofs.Common.{◌≡◌, ℕ, Bool, true, false, ◌&&◌, ◌||◌, List, [], ◌∷◌, ◌++◌, length, take, Option, Some, refl, sym, ap, ◌∙◌, eqb-true}
 use Rattle.std.specs.Prelude.{◌==◌, if◌then◌else◌}
 use Rattle.std.specs.List.{AllByRecursion, AllZip, list_any}
@@ -197,7 +197,7 @@ adds_tuple before schema touched old new sound described (more, are, spell) = (
       ∙ sym (or_false (is_met before read touched)),
 )
 
--- no tuple touches no key
+-- where no tuple is touched, no key is added
 pub adds_no_keys : (before : State) (old : List coded.Touched) → AddsTouched before [] old old
 adds_no_keys before old = ([], sym (append-nil old), λ read coded spells. refl)
 
