@@ -34,7 +34,7 @@ rows_behind before (row ∷ rows) others = rows_behind (state_after_row before r
 -- ---- a statement of a run
 
 -- its row makes of the state what its change does
-statement_agrees : (ids : Ids) (before : State) (statement : Statement) → Agrees before (statement_answer ids before statement)
+pub statement_agrees : (ids : Ids) (before : State) (statement : Statement) → Agrees before (statement_answer ids before statement)
 statement_agrees ids before statement = by_test (writes statement.operation && not (ids.me == writable_node))
   where
     by_test : (refuses : Bool)
@@ -42,7 +42,7 @@ statement_agrees ids before statement = by_test (writes statement.operation && n
     by_test true = inl (refl, refl)
     by_test false = operation_agrees before statement.space statement.operation
 
-limited_agrees : (before : State) (rows : List Row) (answer : Answer) (row : Option Row) → Agrees before answer → Agrees before (within_limits rows answer row)
+pub limited_agrees : (before : State) (rows : List Row) (answer : Answer) (row : Option Row) → Agrees before answer → Agrees before (within_limits rows answer row)
 limited_agrees before rows answer None agrees = agrees
 limited_agrees before rows answer (Some row) agrees = by_test (has_room rows row)
   where

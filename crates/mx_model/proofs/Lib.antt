@@ -80,3 +80,5 @@ mod DemandedReplies
 mod StreamNames
 mod StreamBegins
 mod StreamCounts
+pub mod RunTouchLaws
+pub mod RunSchemaLaws

@@ -25,3 +25,4 @@ pub mod SlowTouches
 pub mod SlowReadSteps
 pub mod Touches
 pub mod Frame
+pub mod RunTouches

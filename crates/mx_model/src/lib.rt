@@ -9,6 +9,7 @@ mod new_database;
 mod node;
 mod out_units;
 mod reply;
+mod run_laws;
 mod slow;
 mod slow_state;
 mod statements;
@@ -27,6 +28,7 @@ pub use new_database::bootstrap;
 pub use node::{WRITABLE_NODE, is_write, next_lsn};
 pub use out_units::{OutUnit, OutUnits};
 pub use reply::Reply;
+pub use run_laws::what_a_run_touches;
 pub use slow::Slow;
 pub use slow_state::{
     ReadRange, ReadRanges, SlowAnswer, SlowState, SlowWrite, TouchedKey, TouchedKeys,
