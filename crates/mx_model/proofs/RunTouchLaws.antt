@@ -1,6 +1,7 @@
 -- What a run touches is what its changes put, and what stood under their keys in the state before it.
 use Rattle.std.proofs.Common.{◌≡◌, inl, inr, ℕ, Bool, true, false, cond, not, ◌&&◌, ◌||◌, List, [], ◌∷◌, ◌++◌, Option, Some, None, refl, sym, ap, ◌∙◌, subst, eqb-true}
 use Rattle.std.proofs.lemmas.List.Folds.{list_any-append}
+use Rattle.std.proofs.Math.Bool.{or-false, or_assoc, or_comm}
 use Rattle.std.specs.Prelude.{◌==◌, if◌then◌else◌}
 use Rattle.std.specs.FinMap.{get, get-insert, get-remove}
 use Rattle.std.specs.List.{AllByRecursion, list_any}
@@ -44,41 +45,27 @@ use Rattle.mx_model.proofs.FrameSteps.{IsPlainChange, described_after, plain_cha
 
 -- ---- tests
 
-or_false : (a : Bool) → (a || false) ≡ a
-or_false true = refl
-or_false false = refl
-
-swapped : (a b : Bool) → (a || b) ≡ (b || a)
-swapped true true = refl
-swapped true false = refl
-swapped false true = refl
-swapped false false = refl
-
-or_assoc : (a b c : Bool) → (a || (b || c)) ≡ ((a || b) || c)
-or_assoc true b c = refl
-or_assoc false b c = refl
-
 -- two more tests, of which each is already among those on its side
-held : (p s put stood : Bool) → (((p || put) || (s || stood)) || put) ≡ (((p || put) || (s || stood)) || stood)
-held true s put stood = refl
-held false s true stood = refl
+held : (puts there put stood : Bool) → (((puts || put) || (there || stood)) || put) ≡ (((puts || put) || (there || stood)) || stood)
+held true there put stood = refl
+held false there true stood = refl
 held false true false stood = refl
 held false false false true = refl
 held false false false false = refl
 
 -- what adds the same goes on adding the same beside more
-kept : (p s put stood one other : Bool) → ((p || s) || one) ≡ ((p || s) || other) → (((p || put) || (s || stood)) || one) ≡ (((p || put) || (s || stood)) || other)
-kept true s put stood one other same = refl
-kept false s true stood one other same = refl
+kept : (puts there put stood one other : Bool) → ((puts || there) || one) ≡ ((puts || there) || other) → (((puts || put) || (there || stood)) || one) ≡ (((puts || put) || (there || stood)) || other)
+kept true there put stood one other same = refl
+kept false there true stood one other same = refl
 kept false true false stood one other same = refl
 kept false false false true one other same = refl
 kept false false false false one other same = same
 
-gathered : (p s put stood now : Bool) → ((p || s) || now) ≡ ((p || s) || stood) → ((p || s) || (now || put)) ≡ ((p || put) || (s || stood))
-gathered true s put stood now same = refl
+gathered : (puts there put stood now : Bool) → ((puts || there) || now) ≡ ((puts || there) || stood) → ((puts || there) || (now || put)) ≡ ((puts || put) || (there || stood))
+gathered true there put stood now same = refl
 gathered false true true stood now same = refl
 gathered false true false stood now same = refl
-gathered false false put stood now same = ap (λ b. b || put) same ∙ swapped stood put
+gathered false false put stood now same = ap (λ b. b || put) same ∙ or_comm stood put
 
 -- ---- where spaces are described the same, the same is met
 
@@ -135,22 +122,22 @@ module _ (before : State) (test : Touched → Bool) where
   stands [] space key = refl
   stands (change ∷ earlier) space key =
       ap (λ found. passes (change ∷ earlier) || at_key space key found) (found_with now change.space change.key change.tuple space key)
-      ∙ ap (λ b. b || at_key space key (by_tests (space == change.space) (eq_by_cmp key_cmp key change.key))) (one_more change earlier)
-      ∙ by_space (kept p s put stood (at_key space key (get (tuples_in now space) key)) (at_key space key (get (tuples_in before space) key)) (stands earlier space key))
+      ∙ ap (λ b. b || at_key space key (found_by (space == change.space) (eq_by_cmp key_cmp key change.key))) (one_more change earlier)
+      ∙ by_space (kept puts there put stood (at_key space key (get (tuples_in now space) key)) (at_key space key (get (tuples_in before space) key)) (stands earlier space key))
       (space == change.space) refl (eq_by_cmp key_cmp key change.key) refl
       ∙ ap (λ b. b || at_key space key (get (tuples_in before space) key)) (sym (one_more change earlier))
     where
       now : State
       now = state_with_own before earlier
 
-      by_tests : (here tied : Bool) → Option (List ℕ)
-      by_tests here tied = if here then cond tied change.tuple (get (tuples_in now change.space) key) else get (tuples_in now space) key
+      found_by : (here tied : Bool) → Option (List ℕ)
+      found_by here tied = if here then cond tied change.tuple (get (tuples_in now change.space) key) else get (tuples_in now space) key
 
-      p : Bool
-      p = list_any test (puts_of earlier)
+      puts : Bool
+      puts = list_any test (puts_of earlier)
 
-      s : Bool
-      s = list_any test (stood_under before earlier)
+      there : Bool
+      there = list_any test (stood_under before earlier)
 
       put : Bool
       put = at_key change.space change.key change.tuple
@@ -158,23 +145,23 @@ module _ (before : State) (test : Touched → Bool) where
       stood : Bool
       stood = at_key change.space change.key (get (tuples_in before change.space) change.key)
 
-      by_space : (((p || put) || (s || stood)) || at_key space key (get (tuples_in now space) key)) ≡ (((p || put) || (s || stood)) || at_key space key (get (tuples_in before space) key))
+      by_space : (((puts || put) || (there || stood)) || at_key space key (get (tuples_in now space) key)) ≡ (((puts || put) || (there || stood)) || at_key space key (get (tuples_in before space) key))
           → (here : Bool) → (space == change.space) ≡ here → (tied : Bool) → eq_by_cmp key_cmp key change.key ≡ tied
-          → (((p || put) || (s || stood)) || at_key space key (by_tests here tied)) ≡ (((p || put) || (s || stood)) || at_key space key (get (tuples_in before space) key))
-      by_space still false e tied t = still
-      by_space still true e false t =
-          ap (λ n. ((p || put) || (s || stood)) || at_key space key (get (tuples_in now n) key)) (sym (eqb-true space change.space e)) ∙ still
-      by_space still true e true t =
-          let same = eqb-true space change.space e in
-          let tied = tied_is key change.key t in
-          (λ i. ((p || put) || (s || stood)) || at_key (same i) (tied i) change.tuple)
-          ∙ held p s put stood
-          ∙ sym (λ i. ((p || put) || (s || stood)) || at_key (same i) (tied i) (get (tuples_in before (same i)) (tied i)))
+          → (((puts || put) || (there || stood)) || at_key space key (found_by here tied)) ≡ (((puts || put) || (there || stood)) || at_key space key (get (tuples_in before space) key))
+      by_space still false e tied ties = still
+      by_space still true e false ties =
+          ap (λ n. ((puts || put) || (there || stood)) || at_key space key (get (tuples_in now n) key)) (sym (eqb-true space change.space e)) ∙ still
+      by_space still true e true ties =
+          let space_is = eqb-true space change.space e in
+          let key_is = tied_is key change.key ties in
+          (λ i. ((puts || put) || (there || stood)) || at_key (space_is i) (key_is i) change.tuple)
+          ∙ held puts there put stood
+          ∙ sym (λ i. ((puts || put) || (there || stood)) || at_key (space_is i) (key_is i) (get (tuples_in before (space_is i)) (key_is i)))
 
   -- a change touches what stands under its key, and what it puts
   touches_more : (own : List Change) (change : Option Change)
       → (passes own || list_any test (touched_by_change (state_with_own before own) change)) ≡ passes (option_to_list change ++ own)
-  touches_more own None = or_false (passes own)
+  touches_more own None = or-false (passes own)
   touches_more own (Some change) =
       ap (λ b. passes own || b)
       (list_any-append test (touched_at change.space change.key (get (tuples_in (state_with_own before own) change.space) change.key)) (touched_at change.space change.key change.tuple))
@@ -240,7 +227,7 @@ meet_both before (row ∷ rows) others reads =
     let touched = touched_by_change before (row_change before row) in
     let after = state_after_row before row in
     ap (λ b. are_met before touched reads || b) (meet_both after rows others reads)
-    ∙ or_assoc (are_met before touched reads) (rows_meet after rows reads) (rows_meet (state_after_rows after rows) others reads)
+    ∙ sym (or_assoc (are_met before touched reads) (rows_meet after rows reads) (rows_meet (state_after_rows after rows) others reads))
 
 -- the row of an answer touches what the answer's change does
 row_touches : (before : State) → IsSound before → (answer : Answer) → Agrees before answer → (read : Read)
@@ -250,8 +237,8 @@ row_touches before sound answer (inl (none, unchanged)) read =
     ∙ ap (λ (change : Option Change). list_any (is_met before read) (touched_by_change before change)) (sym unchanged)
 row_touches before sound answer (inr (row, is, changes)) read =
     ap (λ (row : Option Row). rows_meet before (option_to_list row) (read ∷ [])) is
-    ∙ or_false (are_met before (touched_by_change before (row_change before row)) (read ∷ []))
-    ∙ or_false (list_any (is_met before read) (touched_by_change before (row_change before row)))
+    ∙ or-false (are_met before (touched_by_change before (row_change before row)) (read ∷ []))
+    ∙ or-false (list_any (is_met before read) (touched_by_change before (row_change before row)))
     ∙ ap (λ (change : Option Change). list_any (is_met before read) (touched_by_change before change)) (sym (changes sound))
 
 -- a run keeps a state sound
