@@ -35,7 +35,8 @@ use Rattle.mx_model.specs.Frame.{IsDataStatement, StaysSound, reads_in}
 use Rattle.mx_model.specs.Histories.{writable_node}
 use Rattle.mx_model.specs.RunAlone.{answer_in_run, run_alone, statement_answer, within_limits, writes}
 use Rattle.mx_model.specs.RunTouches.{changes_of}
-use Rattle.mx_model.specs.Touches.{Touched, are_met, rows_meet, touched_by_change}
+use Rattle.mx_write.specs.Touches.{Touched, are_met, touched_by_change}
+use Rattle.mx_model.specs.Touches.{rows_meet}
 use Rattle.mx_model.specs.statements.Answer.{Answer, refusal_after, refusal_alone}
 use Rattle.mx_model.specs.statements.Select.{iterator_of}
 use Rattle.mx_model.specs.statements.Statement.{Operation, Selects, Statement, Writes}

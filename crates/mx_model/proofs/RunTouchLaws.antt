@@ -33,7 +33,8 @@ use Rattle.mx_model.specs.Frame.{IsDataStatement, OperationHasBytes}
 use Rattle.mx_model.specs.Histories.{writable_node}
 use Rattle.mx_model.specs.RunAlone.{answer_in_run, run_alone, statement_answer, within_limits, writes}
 use Rattle.mx_model.specs.RunTouches.{changes_of, puts_of, stood_under}
-use Rattle.mx_model.specs.Touches.{Touched, index_by_state, is_met, lies_in_index, rows_meet, are_met, touched_at, touched_by_change}
+use Rattle.mx_write.specs.Touches.{Touched, index_by_state, is_met, lies_in_index, are_met, touched_at, touched_by_change}
+use Rattle.mx_model.specs.Touches.{rows_meet}
 use Rattle.mx_model.specs.statements.Answer.{Answer, refusal_after, refusal_alone}
 use Rattle.mx_model.specs.statements.Statement.{Statement}
 use Rattle.mx_model.proofs.AloneCommits.{limited_agrees, run_makes, statement_agrees}

@@ -4,7 +4,7 @@ use Rattle.std.specs.FinMap.{get}
 use Rattle.std.specs.Option.{option_to_list}
 use Rattle.mx_schema.specs.State.{State, tuples_in}
 use Rattle.mx_write.specs.Change.{Change}
-use Rattle.mx_model.specs.Touches.{Touched, touched_at}
+use Rattle.mx_write.specs.Touches.{Touched, touched_at}
 use Rattle.mx_model.specs.statements.Answer.{Answer}
 
 -- what answers change, the newest first, as the answers stand

@@ -14,7 +14,8 @@ ghost use Rattle.mx_model.specs.Answers.{state_after_rows};
 ghost use Rattle.mx_model.specs.Frame.{IsDataStatement, StaysSound, reads_in};
 ghost use Rattle.mx_model.specs.RunAlone.{run_alone};
 ghost use Rattle.mx_model.specs.RunTouches.{changes_of, puts_of, stood_under};
-ghost use Rattle.mx_model.specs.Touches.{Touched, is_met, rows_meet};
+ghost use Rattle.mx_write.specs.Touches.{Touched, is_met};
+ghost use Rattle.mx_model.specs.Touches.{rows_meet};
 ghost use Rattle.mx_model.specs.statements.Statement.{Statement};
 
 /// The rows of a run meet a read exactly where a tuple meets it that the run's changes put, or one that stood
