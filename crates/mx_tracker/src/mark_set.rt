@@ -1,6 +1,6 @@
 //! Marks of slots.
 
-ghost use Rattle.std.specs.Prelude.{◌≡◌, ◌≢◌, ℕ, ◌<◌, slice_set, false};
+ghost use Rattle.std.specs.Prelude.{◌≡◌, ◌≢◌, ◌||◌, ℕ, ◌<◌, slice_set, false};
 ghost use Rattle.mx_tracker.specs.Marks.{slots, is_marked};
 
 use std::marker::Model;
@@ -38,6 +38,17 @@ impl MarkSet {
         ensures { result ≡ is_marked self.now slot }
     {
         self.marks[slot as usize]
+    }
+
+    /// Adds the marks of another set.
+    pub fn add(&mut self, other: &MarkSet)
+        ensures { (slot : ℕ) → slot < slots → is_marked self.new slot ≡ (is_marked self.old slot || is_marked other.now slot) }
+    {
+        for slot in 0..SLOTS {
+            if other.marks[slot] {
+                self.marks[slot] = true;
+            }
+        }
     }
 
     /// Marks a slot, or takes its mark away.
