@@ -1,6 +1,6 @@
 //! Rows in order, which a contract sees as a list.
 
-ghost use Rattle.std.specs.Prelude.{◌≡◌, [], ◌∷◌, ◌++◌, IfOk, OnOk, OnErr};
+ghost use Rattle.std.specs.Prelude.{◌≡◌, [], ◌∷◌, ◌++◌, take, IfOk, OnOk, OnErr};
 ghost use Rattle.mx_row.specs.Views.{row_values};
 
 use crate::row::Row;
@@ -61,5 +61,12 @@ impl Rows {
     {
         self.items.push(row)?;
         Ok(())
+    }
+
+    /// Keeps the first `len` rows; does nothing where there are no more.
+    pub fn truncate(&mut self, len: usize)
+        ensures { self.new ≡ take len self.old }
+    {
+        self.items.truncate(len);
     }
 }
