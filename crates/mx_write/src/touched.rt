@@ -1,6 +1,7 @@
 //! The keys that a write touches.
 
 ghost use Rattle.std.specs.Prelude.{◌≡◌, ℕ, Ok, Some, length, take, IfOk, MatchResult};
+ghost use Rattle.std.specs.FinMap.{get};
 ghost use Rattle.std.specs.Option.{option_copied};
 ghost use Rattle.mx_key.specs.Comparable.{comparable_of};
 ghost use Rattle.mx_key.specs.Keys.{Key, AreFit};
@@ -8,7 +9,10 @@ ghost use Rattle.mx_schema.specs.Catalogues.{schema_of};
 ghost use Rattle.mx_schema.specs.Picks.{entry_key};
 ghost use Rattle.mx_schema.specs.Sound.{IsSound};
 ghost use Rattle.mx_schema.specs.State as plain;
+ghost use Rattle.mx_schema.specs.State.{tuples_in};
 ghost use Rattle.mx_space.specs.OwnChanges.{HoldsView};
+ghost use Rattle.mx_space.specs.Stored.{Holds};
+ghost use Rattle.mx_write.specs.Change.{Change};
 ghost use Rattle.mx_write.specs.Judge.{judged_write};
 ghost use Rattle.mx_write.specs.Made as spec;
 ghost use Rattle.mx_write.specs.Makes.{MakesWrite, tuple_after};
@@ -20,7 +24,7 @@ use crate::writable::Writer;
 use mx_base::SpaceId;
 use mx_msgpack::Bytes;
 use mx_schema::{IndexDef, Schema, parts_or_none};
-use mx_space::StateView;
+use mx_space::{State, StateView};
 use mx_tracker::{Touched, TouchedKeys};
 use std::alloc::{AllocError, Global};
 
@@ -51,6 +55,55 @@ impl Made {
             }
         }
     }
+
+    /// Adds the keys of the tuple that the write puts, where it puts one.
+    ///
+    /// # Errors
+    /// Out of memory. The keys are then as they were.
+    pub fn touch_put(
+        &self,
+        alloc: Global,
+        view: StateView<'_>,
+        space: SpaceId,
+        keys: &mut TouchedKeys,
+    ) -> Result<(), AllocError>
+        ensures { (seen : plain.State) (write : statement.Write) (made : spec.Made) → HoldsView view.entry seen → MakesWrite seen space.0 write self.now made → MatchResult result
+            (λ _. (change : Change) × (made.change ≡ Some change) × AddsTouched seen (touched_at change.space change.key change.tuple) keys.old keys.new)
+            (λ _. keys.new ≡ keys.old) }
+    {
+        let Some(stored) = view.space(space) else {
+            return Ok(());
+        };
+        let before = keys.len();
+        let tuple = tuple_after(&self.effect);
+        match push_tuple(alloc, space, stored.schema(), &self.key, tuple, keys) {
+            Ok(()) => Ok(()),
+            Err(fault) => {
+                keys.truncate(before);
+                Err(fault)
+            }
+        }
+    }
+}
+
+/// Adds the keys of the tuple that a state has under a primary key, where it has one.
+///
+/// # Errors
+/// Out of memory. Some keys may have been added.
+pub fn touch_stood(
+    alloc: Global,
+    state: &State,
+    space: SpaceId,
+    key: &Bytes,
+    keys: &mut TouchedKeys,
+) -> Result<(), AllocError>
+    ensures { (before : plain.State) (own : Key) → Holds state.now before → AreFit own → key.now ≡ comparable_of own
+        → IfOk result (λ _. AddsTouched before (touched_at space.0 own (get (tuples_in before space.0) own)) keys.old keys.new) }
+{
+    let Some(stored) = StateView::of(state).space(space) else {
+        return Ok(());
+    };
+    push_tuple(alloc, space, stored.schema(), key, stored.tuple(key), keys)
 }
 
 /// As `Made::touch`, but at an error some keys may have been added.
