@@ -57,7 +57,7 @@ active_alone ids base journal transaction alone active =
 -- ---- what statements have read
 
 -- the reads of statements made by now are all of theirs
-all_reads : (count : ℕ) (steps : List TransactionStep) (answers : List Answer) → AllByRecursion (λ (step : TransactionStep). step.after ≤ count) steps
+pub all_reads : (count : ℕ) (steps : List TransactionStep) (answers : List Answer) → AllByRecursion (λ (step : TransactionStep). step.after ≤ count) steps
     → map (λ (step : TransactionStep). step.reads) steps ≡ map (λ (answer : Answer). answer.reads) answers → reads_before (suc count) steps ≡ reads_in answers
 all_reads count [] [] made same = refl
 all_reads count [] (answer ∷ answers) made same = absurd cc
