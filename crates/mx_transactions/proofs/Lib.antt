@@ -1,0 +1,10 @@
+pub mod OpenLaws
+pub mod RunLaws
+pub mod CarriedLaws
+pub mod CommitLaws
+pub mod TableLaws
+pub mod WorkLaws
+pub mod MoveLaws
+pub mod AddLaws
+pub mod BeginLaws
+pub mod EndLaws

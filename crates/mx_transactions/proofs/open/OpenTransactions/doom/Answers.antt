@@ -1,0 +1,25 @@
+use Rattle.std.proofs.Common.{rules, ◌<◌, refl, sym, subst}
+use Rattle.mx_txn.specs.declared.state.TxnState.TheVariants.{Aborted}
+use Rattle.mx_txn.specs.Slots.{IsLive, max_open}
+use Rattle.mx_transactions.specs.Open.{Open}
+use Rattle.mx_transactions.proofs.TableLaws.{doomed_slot, doomed_table}
+use Rattle.mx_transactions.proofs.open.OpenTransactions.doom.Goals as goal
+
+pub invariant_of-self : goal.invariant_of-self
+invariant_of-self c =
+    doomed_table _ _ c.args.slot (Aborted c.args.by) c.self.invariant (subst (λ (all : Open). IsLive all.slots c.args.slot) (sym c.self.view_is) c.requires) refl (record {
+      slots = c.abort.ensures;
+      tracks = c.clear.ensures.reads;
+      work = c.clear.ensures.work;
+      trims = record { oldest = c.oldest_view.result; is = c.oldest_view.ensures; kept = c.trim.ensures };
+    })
+
+pub returns : goal.returns
+returns c =
+    let within : c.args.slot < max_open = search rules in
+    rw (← c.self.view_is) (doomed_slot _ _ c.args.slot (Aborted c.args.by) c.self.invariant within refl (record {
+      slots = c.abort.ensures;
+      tracks = c.clear.ensures.reads;
+      work = c.clear.ensures.work;
+      trims = record { oldest = c.oldest_view.result; is = c.oldest_view.ensures; kept = c.trim.ensures };
+    }))

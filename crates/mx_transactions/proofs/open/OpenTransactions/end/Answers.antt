@@ -1,0 +1,33 @@
+use Rattle.std.proofs.Common.{rules, ◌≡◌, ◌<◌, Some, sym, subst}
+use Rattle.mx_txn.specs.Slots.{max_open}
+use Rattle.mx_transactions.specs.Open.{HoldsOpen, Open, slot_named}
+use Rattle.mx_transactions.proofs.EndLaws.{ended_open}
+use Rattle.mx_transactions.proofs.OpenLaws.{found_live}
+use Rattle.mx_transactions.proofs.TableLaws.{ended_table}
+use Rattle.mx_transactions.proofs.open.OpenTransactions.end.Goals as goal
+
+pub end-requires : goal.end-requires
+end-requires c =
+    found_live c.self.inside.slots c.args.name c.self.inside.names c.self.invariant.live c.args.slot
+    (subst (λ (all : Open). slot_named c.args.name all.names ≡ Some c.args.slot) (sym c.self.view_is) c.requires)
+
+pub invariant_of-self : goal.invariant_of-self
+invariant_of-self c =
+    let within : c.args.slot < max_open = search rules in
+    ended_table _ _ c.args.name c.args.slot c.self.invariant within
+    (subst (λ (all : Open). slot_named c.args.name all.names ≡ Some c.args.slot) (sym c.self.view_is) c.requires) c.remove.ensures (record {
+      slots = c.end.ensures;
+      tracks = c.clear.ensures.reads;
+      work = c.clear.ensures.work;
+      trims = record { oldest = c.oldest_view.result; is = c.oldest_view.ensures; kept = c.trim.ensures };
+    })
+
+pub returns-clause-left : goal.returns-clause-left
+returns-clause-left c = λ streams holds.
+    ended_open streams _ _ c.args.name c.args.slot c.self.invariant
+    (subst (λ (all : Open). slot_named c.args.name all.names ≡ Some c.args.slot) (sym c.self.view_is) c.requires) c.remove.ensures (record {
+      slots = c.end.ensures;
+      tracks = c.clear.ensures.reads;
+      work = c.clear.ensures.work;
+      trims = record { oldest = c.oldest_view.result; is = c.oldest_view.ensures; kept = c.trim.ensures };
+    }) (subst (HoldsOpen streams) (sym c.self.view_is) holds)

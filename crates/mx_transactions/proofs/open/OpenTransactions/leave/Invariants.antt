@@ -1,0 +1,12 @@
+use Rattle.std.proofs.Common.{length}
+use Rattle.mx_model.specs.Streams.{Streams}
+use Rattle.mx_transactions.specs.Open.{HoldsOpen}
+use Rattle.mx_transactions.proofs.EndLaws.{HasLeft}
+use Rattle.mx_transactions.proofs.open.OpenTransactions.leave.Given as goal
+
+-- some of the connection have ended
+abbrev pub invariant-loop-named : goal.invariant-loop-named
+invariant-loop-named l = (streams : Streams) → HoldsOpen streams l.initial.self → HasLeft l.connection.0 streams l.self
+
+abbrev pub decreases-loop-named : goal.decreases-loop-named
+decreases-loop-named l = length l.self.names
