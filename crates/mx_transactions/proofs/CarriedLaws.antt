@@ -9,7 +9,7 @@ use Rattle.mx_space.specs.OwnChanges.{HoldsOwn}
 use Rattle.mx_space.proofs.OwnSchemaLaws.{same_schemas}
 use Rattle.mx_tracker.specs.declared.read.Read as noted
 use Rattle.mx_tracker.specs.declared.touched.Touched as coded
-use Rattle.mx_tracker.specs.Overlaps.{is_overlapped, lies_in_read}
+use Rattle.mx_tracker.specs.Overlaps.{is_overlapped}
 use Rattle.mx_write.specs.Change.{Change}
 use Rattle.mx_write.specs.Judge.{row_change}
 use Rattle.mx_write.specs.Notes.{SpellsRead}
@@ -19,7 +19,7 @@ use Rattle.mx_write.proofs.TouchLaws.{any_both}
 use Rattle.mx_model.specs.declared.ids.Ids.{Ids}
 use Rattle.mx_model.specs.Answers.{state_after_row, state_after_rows}
 use Rattle.mx_model.specs.Frame.{IsDataStatement, StaysSound, reads_in}
-use Rattle.mx_model.specs.RunAlone.{Run, run_alone}
+use Rattle.mx_model.specs.RunAlone.{run_alone}
 use Rattle.mx_model.specs.RunTouches.{changes_of, puts_of}
 use Rattle.mx_model.specs.Slow.{saturated}
 use Rattle.mx_model.specs.Touches.{rows_meet}
@@ -30,7 +30,7 @@ use Rattle.mx_model.proofs.EachLaws.{each_of_both}
 use Rattle.mx_model.proofs.RunSchemaLaws.{carried_schemas}
 use Rattle.mx_model.proofs.RunTouchLaws.{carried_meets}
 use Rattle.mx_transactions.specs.declared.work.Work.{Work}
-use Rattle.mx_transactions.specs.Open.{HasRun, HasWritten, SpellsKey, in_order, reads_made}
+use Rattle.mx_transactions.specs.Open.{HasRun, SpellsKey, in_order, reads_made}
 use Rattle.mx_transactions.specs.OpenSteps.{SpellsRows}
 
 -- ---- what rows meet of reads, one list behind the other

@@ -1,21 +1,17 @@
 -- What a commit makes of open transactions.
-use Rattle.std.proofs.Common.{◌≡◌, ◌≢◌, ℕ, suc, ◌<◌, ◌≤◌, Bool, true, false, ◌||◌, List, [], ◌∷◌, ◌++◌, length, map, Option, Some, None, refl, sym, ap, ◌∙◌, subst, arith}
+use Rattle.std.proofs.Common.{◌≡◌, ℕ, zero, suc, ◌<◌, Bool, true, false, ◌||◌, List, [], ◌∷◌, ◌++◌, length, map, Some, None, refl, sym, ap, ◌∙◌, subst, arith}
 use Rattle.std.specs.Prelude.{IsSome, slice_get, if◌then◌else◌}
 use Rattle.std.proofs.lemmas.List.{length-append}
-use Rattle.std.specs.FinMap.{get}
 use Rattle.std.specs.List.{AllByRecursion, AllZip}
 use Rattle.std.specs.Option.{option_map}
-use Rattle.mx_row.specs.declared.row.Row.{Row}
 use Rattle.mx_row.specs.declared.tx.Tx.{Tx}
 use Rattle.mx_schema.specs.Sound.{IsSound}
 use Rattle.mx_schema.specs.State.{State}
-use Rattle.mx_space.specs.declared.state.State as memory
 use Rattle.mx_space.specs.KeptStates.{kept_at}
 use Rattle.mx_space.specs.Stored.{Holds}
 use Rattle.mx_tracker.specs.declared.touched.Touched as coded
 use Rattle.mx_tracker.specs.Marks.{is_marked}
 use Rattle.mx_tracker.specs.Overlaps.{is_overlapped}
-use Rattle.mx_tracker.specs.Tracks.{noted_reads}
 use Rattle.mx_txn.specs.declared.state.TxnState.{TxnState}
 use Rattle.mx_txn.specs.declared.state.TxnState.TheVariants as txn
 use Rattle.mx_txn.specs.Slots.{max_open}
@@ -23,11 +19,11 @@ use Rattle.mx_model.specs.declared.ids.Ids.{Ids}
 use Rattle.mx_model.specs.Alone.{AllStandAlone, HaveBytes, StandsAlone, answers_alone}
 use Rattle.mx_model.specs.Answers.{state_after_rows}
 use Rattle.mx_model.specs.Frame.{reads_in}
-use Rattle.mx_model.specs.Overlaps.{Active, Doomed, Standing, Transaction, View, doomed_or_view, has_row, is_some_row, place_by, reads_before, standing, standing_after_commit, state_after_first, statements_in}
+use Rattle.mx_model.specs.Overlaps.{Active, Doomed, Standing, Transaction, View, doomed_or_view, has_row, is_some_row, place_by, reads_before, standing_after_commit, state_after_first, statements_in}
 use Rattle.mx_model.specs.RunAlone.{Run, run_alone}
 use Rattle.mx_model.specs.Streams.{Streams, standing_now}
 use Rattle.mx_model.specs.Touches.{rows_meet}
-use Rattle.mx_model.specs.Transactions.{is_schema_commit, state_after}
+use Rattle.mx_model.specs.Transactions.{is_schema_commit}
 use Rattle.mx_model.proofs.AlonePlaces.{all_reads, never_overlapped, whole_state}
 use Rattle.mx_model.proofs.AloneSound.{journal_sound}
 use Rattle.mx_model.proofs.FrameRuns.{rows_stay_sound}
@@ -43,6 +39,12 @@ use Rattle.mx_transactions.proofs.CarriedLaws.{carried, keys_meet, noted_meet}
 -- streams after one more commit
 abbrev pub committed : Streams → Tx → Streams
 committed streams commit = record streams { journal = streams.journal ++ commit ∷ [] }
+
+-- what stands in a list stands within it
+item_within : {X : Type 0} (items : List X) (place : ℕ) (item : X) → slice_get items place ≡ Some item → place < length items
+item_within [] place item is = absurd cc
+item_within (first ∷ items) zero item is = omega arith
+item_within (first ∷ items) (suc place) item is = let rest = item_within items place item is in omega (arith, rest)
 
 module _ (streams : Streams) (commit : Tx) (all : AllStandAlone streams) (bytes : HaveBytes commit.rows) (old new : Open) (marks : List Bool) (keys : List coded.Touched)
     (is_schema : Bool) (schema : is_schema ≡ is_schema_commit commit) (spells : SpellsRows (newest_state streams) commit.rows keys) (are : AreMarks old marks keys)
@@ -203,18 +205,20 @@ module _ (streams : Streams) (commit : Tx) (all : AllStandAlone streams) (bytes 
       }
 
   -- all of them
-  each_moved : (names : List Named) (ones : List Transaction) → AllByRecursion (λ (named : Named). named.slot < max_open) names → ViewsAreKept old marks (length journal) None
+  each_moved : (names : List Named) (ones : List Transaction) → length old.works ≡ max_open → ViewsAreKept old marks (length journal) None
       → AllByRecursion (StandsAlone ids base journal) ones → AllZip (IsOpen streams old) names ones → AllZip (IsOpen longer new) names ones
-  each_moved [] [] within ready alone keep = tt
-  each_moved [] (one ∷ ones) within ready alone keep = absurd keep
-  each_moved (named ∷ names) [] within ready alone keep = absurd keep
-  each_moved (named ∷ names) (one ∷ ones) within ready alone (first, keep) =
-      (moved_open one alone.0 named within.0 first ready, each_moved names ones within.1 ready alone.1 keep)
+  each_moved [] [] whole ready alone keep = tt
+  each_moved [] (one ∷ ones) whole ready alone keep = absurd keep
+  each_moved (named ∷ names) [] whole ready alone keep = absurd keep
+  each_moved (named ∷ names) (one ∷ ones) whole ready alone (first, keep) = (
+    moved_open one alone.0 named (subst (λ n. named.slot < n) whole (item_within old.works named.slot first.has.work first.is.work)) first ready,
+    each_moved names ones whole ready alone.1 keep,
+  )
 
   -- The commit, with what it makes of the slots, leaves the open transactions of the longer journal.
-  pub all_moved : AllByRecursion (λ (named : Named). named.slot < max_open) old.names → ViewsAreKept old marks (length journal) None → HoldsOpen streams old → HoldsOpen longer new
-  all_moved within ready holds = record {
+  pub all_moved : length old.works ≡ max_open → ViewsAreKept old marks (length journal) None → HoldsOpen streams old → HoldsOpen longer new
+  all_moved whole ready holds = record {
     each = subst (λ names. AllZip (IsOpen longer new) names streams.transactions) (sym moves.names)
-        (each_moved old.names streams.transactions within ready all.each holds.each);
+        (each_moved old.names streams.transactions whole ready all.each holds.each);
     kept = states_kept holds.kept;
   }

@@ -11,7 +11,7 @@ use Rattle.mx_transactions.specs.Open.{HoldsOpen, IsOpen, AreInSlots, Open, slot
 use Rattle.mx_transactions.specs.OpenSteps.{beside}
 use Rattle.mx_transactions.proofs.BeginLaws.{beside_open}
 use Rattle.mx_transactions.proofs.OpenLaws.{all_stay, some_open}
-use Rattle.mx_transactions.proofs.TableLaws.{Clears, ended_stay, others_of, trimmed_states}
+use Rattle.mx_transactions.proofs.TableLaws.{Clears, ended_stay, others_of}
 
 -- the others are kept where one ends
 pub ended_open : (streams : Streams) (old new : Open) (name : TxnName) (slot : ℕ) → AreInSlots old → slot_named name old.names ≡ Some slot → new.names ≡ others_of name old.names
@@ -23,7 +23,7 @@ ended_open streams old new name slot table e names clears holds =
           (beside_open streams others new (others_of name old.names) others
           (all_stay streams old new (others_of name old.names) others (ended_stay old new name slot table e clears)
           (some_open streams old (λ n. not (is_name n name)) old.names streams.transactions holds.each)));
-      kept = λ commits memory is. holds.kept commits memory (trimmed_states old new clears.trims commits memory is);
+      kept = λ commits memory is. holds.kept commits memory (clears.keeps.states commits memory is);
     }
 
 -- ---- those of a connection

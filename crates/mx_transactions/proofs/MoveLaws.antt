@@ -6,7 +6,6 @@ use Rattle.std.proofs.lemmas.List.{length-set}
 use Rattle.std.proofs.lemmas.Option.{slice_get_read}
 use Rattle.std.specs.FinMap.{get, insert, len}
 use Rattle.std.specs.Option.{option_map}
-use Rattle.mx_row.specs.declared.row.Row.{Row}
 use Rattle.mx_space.specs.declared.kept_states.KeptStates.{KeptStates}
 use Rattle.mx_space.specs.KeptStates.{kept_at}
 use Rattle.mx_tracker.specs.Marks.{is_marked}

@@ -1,15 +1,11 @@
 -- Open transactions: what is found by a name, and what stays where one slot changes.
-use Rattle.std.proofs.Common.{◌≡◌, ◌≢◌, ℕ, Bool, true, false, not, List, [], ◌∷◌, length, Option, Some, None, refl, sym, ap, ◌∙◌, subst}
-use Rattle.std.specs.Prelude.{slice_get, if◌then◌else◌}
-use Rattle.std.specs.FinMap.{get}
+use Rattle.std.proofs.Common.{◌≡◌, ◌≢◌, ℕ, Bool, true, false, List, [], ◌∷◌, Some, None, refl, sym, ap, ◌∙◌, subst}
+use Rattle.std.specs.Prelude.{if◌then◌else◌}
 use Rattle.std.specs.List.{AllByRecursion, AllZip, filter}
 use Rattle.mx_base.specs.declared.ids.TxnName.{TxnName}
-use Rattle.mx_schema.specs.State.{State}
-use Rattle.mx_tracker.specs.Tracks.{noted_reads}
-use Rattle.mx_txn.specs.declared.state.TxnState.TheVariants as txn
 use Rattle.mx_txn.specs.Slots.{IsLive, Txns}
 use Rattle.mx_model.specs.Overlaps.{Active, Doomed, Standing, Transaction, TransactionStep, View}
-use Rattle.mx_model.specs.Streams.{Streams, is_name, of_others, standing_now, transaction_named, transaction_with, with_step, without_named}
+use Rattle.mx_model.specs.Streams.{Streams, is_name, standing_now, transaction_named, transaction_with, with_step}
 use Rattle.mx_transactions.specs.declared.names.Named.{Named}
 use Rattle.mx_transactions.specs.Open.{HaveOwnSlots, HasSlot, HasStanding, HasTransaction, IsOpen, IsOther, Open, SlotHas, slot_named}
 use Rattle.mx_transactions.specs.OpenSteps.{StaysAt}

@@ -1,5 +1,5 @@
 -- Names with slots of their own: at first, after one begins or ends, and where one slot changes.
-use Rattle.std.proofs.Common.{◌≡◌, ◌≢◌, ◌⊎◌, ℕ, zero, suc, ◌-◌, ◌<◌, Bool, true, false, not, ◌&&◌, List, [], ◌∷◌, length, Option, Some, None, inl, inr, refl, sym, ap, ◌∙◌, subst, arith}
+use Rattle.std.proofs.Common.{◌≡◌, ◌≢◌, ◌⊎◌, ℕ, zero, suc, ◌<◌, Bool, true, false, not, ◌&&◌, List, [], ◌∷◌, length, Option, Some, None, inl, inr, refl, sym, ap, ◌∙◌, subst, arith}
 use Rattle.std.specs.Prelude.{◌==◌, IsSome, nat_le, slice_get, slice_set, Result, Ok, Err, OnOk, OnErr, if◌then◌else◌}
 use Rattle.std.proofs.lemmas.Bool.{cases_eq, eqb-true, le-leb}
 use Rattle.std.proofs.lemmas.List.{length-set}
@@ -150,12 +150,26 @@ trimmed_views old new trims slot place view some =
 pub trimmed_states : (old new : Open) → Trims old new → (commits : ℕ) (memory : memory.State) → kept_at commits new.kept ≡ Some memory → kept_at commits old.kept ≡ Some memory
 trimmed_states old new trims commits memory is = needed_was trims.oldest commits (kept_at commits old.kept) memory (sym (trims.kept commits) ∙ is)
 
+-- the views that are left keep their states, and no state is kept that wasn't before
+pub record KeepsViews (old new : Open) : Type 0 where
+  pub views : (other place : ℕ) → get new.slots other ≡ Some (txn.View place) → IsSome (kept_at place old.kept) → IsSome (kept_at place new.kept)
+  pub states : (commits : ℕ) (memory : memory.State) → kept_at commits new.kept ≡ Some memory → kept_at commits old.kept ≡ Some memory
+
+pub keeps_trimmed : (old new : Open) → Trims old new → KeepsViews old new
+keeps_trimmed old new trims = record { views = trimmed_views old new trims; states = trimmed_states old new trims }
+
+pub keeps_same : (old new : Open) → new.kept ≡ old.kept → KeepsViews old new
+keeps_same old new same = record {
+  views = λ other place view there. subst (λ kept. IsSome (kept_at place kept)) (sym same) there;
+  states = λ commits memory is. ap (kept_at commits) (sym same) ∙ is;
+}
+
 -- a slot has this state now, and what its transaction has read and written is dropped
 pub record Clears (old new : Open) (slot : ℕ) (state : Option TxnState) : Type 0 where
   pub slots : new.slots ≡ with_state old.slots slot state
   pub tracks : ChangesReads old.tracks new.tracks slot []
   pub work : (work : Work) × WritesNothing work × (new.works ≡ slice_set old.works slot work)
-  pub trims : Trims old new
+  pub keeps : KeepsViews old new
 
 module _ (old new : Open) (slot : ℕ) (state : Option TxnState) (clears : Clears old new slot state) where
   pub cleared_others : (other : ℕ) → other ≢ slot → StaysAt old new other
@@ -163,7 +177,7 @@ module _ (old new : Open) (slot : ℕ) (state : Option TxnState) (clears : Clear
     state = ap (λ slots. get slots other) clears.slots ∙ get-with_state_other old.slots slot state other differs;
     work = ap (λ works. slice_get works other) clears.work.2 ∙ get-set_other old.works slot clears.work.0 other differs;
     reads = clears.tracks.others other differs;
-    kept = trimmed_views old new clears.trims other;
+    kept = clears.keeps.views other;
   }
 
   abbrev pub cleared : SlotHas
@@ -326,7 +340,7 @@ doomed_slot old new slot state table within names clears = (
   cleared old new slot (Some state) clears,
   refl,
   record {
-    changes = record { names = names; others = cleared_others old new slot (Some state) clears; kept = trimmed_states old new clears.trims };
+    changes = record { names = names; others = cleared_others old new slot (Some state) clears; kept = clears.keeps.states };
     has = cleared_slot old new slot (Some state) clears (subst (λ n. slot < n) (sym table.whole) within);
   },
 )

@@ -17,7 +17,6 @@ use Rattle.mx_schema.specs.State.{State}
 use Rattle.mx_space.specs.declared.state_view.StateView.{StateView}
 use Rattle.mx_space.specs.OwnChanges.{AreNoDescriptions, HoldsOwn, HoldsView, state_with_own}
 use Rattle.mx_space.proofs.OwnChangeLaws.{schema_with_own}
-use Rattle.mx_tracker.specs.declared.read.Read as noted
 use Rattle.mx_tracker.specs.declared.touched.Touched as coded
 use Rattle.mx_tracker.specs.Overlaps.{lies_in_read}
 use Rattle.mx_write.specs.declared.made.Made as code

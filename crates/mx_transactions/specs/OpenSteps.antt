@@ -1,5 +1,5 @@
 -- What the calls on open transactions find and make of them.
-use Rattle.std.specs.Prelude.{◌≡◌, ◌≢◌, ℕ, Bool, true, false, ◌||◌, ◌<◌, List, [], ◌∷◌, length, take, Option, Some, None, Result, Ok, Err, IsSome, MatchOption, slice_get, slice_set, if◌then◌else◌}
+use Rattle.std.specs.Prelude.{◌≡◌, ◌≢◌, ℕ, Bool, true, false, ◌||◌, ◌<◌, List, [], ◌∷◌, length, take, Option, Some, None, Result, Ok, Err, IsSome, MatchOption, slice_get, if◌then◌else◌}
 use Rattle.std.specs.FinMap.{get}
 use Rattle.std.specs.List.{list_any}
 use Rattle.std.specs.Option.{option_map}

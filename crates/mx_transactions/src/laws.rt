@@ -1,6 +1,6 @@
 //! Theorems on open transactions as they are kept. Each is a function that does nothing when it is called.
 
-ghost use Rattle.std.specs.Prelude.{◌≡◌, ◌∷◌, ◌++◌, ◌<◌, [], Bool, List, None, length};
+ghost use Rattle.std.specs.Prelude.{◌≡◌, ◌∷◌, ◌++◌, [], Bool, List, None, length};
 ghost use Rattle.std.specs.List.{AllByRecursion};
 ghost use Rattle.mx_row.specs.declared.tx.Tx.{Tx};
 ghost use Rattle.mx_schema.specs.Sound.{IsSound};
@@ -14,7 +14,6 @@ ghost use Rattle.mx_model.specs.RunAlone.{run_alone};
 ghost use Rattle.mx_model.specs.Streams.{Streams};
 ghost use Rattle.mx_model.specs.Transactions.{is_schema_commit};
 ghost use Rattle.mx_model.specs.statements.Statement.{Statement};
-ghost use Rattle.mx_transactions.specs.declared.names.Named.{Named};
 ghost use Rattle.mx_transactions.specs.Open.{HoldsOpen, Open, newest_state};
 ghost use Rattle.mx_transactions.specs.OpenSteps.{AreMarks, Moves, SpellsRows, StandsOn, ViewsAreKept};
 
@@ -24,7 +23,7 @@ ghost use Rattle.mx_transactions.specs.OpenSteps.{AreMarks, Moves, SpellsRows, S
 pub fn a_commit_moves_open_transactions()
     ensures { (streams : Streams) (commit : Tx) (old new : Open) (marks : List Bool) (keys : List coded.Touched) (is_schema : Bool)
         → AllStandAlone streams → HaveBytes commit.rows → is_schema ≡ is_schema_commit commit → SpellsRows (newest_state streams) commit.rows keys → AreMarks old marks keys
-        → Moves old new marks is_schema (length streams.journal) → AllByRecursion (λ (named : Named). named.slot < max_open) old.names
+        → Moves old new marks is_schema (length streams.journal) → length old.works ≡ max_open
         → ViewsAreKept old marks (length streams.journal) None → HoldsOpen streams old
         → HoldsOpen (record streams { journal = streams.journal ++ commit ∷ [] }) new }
 {}

@@ -1,6 +1,6 @@
 //! Open transactions.
 
-ghost use Rattle.std.specs.Prelude.{◌≡◌, ◌≢◌, ℕ, Bool, false, true, not, ◌||◌, if◌then◌else◌, [], ◌++◌, ◌<◌, length, slice_get, slice_set, IfOk, IfSome, OnOk, OnErr, IsSome, IsTrue, MatchResult, Ok, ◌↔◌, Some};
+ghost use Rattle.std.specs.Prelude.{◌≡◌, ◌≢◌, ℕ, Bool, None, false, true, not, ◌||◌, if◌then◌else◌, [], ◌++◌, ◌<◌, length, slice_get, slice_set, IfOk, IfSome, OnOk, OnErr, IsSome, IsTrue, MatchResult, Ok, ◌↔◌, Some};
 ghost use Rattle.std.specs.FinMap.{get};
 ghost use Rattle.std.specs.List.{AllByRecursion, AllZip, filter};
 ghost use Rattle.std.specs.Option.{option_copied};
@@ -24,10 +24,10 @@ ghost use Rattle.mx_model.specs.RunAlone.{Run, run_with};
 ghost use Rattle.mx_model.specs.Slow.{saturated};
 ghost use Rattle.mx_model.specs.statements.Answer.{Answer};
 ghost use Rattle.mx_model.specs.Streams.{Streams, begins_beside, is_name, streams_left, transaction_named, without_named};
-ghost use Rattle.mx_transactions.specs.Open.{HasRun, HasSlot, HoldsOpen, WritesNothing, SlotHas, slot_named};
+ghost use Rattle.mx_transactions.specs.Open.{HasRun, HasSlot, HaveOwnSlots, HoldsOpen, SlotHas, WritesNothing, slot_named};
 ghost use Rattle.mx_txn.specs.declared.state.TxnState.TheVariants.{Aborted, Active, View};
 ghost use Rattle.mx_transactions.specs.declared.work.Work.{Work};
-ghost use Rattle.mx_transactions.specs.OpenSteps.{ChangesTo, ComesTo, FindsOpen, ViewsAreKept, KeepsMore, Moves, MovesSlot, StandsOn, TellsOpen, beside, has_rows};
+ghost use Rattle.mx_transactions.specs.OpenSteps.{ChangesTo, ComesTo, FindsOpen, KeepsMore, Moves, MovesSlot, StandsOn, StaysAt, TellsOpen, ViewsAreKept, beside, has_rows};
 
 use crate::names::{Named, OpenNames};
 use crate::work::Work;
@@ -117,13 +117,38 @@ impl OpenTransactions {
     pub fn find(&self, name: TxnName) -> Option<(Slot, TxnState)>
         ensures live { IfSome result (λ found. get self.now.slots found.0 ≡ Some found.1) }
         ensures named { IfSome result (λ found. slot_named name self.now.names ≡ Some found.0) }
+        ensures apart { IfSome result (λ found. HaveOwnSlots self.now.names) }
         ensures found { (streams : Streams) → HoldsOpen streams self.now → FindsOpen streams self.now name result }
     {
         let slot = self.names.find(name)?;
         Some((slot, self.slots.state(slot)))
     }
 
-    /// Ends the transaction that is open under a name, in this slot.
+    /// Takes out the transaction that is open under a name, in this slot, and returns what it has written. All
+    /// states stay kept: a COMMIT moves other transactions behind this, which may need the one that was kept
+    /// last.
+    pub fn remove(&mut self, name: TxnName, slot: Slot) -> Work
+        requires { slot_named name self.old.names ≡ Some slot }
+        ensures value { slice_get self.old.works slot ≡ Some result }
+        ensures left { (streams : Streams) → HoldsOpen streams self.old → HoldsOpen (beside streams (without_named name streams.transactions)) self.new }
+        ensures names { self.new.names ≡ filter (λ named. not (is_name named.name name)) self.old.names }
+        ensures gone { get self.new.slots slot ≡ None }
+        ensures reads { noted_reads self.new.tracks slot ≡ [] }
+        ensures others { (other : ℕ) → other ≢ slot → StaysAt self.old self.new other }
+        ensures kept { self.new.kept ≡ self.old.kept }
+        ensures whole { length self.new.works ≡ max_open }
+    {
+        self.slots.end(slot);
+        self.tracker.forget(slot.number());
+        let work = std::mem::replace(
+            &mut self.works[slot.number() as usize],
+            Work::new(self.alloc),
+        );
+        self.names.remove(name);
+        work
+    }
+
+    /// Ends the transaction that is open under a name, in this slot, and drops the states that only it read.
     pub fn end(&mut self, name: TxnName, slot: Slot)
         requires { slot_named name self.old.names ≡ Some slot }
         ensures left { (streams : Streams) → HoldsOpen streams self.old → HoldsOpen (beside streams (without_named name streams.transactions)) self.new }
@@ -227,7 +252,8 @@ impl OpenTransactions {
 
     /// Which slots read what these keys touch.
     pub fn overlapped(&self, keys: &TouchedKeys) -> MarkSet
-        ensures { (slot : ℕ) → slot < max_open → is_marked result slot ≡ is_overlapped keys.now (noted_reads self.now.tracks slot) }
+        ensures marks { (slot : ℕ) → slot < max_open → is_marked result slot ≡ is_overlapped keys.now (noted_reads self.now.tracks slot) }
+        ensures whole { length self.now.works ≡ max_open }
     {
         let mut marks = MarkSet::new();
         self.tracker.overlapped(keys, &mut marks);

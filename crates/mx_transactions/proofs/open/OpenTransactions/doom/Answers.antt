@@ -2,7 +2,7 @@ use Rattle.std.proofs.Common.{rules, ◌<◌, refl, sym, subst}
 use Rattle.mx_txn.specs.declared.state.TxnState.TheVariants.{Aborted}
 use Rattle.mx_txn.specs.Slots.{IsLive, max_open}
 use Rattle.mx_transactions.specs.Open.{Open}
-use Rattle.mx_transactions.proofs.TableLaws.{doomed_slot, doomed_table}
+use Rattle.mx_transactions.proofs.TableLaws.{doomed_slot, doomed_table, keeps_trimmed}
 use Rattle.mx_transactions.proofs.open.OpenTransactions.doom.Goals as goal
 
 pub invariant_of-self : goal.invariant_of-self
@@ -11,7 +11,7 @@ invariant_of-self c =
       slots = c.abort.ensures;
       tracks = c.clear.ensures.reads;
       work = c.clear.ensures.work;
-      trims = record { oldest = c.oldest_view.result; is = c.oldest_view.ensures; kept = c.trim.ensures };
+      keeps = keeps_trimmed _ _ (record { oldest = c.oldest_view.result; is = c.oldest_view.ensures; kept = c.trim.ensures });
     })
 
 pub returns : goal.returns
@@ -21,5 +21,5 @@ returns c =
       slots = c.abort.ensures;
       tracks = c.clear.ensures.reads;
       work = c.clear.ensures.work;
-      trims = record { oldest = c.oldest_view.result; is = c.oldest_view.ensures; kept = c.trim.ensures };
+      keeps = keeps_trimmed _ _ (record { oldest = c.oldest_view.result; is = c.oldest_view.ensures; kept = c.trim.ensures });
     }))

@@ -3,7 +3,7 @@ use Rattle.mx_txn.specs.Slots.{max_open}
 use Rattle.mx_transactions.specs.Open.{HoldsOpen, Open, slot_named}
 use Rattle.mx_transactions.proofs.EndLaws.{ended_open}
 use Rattle.mx_transactions.proofs.OpenLaws.{found_live}
-use Rattle.mx_transactions.proofs.TableLaws.{ended_table}
+use Rattle.mx_transactions.proofs.TableLaws.{ended_table, keeps_trimmed}
 use Rattle.mx_transactions.proofs.open.OpenTransactions.end.Goals as goal
 
 pub end-requires : goal.end-requires
@@ -19,7 +19,7 @@ invariant_of-self c =
       slots = c.end.ensures;
       tracks = c.clear.ensures.reads;
       work = c.clear.ensures.work;
-      trims = record { oldest = c.oldest_view.result; is = c.oldest_view.ensures; kept = c.trim.ensures };
+      keeps = keeps_trimmed _ _ (record { oldest = c.oldest_view.result; is = c.oldest_view.ensures; kept = c.trim.ensures });
     })
 
 pub returns-clause-left : goal.returns-clause-left
@@ -29,5 +29,5 @@ returns-clause-left c = λ streams holds.
       slots = c.end.ensures;
       tracks = c.clear.ensures.reads;
       work = c.clear.ensures.work;
-      trims = record { oldest = c.oldest_view.result; is = c.oldest_view.ensures; kept = c.trim.ensures };
+      keeps = keeps_trimmed _ _ (record { oldest = c.oldest_view.result; is = c.oldest_view.ensures; kept = c.trim.ensures });
     }) (subst (HoldsOpen streams) (sym c.self.view_is) holds)

@@ -1,5 +1,5 @@
 use Rattle.std.proofs.Common.{rules, ◌≡◌, None, sym, ◌∙◌, subst}
-use Rattle.mx_transactions.specs.Open.{HoldsOpen, slot_named}
+use Rattle.mx_transactions.specs.Open.{HaveOwnSlots, HoldsOpen, Open, slot_named}
 use Rattle.mx_transactions.specs.OpenSteps.{FindsIn}
 use Rattle.mx_transactions.proofs.BeginLaws.{found_in}
 use Rattle.mx_transactions.proofs.OpenLaws.{found_live, none_found}
@@ -19,3 +19,6 @@ pub returns-clause-found : goal.returns-clause-found
 returns-clause-found c = λ streams holds.
     subst (λ all. FindsIn streams all c.args.name c.in_ok-slot.slot c.state.result) c.self.view_is
     (found_in streams _ c.args.name c.in_ok-slot.slot c.state.result (subst (HoldsOpen streams) (sym c.self.view_is) holds) (sym c.find.ensures ∙ c.in_ok-slot.was) c.state.ensures)
+
+pub returns-clause-apart : goal.returns-clause-apart
+returns-clause-apart c = subst (λ (all : Open). HaveOwnSlots all.names) c.self.view_is c.self.invariant.apart

@@ -1,4 +1,4 @@
-use Rattle.std.proofs.Common.{[], Some, true, false, refl, sym, ap, ◌∙◌}
+use Rattle.std.proofs.Common.{[], Some, refl, sym, ap, ◌∙◌}
 use Rattle.std.specs.Prelude.{if◌then◌else◌}
 use Rattle.std.proofs.lemmas.Option.{slice_get_within}
 use Rattle.mx_txn.specs.declared.state.TxnState.TheVariants.{Aborted, View}

@@ -1,6 +1,5 @@
 use Rattle.std.proofs.Common.{take, length, refl, ap, ◌∙◌}
 use Rattle.std.proofs.Math.Seq.{take-append_seam, take-length}
-use Rattle.mx_schema.specs.State as plain
 use Rattle.mx_space.specs.OwnChanges.{HoldsOwn}
 use Rattle.mx_schema.specs.Catalogues.{schema_of}
 use Rattle.mx_model.specs.RunTouches.{changes_of}
