@@ -148,7 +148,8 @@ impl OpenTransactions {
         work
     }
 
-    /// Ends the transaction that is open under a name, in this slot, and drops the states that only it read.
+    /// Ends the transaction that is open under a name, in this slot, and drops the states before the oldest
+    /// one that a view reads then.
     pub fn end(&mut self, name: TxnName, slot: Slot)
         requires { slot_named name self.old.names ≡ Some slot }
         ensures left { (streams : Streams) → HoldsOpen streams self.old → HoldsOpen (beside streams (without_named name streams.transactions)) self.new }
@@ -277,6 +278,7 @@ impl OpenTransactions {
             → kept_at commits self.new.kept ≡ Some memory → Holds memory before }
         ensures others { (number : ℕ) → number ≢ commits → kept_at number self.new.kept ≡ kept_at number self.old.kept }
         ensures ready { OnOk result (ViewsAreKept self.new marks.now commits committing) }
+        ensures err { OnErr result ((number : ℕ) → kept_at number self.new.kept ≡ kept_at number self.old.kept) }
     {
         if self.gives_view(marks, committing) {
             self.kept.keep(self.alloc, commits, state)
