@@ -89,7 +89,7 @@ impl Made {
 /// Adds the keys of the tuple that a state has under a primary key, where it has one.
 ///
 /// # Errors
-/// Out of memory. Some keys may have been added.
+/// Out of memory. Some keys may have been added behind those that were there.
 pub fn touch_stood(
     alloc: Global,
     state: &State,
@@ -97,7 +97,8 @@ pub fn touch_stood(
     key: &Bytes,
     keys: &mut TouchedKeys,
 ) -> Result<(), AllocError>
-    ensures { (before : plain.State) (own : Key) → Holds state.now before → AreFit own → key.now ≡ comparable_of own
+    ensures begins { take (length keys.old) keys.new ≡ keys.old }
+    ensures adds { (before : plain.State) (own : Key) → Holds state.now before → AreFit own → key.now ≡ comparable_of own
         → IfOk result (λ _. AddsTouched before (touched_at space.0 own (get (tuples_in before space.0) own)) keys.old keys.new) }
 {
     let Some(stored) = StateView::of(state).space(space) else {

@@ -11,8 +11,8 @@ use Rattle.mx_write.specs.Touches.{AddsTouched, touched_at}
 use Rattle.mx_write.proofs.TouchLaws.{adds_no_keys}
 use Rattle.mx_write.proofs.touched.touch_stood.Goals as goal
 
-pub returns-in_default : goal.returns-in_default
-returns-in_default c = λ before own holds fit bytes.
+pub returns-in_default-clause-adds : goal.returns-in_default-clause-adds
+returns-in_default-clause-adds c = λ before own holds fit bytes.
     let space = c.args.space.0 in
     let old = c.args.keys.now in
     let view : HoldsView c.of.result before = c.of.ensures.shown before holds in
@@ -20,8 +20,8 @@ returns-in_default c = λ before own holds fit bytes.
     let stood : get (tuples_in before space) own ≡ None = ap (λ (t : Tuples). get t own) none.no_tuples ∙ get-empty key_cmp own in
     subst (λ o. AddsTouched before (touched_at space own o) old old) (sym stood) (adds_no_keys before old)
 
-pub returns : goal.returns
-returns c = λ before own holds fit bytes.
+pub returns-clause-adds : goal.returns-clause-adds
+returns-clause-adds c = λ before own holds fit bytes.
     let space = c.args.space.0 in
     let tuples = tuples_in before space in
     let view : HoldsView c.of.result before = c.of.ensures.shown before holds in
