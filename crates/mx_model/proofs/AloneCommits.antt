@@ -13,7 +13,7 @@ use Rattle.mx_model.specs.declared.ids.Ids.{Ids}
 use Rattle.mx_model.specs.Alone.{AllStandAlone, StandsAlone}
 use Rattle.mx_model.specs.Answers.{answer_in_space, state_after_row, state_after_rows}
 use Rattle.mx_model.specs.Frame.{IsDataStatement, OperationHasBytes}
-use Rattle.mx_model.specs.Histories.{writable_node}
+use Rattle.mx_model.specs.Bases.{writable_node}
 use Rattle.mx_model.specs.Overlaps.{Transaction, statements_in}
 use Rattle.mx_row.specs.Limits.{has_room}
 use Rattle.mx_model.specs.RunAlone.{answer_in_run, run_alone, statement_answer, within_limits, writes}
@@ -24,7 +24,7 @@ use Rattle.mx_model.specs.statements.Statement.{Statement}
 use Rattle.mx_model.proofs.AloneSound.{journal_sound, rows_sound, run_bytes}
 use Rattle.mx_model.proofs.AnswerLaws.{Agrees}
 use Rattle.mx_model.proofs.FrameCommit.{operation_agrees, row_after}
-use Rattle.mx_model.proofs.HistoryLaws.{state_after-append}
+use Rattle.mx_model.proofs.JournalLaws.{state_after-append}
 
 -- the state after rows, and then others
 rows_behind : (before : State) (rows others : List Row) → state_after_rows before (rows ++ others) ≡ state_after_rows (state_after_rows before rows) others

@@ -12,7 +12,7 @@ use Rattle.mx_write.specs.Touches.{Touched, are_met, touched_by_change}
 use Rattle.mx_model.specs.declared.ids.Ids.{Ids}
 use Rattle.mx_model.specs.Answers.{state_after_row, state_after_rows}
 use Rattle.mx_model.specs.Frame.{IsDataStatement, StaysSound, answer_to_statement, reads_in}
-use Rattle.mx_model.specs.Histories.{writable_node}
+use Rattle.mx_model.specs.Bases.{writable_node}
 use Rattle.mx_row.specs.Limits.{has_room}
 use Rattle.mx_model.specs.RunAlone.{Run, answer_in_run, run_alone, run_with, statement_answer, within_limits, writes}
 use Rattle.mx_model.specs.Touches.{rows_meet}

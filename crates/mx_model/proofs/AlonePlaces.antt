@@ -20,7 +20,7 @@ use Rattle.mx_model.specs.Transactions.{is_schema_commit, state_after}
 use Rattle.mx_model.specs.statements.Answer.{Answer}
 use Rattle.mx_model.proofs.AloneFrame.{IsAnsweredSame, rows_leave_run}
 use Rattle.mx_model.proofs.FrameRuns.{rows_stay_sound}
-use Rattle.mx_model.proofs.HistoryLaws.{state_after-append}
+use Rattle.mx_model.proofs.JournalLaws.{state_after-append}
 use Rattle.mx_model.proofs.OverlapCommits.{is_met, overlap_later, prefix_kept}
 use Rattle.mx_model.proofs.OverlapFound.{overlap_found}
 use Rattle.mx_model.proofs.OverlapStandings.{standing_moved}

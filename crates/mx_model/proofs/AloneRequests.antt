@@ -20,7 +20,7 @@ use Rattle.mx_model.specs.declared.reply.Reply.{Reply}
 use Rattle.mx_model.specs.declared.reply.Reply.TheVariants.{Empty, Refused}
 use Rattle.mx_model.specs.Alone.{AllStandAlone, HaveBytes}
 use Rattle.mx_model.specs.Frame.{IsNoSchemaWrite, IsDataStatement, OperationHasBytes}
-use Rattle.mx_model.specs.Histories.{CanBeAsked, writable_node}
+use Rattle.mx_model.specs.Bases.{CanBeAsked, writable_node}
 use Rattle.mx_model.specs.Overlaps.{Active, Doomed, Standing, Transaction, View, standing, statements_in}
 use Rattle.mx_model.specs.RunAlone.{run_alone, statement_answer, writes}
 use Rattle.mx_model.specs.Streams.{Ends, Goes, Opens, Outcome, Streams, begins_beside, commits, commits_rows, commits_standing, ends_told, in_stream, max_transactions, max_transactions_of_connection, of_connection, outcome_of, states, states_in, states_standing, tells_statement, told_alone, transaction_named, transaction_with}

@@ -12,7 +12,7 @@ use Rattle.mx_schema.specs.State.{State}
 use Rattle.mx_model.specs.declared.ids.Ids.{Ids}
 use Rattle.mx_model.specs.declared.reply.Reply.TheVariants.{Empty, Refused}
 use Rattle.mx_model.specs.Alone.{AllStandAlone, answers_alone}
-use Rattle.mx_model.specs.Histories.{writable_node}
+use Rattle.mx_model.specs.Bases.{writable_node}
 use Rattle.mx_model.specs.Overlaps.{Active, Doomed, Standing, TransactionStep, Transaction, View, doomed_or_view, has_row, has_schema_commit_since, has_written_since, is_some_row, overlap_of, place_by, place_read, standing, standing_by, state_after_first, statements_in}
 use Rattle.mx_model.specs.RunAlone.{run_alone}
 use Rattle.mx_model.specs.Streams.{Ends, Outcome, Streams, commit_with, commits, commits_rows, commits_standing, ends_told, in_stream, outcome_of, streams_after, told_alone, transaction_named}

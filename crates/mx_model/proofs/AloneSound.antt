@@ -20,7 +20,7 @@ use Rattle.mx_model.specs.declared.ids.Ids.{Ids}
 use Rattle.mx_model.specs.Alone.{HaveBytes}
 use Rattle.mx_model.specs.Answers.{answer_in_space, state_after_rows}
 use Rattle.mx_model.specs.Frame.{OperationHasBytes}
-use Rattle.mx_model.specs.Histories.{with_lsn, writable_node}
+use Rattle.mx_model.specs.Bases.{with_lsn, writable_node}
 use Rattle.mx_row.specs.Limits.{has_room}
 use Rattle.mx_model.specs.RunAlone.{answer_in_run, run_alone, statement_answer, within_limits, writes}
 use Rattle.mx_model.specs.Transactions.{state_after}
@@ -31,7 +31,7 @@ use Rattle.mx_model.specs.statements.Write.{answer_of_outcome}
 use Rattle.mx_model.proofs.EachLaws.{each_of_both}
 use Rattle.mx_model.proofs.FrameCommit.{last_sound}
 use Rattle.mx_model.proofs.FrameRuns.{rows_stay_sound}
-use Rattle.mx_model.proofs.HistoryLaws.{select_no_row}
+use Rattle.mx_model.proofs.SelectLaws.{select_no_row}
 
 -- ---- the row of a statement
 

@@ -15,14 +15,14 @@ use Rattle.mx_request.specs.declared.request.Request.TheVariants as request
 use Rattle.mx_request.specs.Spelling.{IsAskable}
 use Rattle.mx_row.specs.declared.row.Row.{Row}
 use Rattle.mx_model.specs.Answers.{answer_to, state_after_row}
-use Rattle.mx_model.specs.Histories.{is_write}
+use Rattle.mx_model.specs.Bases.{is_write}
 use Rattle.mx_write.specs.Change.{state_after_changed}
 use Rattle.mx_write.specs.Judge.{judged_write, row_change}
 use Rattle.mx_write.specs.Made.{Made}
 use Rattle.mx_write.specs.Writes.{Write, Insert, Replace, Update, Delete, Upsert, IsWellFormed, write_in}
 use Rattle.mx_write.specs.declared.writable.Writer.TheVariants.{Client}
 use Rattle.mx_model.specs.statements.Write.{answer_of_outcome, write_answer_in}
-use Rattle.mx_model.proofs.HistoryLaws.{select_no_row}
+use Rattle.mx_model.proofs.SelectLaws.{select_no_row}
 use Rattle.mx_model.proofs.WriteLaws.{changes_again, changes_nothing}
 use Rattle.mx_schema.specs.declared.index_def.IndexDef.{IndexDef}
 use Rattle.mx_schema.specs.declared.schema.Schema.{Schema}

@@ -12,7 +12,7 @@ use Rattle.std.proofs.lemmas.Map.Text.{is_eq-slice_cmp}
 use Rattle.std.proofs.lemmas.Bool.{cases_lt}
 use Rattle.mx_vclock.specs.Vclocks.{IsVclock}
 use Rattle.mx_outside.specs.Disks.{File, Files}
-use Rattle.mx_model.specs.Histories.{Base}
+use Rattle.mx_model.specs.Bases.{Base}
 use Rattle.mx_model.specs.Directories.{Named, Reached, ReadAll, Continues, IsDirectoryState, nothing_yet, new_database, origin_by, origin_of, after_origin, after_files, directory_state}
 use Rattle.mx_xlog.specs.Files.{ReadsAs}
 use Rattle.mx_files.specs.Names.{is_journal, is_snapshot, journal_name, same_bytes}

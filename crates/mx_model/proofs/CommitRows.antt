@@ -5,7 +5,7 @@ use Rattle.mx_base.specs.Keys.{stream_key}
 use Rattle.mx_base.specs.declared.ids.TxnName.{TxnName}
 use Rattle.mx_base.specs.declared.refusal.Refusal.TheVariants.{IllegalValue, LsnsUsedUp, ReadOnly}
 use Rattle.mx_model.specs.Alone.{StandsAlone}
-use Rattle.mx_model.specs.Histories.{writable_node}
+use Rattle.mx_model.specs.Bases.{writable_node}
 use Rattle.mx_model.specs.Overlaps.{Active, Doomed, Standing, TransactionStep, Transaction, View, doomed_or_view, has_row, has_schema_commit_since, has_written_since, is_some_row, overlap_of, place_by, place_read, standing, standing_by, state_after_first, statements_in}
 use Rattle.mx_model.specs.RunAlone.{run_alone}
 use Rattle.mx_model.specs.Streams.{Ends, Streams, commits, commits_rows, commits_standing, ends_told, outcome_of, state_read, told_alone, transaction_named, Outcome}

@@ -14,7 +14,7 @@ use Rattle.mx_key.specs.declared.fault.Misfit.{Misfit}
 use Rattle.mx_key.specs.declared.fault.Misfit.TheVariants.{TooLong, WrongPart}
 use Rattle.mx_key.specs.declared.iterator.IterKind.{IterKind}
 use Rattle.mx_model.specs.Answers.{answer_in_space}
-use Rattle.mx_model.specs.Histories.{is_out_of_memory, writable_node}
+use Rattle.mx_model.specs.Bases.{is_out_of_memory, writable_node}
 use Rattle.mx_model.specs.Overlaps.{Active, Doomed, Standing, Transaction, View, standing, statements_in}
 use Rattle.mx_row.specs.Limits.{has_room}
 use Rattle.mx_model.specs.RunAlone.{Run, answer_in_run, run_alone, statement_answer, within_limits, writes, answer_alone}

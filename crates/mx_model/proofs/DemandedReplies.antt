@@ -6,7 +6,7 @@ use Rattle.mx_base.specs.declared.ids.TxnName.{TxnName}
 use Rattle.mx_base.specs.declared.kinds.Unsupported.TheVariants.{SchemaInTransaction}
 use Rattle.mx_base.specs.declared.refusal.Refusal.TheVariants.{AllOfConnectionOpen, AllTransactionsOpen, IllegalValue, LsnsUsedUp, Unsupported}
 use Rattle.mx_model.specs.Answers.{answer_without_space}
-use Rattle.mx_model.specs.Histories.{is_out_of_memory, with_lsn}
+use Rattle.mx_model.specs.Bases.{is_out_of_memory, with_lsn}
 use Rattle.mx_model.specs.Overlaps.{Active, Doomed, Standing, Transaction, View, standing, statements_in}
 use Rattle.mx_model.specs.RunAlone.{Run, answer_in_run, run_alone, statement_answer, writes}
 use Rattle.mx_model.specs.Streams.{Opens, Outcome, Streams, begins_beside, commits, commits_rows, commits_standing, ends_told, in_stream, max_transactions, max_transactions_of_connection, of_connection, outcome_of, state_read, states, states_standing, tells_statement, told_alone, transaction_named}

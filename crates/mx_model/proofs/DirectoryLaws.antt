@@ -15,7 +15,7 @@ use Rattle.mx_xlog.specs.declared.head.Head.{Head}
 use Rattle.mx_outside.specs.Disks.{File, Files}
 use Rattle.mx_model.specs.declared.ids.Ids.{Ids}
 use Rattle.mx_model.specs.declared.damage.Damage.{Damage}
-use Rattle.mx_model.specs.Histories.{Base}
+use Rattle.mx_model.specs.Bases.{Base}
 use Rattle.mx_model.specs.Directories.{Named, Reached, Continues, ReadAll, IsDirectoryState, ids_in, same_id, are_its_ids, ids_or, head_fits, reached_at, origin_of, after_origin, after_blocks, after_head, after_file, after_files, and_then}
 use Rattle.mx_xlog.specs.Files.{FileRead, ReadsAs}
 use Rattle.mx_files.specs.Names.{is_journal, is_snapshot, journal_name, same_bytes}

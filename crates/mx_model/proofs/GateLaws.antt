@@ -1,7 +1,8 @@
 -- Which replies may be sent as a history grows.
 use Rattle.std.proofs.Common.{ℕ, suc, ◌≤◌, List, [], ◌∷◌, length, arith}
 use Rattle.mx_row.specs.declared.tx.Tx.{Tx}
-use Rattle.mx_model.specs.Histories.{Base, Asked, Left, Took, Confirmed, Looked, History, ledger_of}
+use Rattle.mx_model.specs.Bases.{Base}
+use Rattle.mx_model.specs.Histories.{Asked, Left, Took, Confirmed, Looked, History, ledger_of}
 use Rattle.mx_model.specs.Gate.{AskedWithin, RepliesMayLeave}
 
 pub within_more : (few many : ℕ) (history : History) → few ≤ many → AskedWithin few history → AskedWithin many history

@@ -1,40 +1,26 @@
 -- What one step more makes of a history, and that a history whose steps all had memory is that of its asks.
-use Rattle.std.proofs.Common.{◌≡◌, inl, inr, ℕ, suc, ◌≤◌, Bool, true, false, List, [], ◌∷◌, ◌++◌, length, drop, refl, sym, ap, ◌∙◌, append-nil, length-append, arith}
-use Rattle.std.specs.Prelude.{Option, Some, None, Result, Ok, Err, not, nat_lt, ◌&&◌, ◌==◌, if◌then◌else◌}
+use Rattle.std.proofs.Common.{◌≡◌, inl, inr, suc, ◌≤◌, Bool, true, false, List, [], ◌∷◌, ◌++◌, length, drop, refl, sym, ap, ◌∙◌, append-nil, length-append, subst, arith}
+use Rattle.std.specs.Prelude.{◌&&◌, if◌then◌else◌}
 use Rattle.std.proofs.lemmas.List.{drop-append-le}
-use Rattle.mx_base.specs.declared.kinds.Unsupported.TheVariants.{HashIterator}
-use Rattle.mx_base.specs.declared.refusal.Refusal.TheVariants.{OutOfMemory, ReadOnly, ResultTooLong, Unsupported}
+use Rattle.mx_base.specs.declared.refusal.Refusal.TheVariants.{OutOfMemory}
 use Rattle.mx_base.specs.declared.ids.TxnName.{TxnName}
 use Rattle.mx_request.specs.declared.request.Ask.{Ask}
 use Rattle.mx_request.specs.declared.request.Ask.TheVariants as ask
 use Rattle.mx_request.specs.declared.request.Request.{Request}
+use Rattle.mx_row.specs.declared.tx.Tx.{Tx}
+use Rattle.mx_row.specs.Clocks.{clock_after}
+use Rattle.mx_row.proofs.ClockLaws.{clock_after-append}
 use Rattle.mx_model.specs.declared.reply.Reply.{Reply}
 use Rattle.mx_model.specs.declared.reply.Reply.TheVariants.{Refused}
-use Rattle.mx_row.specs.declared.tx.Tx.{Tx}
-use Rattle.mx_model.specs.declared.ids.Ids.{Ids}
-use Rattle.mx_schema.specs.declared.index_def.IndexDef.{IndexDef}
-use Rattle.mx_schema.specs.declared.schema.Schema.{Schema}
-use Rattle.mx_schema.specs.Catalogues.{index_with, schema_of}
-use Rattle.mx_schema.specs.State.{State, source_of}
-use Rattle.mx_schema.specs.Picks.{Selection, pick, entries_of, total_bytes, max_result_size}
-use Rattle.mx_key.specs.declared.fault.Misfit.{Misfit}
-use Rattle.mx_key.specs.declared.iterator.IterKind.{IterKind}
-use Rattle.mx_key.specs.Keys.{Key}
-use Rattle.mx_key.specs.Ranges.{Range, range_of}
-use Rattle.mx_model.specs.Answers.{answer_to, state_after_rows}
-use Rattle.mx_model.specs.statements.Select.{asked_key, part_count, range_reads, select_found, select_by_key, select_in_index, select_answer, select_answer_in, takes_iterator}
-use Rattle.mx_write.specs.Reads.{schema_reads}
-use Rattle.mx_model.specs.statements.Lookup.{in_def, in_schema}
-use Rattle.mx_model.specs.statements.Answer.{refusal_alone, refusal_after, tuples_after}
+use Rattle.mx_model.specs.Bases.{Base, is_out_of_memory}
+use Rattle.mx_model.specs.Histories.{Asked, Left, Took, Confirmed, Looked, History, Ledger, ledger_of, ledger_with, journal_of, state_of, clock_of, reply_to, IsReply, IsLegal, asks_in, HasMemory, remembered, asking, leaving, step_for, history_from}
+use Rattle.mx_model.specs.HistoryStreams.{streams_in}
+use Rattle.mx_model.specs.StreamHistories.{Disconnected, IsLegalStreams, Requested, lacked_memory, streams_of, streams_with}
+use Rattle.mx_model.specs.Streams.{IsTold, Streams, commit_with, outcome_of, streams_after, streams_left}
 use Rattle.mx_model.specs.Transactions.{state_after}
-use Rattle.mx_row.specs.Clocks.{clock_after}
-use Rattle.mx_model.specs.Histories.{Base, Asked, Left, Took, Confirmed, Looked, History, Ledger, is_out_of_memory, node_answer, with_lsn, commit_of, commits_of, ledger_of, journal_of, state_of, clock_of, reply_to, IsReply, IsLegal, asks_in, HasMemory, answer_in, next_lsn, remembered, asking, leaving, step_for, history_from, is_write, writable_node}
-use Rattle.mx_row.proofs.ClockLaws.{clock_after-append}
-
-pub state_after-append : (base : State) (xs ys : List Tx)
-    → state_after base (xs ++ ys) ≡ state_after (state_after base xs) ys
-state_after-append base [] ys = refl
-state_after-append base (x ∷ xs) ys = state_after-append (state_after_rows base x.rows) xs ys
+use Rattle.mx_model.proofs.DemandedReplies.{demanded_memory}
+use Rattle.mx_model.proofs.JournalLaws.{state_after-append}
+use Rattle.mx_model.proofs.StreamLaws.{base_stays}
 
 -- one ask more is one entry more
 pub history_from-append : (base : Base) (earlier : History) (asks : List (TxnName × Ask)) (asked : TxnName × Ask)
@@ -53,55 +39,169 @@ pub reply_is_demanded : (ledger : Ledger) (name : TxnName) (ask : Ask) (reply : 
 reply_is_demanded ledger name (ask.Refused refusal) reply told memory = told
 reply_is_demanded ledger name ask.Leave reply told memory = absurd told
 reply_is_demanded ledger name (ask.Request request) reply (can, inl told) memory = told
-reply_is_demanded ledger name (ask.Request request) reply (can, inr told) memory = let want = told_refusal reply told in cc
+reply_is_demanded ledger name (ask.Request request) reply (can, inr (may, told)) memory = let want = told_refusal reply told in absurd cc
 
--- what a history came to began with its base
-pub base_of_ledger : (base : Base) (history : History) → (ledger_of base history).base ≡ base
-base_of_ledger base [] = refl
-base_of_ledger base (Asked name ask reply ∷ earlier) = base_of_ledger base earlier
-base_of_ledger base (Left connection ∷ earlier) = base_of_ledger base earlier
-base_of_ledger base (Took transactions upto ∷ earlier) = base_of_ledger base earlier
-base_of_ledger base (Confirmed upto ∷ earlier) = base_of_ledger base earlier
-base_of_ledger base (Looked ∷ earlier) = base_of_ledger base earlier
-
--- and counts its steps
+-- a history counts its steps
 pub steps_of_ledger : (base : Base) (history : History) → (ledger_of base history).steps ≡ length history
 steps_of_ledger base [] = refl
 steps_of_ledger base (entry ∷ earlier) = ap suc (steps_of_ledger base earlier)
 
--- a ledger of this base and journal
-abbrev only : Base → List Tx → Ledger
-only base journal = record { base = base; steps = 0; journal = journal; taken = 0; takes = []; durable = 0; active = [] }
+-- ---- its requests and disconnects
 
--- steps and commits look at the base and the journal alone
-pub step_by_journal : (one other : Ledger) (name : TxnName) (asked : Ask) → one.base ≡ other.base → one.journal ≡ other.journal
-    → step_for one (name, asked) ≡ step_for other (name, asked)
-step_by_journal one other name (ask.Refused refusal) base same = refl
-step_by_journal one other name ask.Leave base same = refl
-step_by_journal one other name (ask.Request request) base same =
-    ap (λ b. step_for (only b one.journal) (name, ask.Request request)) base
-    ∙ ap (λ journal. step_for (only other.base journal) (name, ask.Request request)) same
+-- it comes to what these come to
+pub streams_of_history : (base : Base) (history : History) → (ledger_of base history).streams ≡ streams_of base (streams_in history)
+streams_of_history base [] = refl
+streams_of_history base (Asked name (ask.Request request) reply ∷ earlier) =
+    ap (λ streams. streams_with streams (Requested name request reply)) (streams_of_history base earlier)
+streams_of_history base (Asked name (ask.Refused refusal) reply ∷ earlier) = streams_of_history base earlier
+streams_of_history base (Asked name ask.Leave reply ∷ earlier) = streams_of_history base earlier
+streams_of_history base (Left connection ∷ earlier) = ap (λ streams. streams_left streams connection) (streams_of_history base earlier)
+streams_of_history base (Took transactions upto ∷ earlier) = streams_of_history base earlier
+streams_of_history base (Confirmed upto ∷ earlier) = streams_of_history base earlier
+streams_of_history base (Looked ∷ earlier) = streams_of_history base earlier
 
-pub commits_by_journal : (one other : Ledger) (name : TxnName) (asked : Ask) (reply : Reply) → one.base ≡ other.base → one.journal ≡ other.journal
-    → commits_of one name asked reply ≡ commits_of other name asked reply
-commits_by_journal one other name (ask.Refused refusal) reply base same = refl
-commits_by_journal one other name ask.Leave reply base same = refl
-commits_by_journal one other name (ask.Request request) reply base same =
-    ap (λ b. commits_of (only b one.journal) name (ask.Request request) reply) base
-    ∙ ap (λ journal. commits_of (only other.base journal) name (ask.Request request) reply) same
+-- and they are legal where it is
+pub streams_legal : (base : Base) (history : History) → IsLegal base history → IsLegalStreams base (streams_in history)
+streams_legal base [] legal = legal
+streams_legal base (Asked name (ask.Request request) reply ∷ earlier) legal = (
+  streams_legal base earlier legal.0,
+  (legal.1.0, subst (λ streams. IsTold streams name request reply) (streams_of_history base earlier) legal.1.1),
+)
+streams_legal base (Asked name (ask.Refused refusal) reply ∷ earlier) legal = streams_legal base earlier legal.0
+streams_legal base (Asked name ask.Leave reply ∷ earlier) legal = streams_legal base earlier legal.0
+streams_legal base (Left connection ∷ earlier) legal = (streams_legal base earlier legal.0, tt)
+streams_legal base (Took transactions upto ∷ earlier) legal = streams_legal base earlier legal.0
+streams_legal base (Confirmed upto ∷ earlier) legal = streams_legal base earlier legal.0
+streams_legal base (Looked ∷ earlier) legal = streams_legal base earlier legal.0
 
--- the steps that nobody asked for commit nothing
+-- what a history came to began with its base
+pub base_of_ledger : (base : Base) (history : History) → (ledger_of base history).streams.base ≡ base
+base_of_ledger base history = ap (λ (streams : Streams). streams.base) (streams_of_history base history) ∙ base_stays base (streams_in history)
+
+-- so its state and its vclock are those after its journal
+pub state_of_journal : (base : Base) (history : History) → state_of base history ≡ state_after base.state (journal_of base history)
+state_of_journal base history = ap (λ (b : Base). state_after b.state (journal_of base history)) (base_of_ledger base history)
+
+pub clock_of_journal : (base : Base) (history : History) → clock_of base history ≡ clock_after base.clock (journal_of base history)
+clock_of_journal base history = ap (λ (b : Base). clock_after b.clock (journal_of base history)) (base_of_ledger base history)
+
+-- ---- what an ask commits
+
+abbrev pub commits_told : Streams → TxnName → Request → Reply → List Tx
+commits_told streams name asked reply = if lacked_memory asked reply then [] else commit_with streams (outcome_of streams name asked).rows
+
+abbrev pub commits_of : Ledger → TxnName → Ask → Reply → List Tx
+commits_of ledger name (ask.Request request) reply = commits_told ledger.streams name request reply
+commits_of ledger name _ reply = []
+
+pub journal_told : (streams : Streams) (name : TxnName) (asked : Request) (reply : Reply)
+    → (streams_with streams (Requested name asked reply)).journal ≡ streams.journal ++ commits_told streams name asked reply
+journal_told streams name asked reply = by_test (lacked_memory asked reply)
+  where
+    by_test : (b : Bool) → (if b then streams else streams_after streams name (outcome_of streams name asked)).journal
+        ≡ streams.journal ++ (if b then [] else commit_with streams (outcome_of streams name asked).rows)
+    by_test true = sym (append-nil streams.journal)
+    by_test false = refl
+
+-- the journal has it behind the others
+pub journal_of-asked : (base : Base) (name : TxnName) (asked : Ask) (reply : Reply) (history : History)
+    → journal_of base (Asked name asked reply ∷ history) ≡ journal_of base history ++ commits_of (ledger_of base history) name asked reply
+journal_of-asked base name (ask.Request request) reply history = journal_told (ledger_of base history).streams name request reply
+journal_of-asked base name (ask.Refused refusal) reply history = sym (append-nil (journal_of base history))
+journal_of-asked base name ask.Leave reply history = sym (append-nil (journal_of base history))
+
+-- nothing else of the ledger changes
+pub taken-asked : (ledger : Ledger) (name : TxnName) (asked : Ask) (reply : Reply) → (ledger_with ledger (Asked name asked reply)).taken ≡ ledger.taken
+taken-asked ledger name (ask.Request request) reply = refl
+taken-asked ledger name (ask.Refused refusal) reply = refl
+taken-asked ledger name ask.Leave reply = refl
+
+pub takes-asked : (ledger : Ledger) (name : TxnName) (asked : Ask) (reply : Reply) → (ledger_with ledger (Asked name asked reply)).takes ≡ ledger.takes
+takes-asked ledger name (ask.Request request) reply = refl
+takes-asked ledger name (ask.Refused refusal) reply = refl
+takes-asked ledger name ask.Leave reply = refl
+
+pub durable-asked : (ledger : Ledger) (name : TxnName) (asked : Ask) (reply : Reply) → (ledger_with ledger (Asked name asked reply)).durable ≡ ledger.durable
+durable-asked ledger name (ask.Request request) reply = refl
+durable-asked ledger name (ask.Refused refusal) reply = refl
+durable-asked ledger name ask.Leave reply = refl
+
+-- no more was taken than was committed
+pub taken_within : (base : Base) (history : History) → (ledger_of base history).taken ≤ length (journal_of base history)
+taken_within base [] = omega arith
+taken_within base (Asked name asked reply ∷ earlier) =
+    let before = taken_within base earlier in
+    let same = taken-asked (ledger_of base earlier) name asked reply in
+    let longer = ap length (journal_of-asked base name asked reply earlier)
+    ∙ length-append (journal_of base earlier) (commits_of (ledger_of base earlier) name asked reply) in
+    omega (arith, before, same, longer)
+taken_within base (Left connection ∷ earlier) = taken_within base earlier
+taken_within base (Took transactions upto ∷ earlier) = omega arith
+taken_within base (Confirmed upto ∷ earlier) = taken_within base earlier
+taken_within base (Looked ∷ earlier) = taken_within base earlier
+
+-- after an ask the state, the vclock and the transactions to be written have what it committed
+pub state_of-asked : (base : Base) (name : TxnName) (asked : Ask) (reply : Reply) (history : History)
+    → state_of base (Asked name asked reply ∷ history) ≡ state_after (state_of base history) (commits_of (ledger_of base history) name asked reply)
+state_of-asked base name asked reply history =
+    let commits = commits_of (ledger_of base history) name asked reply in
+    state_of_journal base (Asked name asked reply ∷ history)
+    ∙ ap (state_after base.state) (journal_of-asked base name asked reply history)
+    ∙ state_after-append base.state (journal_of base history) commits
+    ∙ ap (λ state. state_after state commits) (sym (state_of_journal base history))
+
+pub clock_of-asked : (base : Base) (name : TxnName) (asked : Ask) (reply : Reply) (history : History)
+    → clock_of base (Asked name asked reply ∷ history) ≡ clock_after (clock_of base history) (commits_of (ledger_of base history) name asked reply)
+clock_of-asked base name asked reply history =
+    let commits = commits_of (ledger_of base history) name asked reply in
+    clock_of_journal base (Asked name asked reply ∷ history)
+    ∙ ap (clock_after base.clock) (journal_of-asked base name asked reply history)
+    ∙ clock_after-append base.clock (journal_of base history) commits
+    ∙ ap (λ clock. clock_after clock commits) (sym (clock_of_journal base history))
+
+-- the transactions that no take has
+abbrev pub untaken : Ledger → List Tx
+untaken ledger = drop ledger.taken ledger.streams.journal
+
+pub untaken-asked : (base : Base) (name : TxnName) (asked : Ask) (reply : Reply) (history : History)
+    → untaken (ledger_of base (Asked name asked reply ∷ history)) ≡ untaken (ledger_of base history) ++ commits_of (ledger_of base history) name asked reply
+untaken-asked base name asked reply history =
+    ap (λ taken. drop taken (journal_of base (Asked name asked reply ∷ history))) (taken-asked (ledger_of base history) name asked reply)
+    ∙ ap (drop (ledger_of base history).taken) (journal_of-asked base name asked reply history)
+    ∙ drop-append-le (ledger_of base history).taken (journal_of base history) (commits_of (ledger_of base history) name asked reply) (taken_within base history)
+
+-- ---- replies are determined
+
+-- steps look at the streams alone
+pub step_by_streams : (one other : Ledger) (name : TxnName) (asked : Ask) → one.streams ≡ other.streams → step_for one (name, asked) ≡ step_for other (name, asked)
+step_by_streams one other name (ask.Refused refusal) same = refl
+step_by_streams one other name ask.Leave same = refl
+step_by_streams one other name (ask.Request request) same =
+    ap (λ (streams : Streams). Asked name (ask.Request request) (outcome_of streams name request).reply) same
+
+pub streams_by_streams : (one other : Ledger) (name : TxnName) (asked : Ask) (reply : Reply) → one.streams ≡ other.streams
+    → (ledger_with one (Asked name asked reply)).streams ≡ (ledger_with other (Asked name asked reply)).streams
+streams_by_streams one other name (ask.Refused refusal) reply same = same
+streams_by_streams one other name ask.Leave reply same = same
+streams_by_streams one other name (ask.Request request) reply same = ap (λ (streams : Streams). streams_with streams (Requested name request reply)) same
+
+-- the steps that nobody asked for change nothing of these
+streams_in-asking : (history : History) → streams_in (asking history) ≡ streams_in history
+streams_in-asking [] = refl
+streams_in-asking (Asked name (ask.Request request) reply ∷ earlier) = ap (λ l. Requested name request reply ∷ l) (streams_in-asking earlier)
+streams_in-asking (Asked name (ask.Refused refusal) reply ∷ earlier) = streams_in-asking earlier
+streams_in-asking (Asked name ask.Leave reply ∷ earlier) = streams_in-asking earlier
+streams_in-asking (Left connection ∷ earlier) = ap (λ l. Disconnected connection ∷ l) (streams_in-asking earlier)
+streams_in-asking (Took transactions upto ∷ earlier) = streams_in-asking earlier
+streams_in-asking (Confirmed upto ∷ earlier) = streams_in-asking earlier
+streams_in-asking (Looked ∷ earlier) = streams_in-asking earlier
+
+pub streams_of_asking : (base : Base) (history : History) → (ledger_of base (asking history)).streams ≡ (ledger_of base history).streams
+streams_of_asking base history =
+    streams_of_history base (asking history) ∙ ap (streams_of base) (streams_in-asking history) ∙ sym (streams_of_history base history)
+
 pub journal_of_asking : (base : Base) (history : History) → journal_of base (asking history) ≡ journal_of base history
-journal_of_asking base [] = refl
-journal_of_asking base (Asked name asked reply ∷ earlier) =
-    let same = journal_of_asking base earlier in
-    ap (λ journal. journal ++ commits_of (ledger_of base (asking earlier)) name asked reply) same
-    ∙ ap (λ commits. journal_of base earlier ++ commits) (commits_by_journal (ledger_of base (asking earlier)) (ledger_of base earlier) name asked reply
-    (base_of_ledger base (asking earlier) ∙ sym (base_of_ledger base earlier)) same)
-journal_of_asking base (Left connection ∷ earlier) = journal_of_asking base earlier
-journal_of_asking base (Took transactions upto ∷ earlier) = journal_of_asking base earlier
-journal_of_asking base (Confirmed upto ∷ earlier) = journal_of_asking base earlier
-journal_of_asking base (Looked ∷ earlier) = journal_of_asking base earlier
+journal_of_asking base history = ap (λ (streams : Streams). streams.journal) (streams_of_asking base history)
 
 -- a step with the reply that the ledger demands is the one for its ask
 asked_step : (ledger : Ledger) (name : TxnName) (asked : Ask) (reply : Reply)
@@ -118,8 +218,7 @@ history_of_asks base [] legal memory = refl
 history_of_asks base (Asked name asked reply ∷ earlier) legal memory =
     let before = history_of_asks base earlier legal.0 memory.0 in
     let told = asked_step (ledger_of base earlier) name asked reply legal.1 memory.1 in
-    let same = step_by_journal (ledger_of base earlier) (ledger_of base (asking earlier)) name asked
-    (base_of_ledger base earlier ∙ sym (base_of_ledger base (asking earlier))) (sym (journal_of_asking base earlier)) in
+    let same = step_by_streams (ledger_of base earlier) (ledger_of base (asking earlier)) name asked (sym (streams_of_asking base earlier)) in
     ap (λ entry. entry ∷ asking earlier) (told ∙ same)
     ∙ ap (λ h. step_for (ledger_of base h) (name, asked) ∷ h) before
     ∙ sym (history_from-append base [] (asks_in earlier) (name, asked))
@@ -133,42 +232,47 @@ history_of_asks base (Confirmed upto ∷ earlier) legal memory =
 history_of_asks base (Looked ∷ earlier) legal memory =
     history_of_asks base earlier legal.0 memory.0 ∙ ap (history_from base []) (sym (append-nil (asks_in earlier)))
 
--- a request that was answered out of memory committed nothing
-forgotten_commits : (ledger : Ledger) (name : TxnName) (asked : Ask) (reply : Reply) → is_out_of_memory reply ≡ true → commits_of ledger name asked reply ≡ []
-forgotten_commits ledger name (ask.Refused refusal) reply none = refl
-forgotten_commits ledger name ask.Leave reply none = refl
-forgotten_commits ledger name (ask.Request request) reply none =
-    ap (λ (without : Bool). commit_of ledger.base.ids.me (next_lsn ledger) without (answer_in ledger name request).row) none
+-- in a legal history only a request that may lack memory is told out of memory, and it then counts as not asked
+told_lacking : (streams : Streams) (name : TxnName) (asked : Request) (reply : Reply) → IsTold streams name asked reply → is_out_of_memory reply ≡ true
+    → lacked_memory asked reply ≡ true
+told_lacking streams name asked reply (inl told) none =
+    let has = demanded_memory streams name asked in
+    let wrong : true ≡ false = sym none ∙ ap is_out_of_memory told ∙ has in absurd cc
+told_lacking streams name asked reply (inr (may, told)) none = λ i. may i && none i
 
-remembered_commits : (base : Base) (name : TxnName) (asked : Ask) (reply : Reply) (earlier : History)
-    → journal_of base (remembered earlier) ≡ journal_of base earlier
-    → journal_of base (remembered (Asked name asked reply ∷ earlier)) ≡ journal_of base (Asked name asked reply ∷ earlier)
-remembered_commits base name asked reply earlier same = by_memory (is_out_of_memory reply) refl
+forgotten_streams : (ledger : Ledger) (name : TxnName) (asked : Ask) (reply : Reply) → IsReply ledger name asked reply → is_out_of_memory reply ≡ true
+    → (ledger_with ledger (Asked name asked reply)).streams ≡ ledger.streams
+forgotten_streams ledger name (ask.Refused refusal) reply told none = refl
+forgotten_streams ledger name ask.Leave reply told none = refl
+forgotten_streams ledger name (ask.Request request) reply told none =
+    ap (λ (lacks : Bool). if lacks then ledger.streams else streams_after ledger.streams name (outcome_of ledger.streams name request))
+    (told_lacking ledger.streams name request reply told.1 none)
+
+remembered_streams : (base : Base) (name : TxnName) (asked : Ask) (reply : Reply) (earlier : History) → IsReply (ledger_of base earlier) name asked reply
+    → (ledger_of base (remembered earlier)).streams ≡ (ledger_of base earlier).streams
+    → (ledger_of base (remembered (Asked name asked reply ∷ earlier))).streams ≡ (ledger_of base (Asked name asked reply ∷ earlier)).streams
+remembered_streams base name asked reply earlier told same = by_memory (is_out_of_memory reply) refl
   where
     by_memory : (none : Bool) → is_out_of_memory reply ≡ none
-        → journal_of base (if none then remembered earlier else Asked name asked reply ∷ remembered earlier) ≡ journal_of base (Asked name asked reply ∷ earlier)
-    by_memory true none =
-        same ∙ sym (append-nil (journal_of base earlier))
-        ∙ ap (λ commits. journal_of base earlier ++ commits) (sym (forgotten_commits (ledger_of base earlier) name asked reply none))
-    by_memory false some =
-        ap (λ journal. journal ++ commits_of (ledger_of base (remembered earlier)) name asked reply) same
-        ∙ ap (λ commits. journal_of base earlier ++ commits) (commits_by_journal (ledger_of base (remembered earlier)) (ledger_of base earlier) name asked reply
-        (base_of_ledger base (remembered earlier) ∙ sym (base_of_ledger base earlier)) same)
+        → (ledger_of base (if none then remembered earlier else Asked name asked reply ∷ remembered earlier)).streams ≡ (ledger_of base (Asked name asked reply ∷ earlier)).streams
+    by_memory true none = same ∙ sym (forgotten_streams (ledger_of base earlier) name asked reply told none)
+    by_memory false some = streams_by_streams (ledger_of base (remembered earlier)) (ledger_of base earlier) name asked reply same
 
 -- so it is as if it hadn't been asked
-pub journal_of_remembered : (base : Base) (history : History) → journal_of base (remembered history) ≡ journal_of base history
-journal_of_remembered base [] = refl
-journal_of_remembered base (Asked name asked reply ∷ earlier) =
-    remembered_commits base name asked reply earlier (journal_of_remembered base earlier)
-journal_of_remembered base (Left connection ∷ earlier) = journal_of_remembered base earlier
-journal_of_remembered base (Took transactions upto ∷ earlier) = journal_of_remembered base earlier
-journal_of_remembered base (Confirmed upto ∷ earlier) = journal_of_remembered base earlier
-journal_of_remembered base (Looked ∷ earlier) = journal_of_remembered base earlier
+pub streams_of_remembered : (base : Base) (history : History) → IsLegal base history → (ledger_of base (remembered history)).streams ≡ (ledger_of base history).streams
+streams_of_remembered base [] legal = refl
+streams_of_remembered base (Asked name asked reply ∷ earlier) legal =
+    remembered_streams base name asked reply earlier legal.1 (streams_of_remembered base earlier legal.0)
+streams_of_remembered base (Left connection ∷ earlier) legal =
+    ap (λ (streams : Streams). streams_left streams connection) (streams_of_remembered base earlier legal.0)
+streams_of_remembered base (Took transactions upto ∷ earlier) legal = streams_of_remembered base earlier legal.0
+streams_of_remembered base (Confirmed upto ∷ earlier) legal = streams_of_remembered base earlier legal.0
+streams_of_remembered base (Looked ∷ earlier) legal = streams_of_remembered base earlier legal.0
 
-remembered_step : (base : Base) (name : TxnName) (asked : Ask) (reply : Reply) (earlier : History) → IsReply (ledger_of base earlier) name asked reply
+remembered_step : (base : Base) (name : TxnName) (asked : Ask) (reply : Reply) (earlier : History) → IsLegal base earlier → IsReply (ledger_of base earlier) name asked reply
     → asking (remembered earlier) ≡ history_from base [] (asks_in (remembered earlier))
     → asking (remembered (Asked name asked reply ∷ earlier)) ≡ history_from base [] (asks_in (remembered (Asked name asked reply ∷ earlier)))
-remembered_step base name asked reply earlier follows before = by_memory (is_out_of_memory reply) refl
+remembered_step base name asked reply earlier legal follows before = by_memory (is_out_of_memory reply) refl
   where
     by_memory : (none : Bool) → is_out_of_memory reply ≡ none
         → asking (if none then remembered earlier else Asked name asked reply ∷ remembered earlier)
@@ -176,9 +280,8 @@ remembered_step base name asked reply earlier follows before = by_memory (is_out
     by_memory true none = before
     by_memory false some =
         let told = asked_step (ledger_of base earlier) name asked reply follows some in
-        let same = step_by_journal (ledger_of base earlier) (ledger_of base (asking (remembered earlier))) name asked
-        (base_of_ledger base earlier ∙ sym (base_of_ledger base (asking (remembered earlier))))
-        (sym (journal_of_asking base (remembered earlier) ∙ journal_of_remembered base earlier)) in
+        let same = step_by_streams (ledger_of base earlier) (ledger_of base (asking (remembered earlier))) name asked
+        (sym (streams_of_asking base (remembered earlier) ∙ streams_of_remembered base earlier legal)) in
         ap (λ entry. entry ∷ asking (remembered earlier)) (told ∙ same)
         ∙ ap (λ h. step_for (ledger_of base h) (name, asked) ∷ h) before
         ∙ sym (history_from-append base [] (asks_in (remembered earlier)) (name, asked))
@@ -188,7 +291,7 @@ pub remembered_of_asks : (base : Base) (history : History) → IsLegal base hist
     → asking (remembered history) ≡ history_from base [] (asks_in (remembered history))
 remembered_of_asks base [] legal = refl
 remembered_of_asks base (Asked name asked reply ∷ earlier) legal =
-    remembered_step base name asked reply earlier legal.1 (remembered_of_asks base earlier legal.0)
+    remembered_step base name asked reply earlier legal.0 legal.1 (remembered_of_asks base earlier legal.0)
 remembered_of_asks base (Left connection ∷ earlier) legal =
     ap (λ h. Left connection ∷ h) (remembered_of_asks base earlier legal.0)
     ∙ sym (history_from-append base [] (asks_in (remembered earlier)) (leaving connection))
@@ -198,81 +301,3 @@ remembered_of_asks base (Confirmed upto ∷ earlier) legal =
     remembered_of_asks base earlier legal.0 ∙ ap (history_from base []) (sym (append-nil (asks_in (remembered earlier))))
 remembered_of_asks base (Looked ∷ earlier) legal =
     remembered_of_asks base earlier legal.0 ∙ ap (history_from base []) (sym (append-nil (asks_in (remembered earlier))))
-
--- no more was taken than was committed
-pub taken_within : (base : Base) (history : History) → (ledger_of base history).taken ≤ length (journal_of base history)
-taken_within base [] = omega arith
-taken_within base (Asked name ask reply ∷ earlier) =
-    omega (arith, taken_within base earlier, length-append (journal_of base earlier) (commits_of (ledger_of base earlier) name ask reply))
-taken_within base (Left connection ∷ earlier) = taken_within base earlier
-taken_within base (Took transactions upto ∷ earlier) = omega arith
-taken_within base (Confirmed upto ∷ earlier) = taken_within base earlier
-taken_within base (Looked ∷ earlier) = taken_within base earlier
-
--- after an ask the state, the vclock and the transactions to be written have what it committed
-pub state_of-asked : (base : Base) (name : TxnName) (ask : Ask) (reply : Reply) (history : History)
-    → state_of base (Asked name ask reply ∷ history) ≡ state_after (state_of base history) (commits_of (ledger_of base history) name ask reply)
-state_of-asked base name ask reply history =
-    state_after-append (ledger_of base history).base.state (journal_of base history) (commits_of (ledger_of base history) name ask reply)
-
-pub clock_of-asked : (base : Base) (name : TxnName) (ask : Ask) (reply : Reply) (history : History)
-    → clock_of base (Asked name ask reply ∷ history) ≡ clock_after (clock_of base history) (commits_of (ledger_of base history) name ask reply)
-clock_of-asked base name ask reply history =
-    clock_after-append (ledger_of base history).base.clock (journal_of base history) (commits_of (ledger_of base history) name ask reply)
-
--- the transactions that no take has
-abbrev pub untaken : Ledger → List Tx
-untaken ledger = drop ledger.taken ledger.journal
-
-pub untaken-asked : (base : Base) (name : TxnName) (ask : Ask) (reply : Reply) (history : History)
-    → untaken (ledger_of base (Asked name ask reply ∷ history)) ≡ untaken (ledger_of base history) ++ commits_of (ledger_of base history) name ask reply
-untaken-asked base name ask reply history =
-    drop-append-le (ledger_of base history).taken (journal_of base history) (commits_of (ledger_of base history) name ask reply) (taken_within base history)
-
-pub committed-no_row : (replica lsn : ℕ) (without_memory : Bool) → commit_of replica lsn without_memory None ≡ []
-committed-no_row replica lsn true = refl
-committed-no_row replica lsn false = refl
-
-answered_no_row : (space source index : ℕ) (whole : Range) (found : Selection) → (select_found space source index whole found).row ≡ None
-answered_no_row space source index whole found = by_test (nat_lt max_result_size (total_bytes found.tuples))
-  where
-    by_test : (long : Bool)
-        → (if long then refusal_after (schema_reads space ++ range_reads source index (Some whole)) ResultTooLong
-        else tuples_after (schema_reads space ++ range_reads source index found.read) found.tuples).row ≡ None
-    by_test true = refl
-    by_test false = refl
-
-selected_by_no_row : (before : State) (space limit offset : ℕ) (iterator : IterKind) (def : IndexDef) (key : Result Key Misfit)
-    → (select_by_key before space limit offset iterator def key).row ≡ None
-selected_by_no_row before space limit offset iterator def (Err misfit) = refl
-selected_by_no_row before space limit offset iterator def (Ok key) =
-    answered_no_row space (source_of space) def.id.0 (range_of iterator key) (pick (entries_of before space def) iterator key offset limit)
-
--- a SELECT writes no row
-pub select_no_row : (before : State) (space index limit offset : ℕ) (iterator : IterKind) (key : List ℕ)
-    → (select_answer_in before space index limit offset iterator key).row ≡ None
-select_no_row before space index limit offset iterator key = by_schema (schema_of before space)
-  where
-    by_def : (schema : Schema) (def : Option IndexDef) → (in_def space schema index def (select_in_index before space limit offset iterator key)).row ≡ None
-    by_def schema None = refl
-    by_def schema (Some def) = by_test (takes_iterator def.kind iterator (part_count key))
-      where
-        by_test : (taken : Bool)
-            → (if taken then select_by_key before space limit offset iterator def (asked_key def key) else refusal_after (schema_reads space) (Unsupported HashIterator)).row ≡ None
-        by_test true = selected_by_no_row before space limit offset iterator def (asked_key def key)
-        by_test false = refl
-
-    by_schema : (schema : Option Schema) → (in_schema space schema (select_answer before space index limit offset iterator key)).row ≡ None
-    by_schema None = refl
-    by_schema (Some schema) = by_def schema (index_with index schema.indexes)
-
--- where the statement writes no row, the node writes none
-pub node_no_row : (ids : Ids) (before : State) (lsn : ℕ) (request : Request) → (answer_to before request).row ≡ None
-    → (node_answer ids before lsn request).row ≡ None
-node_no_row ids before lsn request none = by_test (is_write request && not (ids.me == writable_node))
-  where
-    by_test : (read_only : Bool)
-        → (if read_only then refusal_alone (ReadOnly (record { 0 = writable_node }))
-        else with_lsn lsn (answer_to before request) (answer_to before request).row).row ≡ None
-    by_test true = refl
-    by_test false = ap (λ row. (with_lsn lsn (answer_to before request) row).row) none ∙ none

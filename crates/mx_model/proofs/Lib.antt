@@ -1,11 +1,16 @@
 pub mod EachLaws
 pub mod HistoryLaws
+pub mod JournalLaws
+pub mod SelectLaws
 pub mod DirectoryLaws
 pub mod GrowthLaws
 pub mod WalkLaws
 pub mod BeginLaws
 pub mod TransactionLaws
 pub mod CommitLaws
+pub mod AskedStatements
+pub mod RunRows
+pub mod SizeLaws
 pub mod BlockLaws
 pub mod OnceLaws
 pub mod WriteLaws
@@ -75,10 +80,13 @@ mod CommitRows
 mod StreamPlaces
 mod StreamEnds
 mod StreamSteps
-mod StreamLaws
-mod DemandedReplies
+pub mod StreamLaws
+pub mod DemandedReplies
 mod StreamNames
 mod StreamBegins
+pub mod StreamNumbers
 mod StreamCounts
+pub mod SerializableLaws
 pub mod RunTouchLaws
 pub mod RunSchemaLaws
+mod TxsLaws

@@ -4,7 +4,7 @@ use Rattle.std.specs.Prelude.{◌||◌, ◌==◌}
 use Rattle.mx_request.specs.declared.request.Request.{Request}
 use Rattle.mx_request.specs.declared.request.Request.TheVariants as request
 use Rattle.mx_request.specs.Spelling.{type_number}
-use Rattle.mx_model.specs.Histories.{is_write}
+use Rattle.mx_model.specs.Bases.{is_write}
 
 -- a type of this number writes
 abbrev pub number_writes : ℕ → Bool

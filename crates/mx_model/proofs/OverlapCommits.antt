@@ -14,7 +14,7 @@ use Rattle.mx_model.specs.Overlaps.{IsWithin, TransactionStep, Transaction, firs
 use Rattle.mx_model.specs.RunAlone.{run_alone, writes}
 use Rattle.mx_model.specs.Touches.{rows_meet}
 use Rattle.mx_model.specs.Transactions.{is_schema_commit, state_after}
-use Rattle.mx_model.proofs.HistoryLaws.{state_after-append}
+use Rattle.mx_model.proofs.JournalLaws.{state_after-append}
 
 -- a commit behind others overlaps, where it touches what was read and none of these does
 first_more : (before : State) (count : ℕ) (later : List Tx) (commit : Tx) (steps : List TransactionStep) (last : ℕ) → count + length later ≡ last

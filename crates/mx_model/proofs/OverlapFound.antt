@@ -10,7 +10,7 @@ use Rattle.mx_model.specs.declared.ids.Ids.{Ids}
 use Rattle.mx_model.specs.Overlaps.{Doomed, TransactionStep, Transaction, first_overlap, overlap_of, reads_before, standing, standing_by, state_after_first}
 use Rattle.mx_model.specs.Touches.{rows_meet}
 use Rattle.mx_model.specs.Transactions.{state_after}
-use Rattle.mx_model.proofs.HistoryLaws.{state_after-append}
+use Rattle.mx_model.proofs.JournalLaws.{state_after-append}
 
 -- the element behind a list
 pub get_behind : {X : Type 0} (front : List X) (x : X) (later : List X) → slice_get (front ++ x ∷ later) (length front) ≡ Some x

@@ -11,7 +11,7 @@ use Rattle.mx_space.specs.declared.pick.Pick.{Pick}
 use Rattle.mx_space.specs.Scans.{picked_of}
 use Rattle.mx_model.specs.SlowReadSteps.{scan_read}
 use Rattle.mx_write.specs.Reads.{Read}
-use Rattle.mx_model.specs.SlowTouches.{AreFitReads, IsFitRange, IsFitRead}
+use Rattle.mx_model.specs.SlowTouches.{AreFitReads, IsFitRange}
 use Rattle.mx_model.specs.statements.Select.{range_reads}
 
 abbrev AreFitEntries : List Indexed → Type 0

@@ -32,7 +32,7 @@ use Rattle.mx_write.proofs.WrittenLaws.{Wrote, makes, wrote}
 use Rattle.mx_model.specs.declared.ids.Ids.{Ids}
 use Rattle.mx_model.specs.Answers.{answer_in_space, state_after_row, state_after_rows}
 use Rattle.mx_model.specs.Frame.{IsDataStatement, StaysSound, reads_in}
-use Rattle.mx_model.specs.Histories.{writable_node}
+use Rattle.mx_model.specs.Bases.{writable_node}
 use Rattle.mx_model.specs.RunAlone.{answer_in_run, run_alone, statement_answer, within_limits, writes}
 use Rattle.mx_model.specs.RunTouches.{changes_of}
 use Rattle.mx_write.specs.Touches.{Touched, are_met, touched_by_change}
@@ -49,7 +49,7 @@ use Rattle.mx_model.proofs.FrameReads.{AreMissed, both_false, missed_both, misse
 use Rattle.mx_model.proofs.FrameRuns.{first_sound}
 use Rattle.mx_model.proofs.FrameStages.{first_missed, index_reads, unique_index_reads}
 use Rattle.mx_model.proofs.FrameSteps.{row_agrees}
-use Rattle.mx_model.proofs.HistoryLaws.{select_no_row}
+use Rattle.mx_model.proofs.SelectLaws.{select_no_row}
 
 module _ (base : State) (touched : List Touched) where
   -- ---- a write that comes to something has read the rows of its space

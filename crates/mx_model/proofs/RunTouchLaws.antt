@@ -30,7 +30,7 @@ use Rattle.mx_write.proofs.EachSpaceLaws.{after_put, change_of}
 use Rattle.mx_model.specs.declared.ids.Ids.{Ids}
 use Rattle.mx_model.specs.Answers.{answer_in_space, state_after_row, state_after_rows}
 use Rattle.mx_model.specs.Frame.{IsDataStatement, OperationHasBytes}
-use Rattle.mx_model.specs.Histories.{writable_node}
+use Rattle.mx_model.specs.Bases.{writable_node}
 use Rattle.mx_model.specs.RunAlone.{answer_in_run, run_alone, statement_answer, within_limits, writes}
 use Rattle.mx_model.specs.RunTouches.{changes_of, puts_of, stood_under}
 use Rattle.mx_write.specs.Touches.{Touched, index_by_state, is_met, lies_in_index, are_met, touched_at, touched_by_change}

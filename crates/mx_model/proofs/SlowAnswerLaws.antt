@@ -33,7 +33,7 @@ use Rattle.mx_model.specs.statements.Select.{iterator_of, select_answer_in}
 use Rattle.mx_model.specs.statements.Statement.{Selects, Statement, Writes, statement_of, write_statement}
 use Rattle.mx_model.specs.statements.Write.{answer_of_outcome, write_answer_in}
 use Rattle.mx_model.proofs.AnswerLaws.{Agrees, select_agrees}
-use Rattle.mx_model.proofs.HistoryLaws.{select_no_row}
+use Rattle.mx_model.proofs.SelectLaws.{select_no_row}
 
 -- ---- SELECT
 

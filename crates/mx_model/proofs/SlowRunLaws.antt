@@ -1,8 +1,7 @@
 -- What statements come to that the plain slow program runs alone.
-use Rattle.std.proofs.Common.{arith, ◌≡◌, ℕ, ◌+◌, Bool, true, false, ◌&&◌, ◌||◌, List, [], ◌∷◌, ◌++◌, map, Option, Some, None, refl, sym, ap, ◌∙◌, subst, append-nil, append_assoc}
+use Rattle.std.proofs.Common.{arith, ◌≡◌, ℕ, ◌+◌, Bool, true, false, ◌&&◌, ◌||◌, List, [], ◌∷◌, ◌++◌, Option, Some, None, refl, sym, ap, ◌∙◌, subst, append-nil, append_assoc}
 use Rattle.std.specs.Prelude.{not, ◌==◌, if◌then◌else◌, IfOk, MatchOption, Result, Ok, Err}
-use Rattle.std.proofs.lemmas.List.Sums.{fold-append}
-use Rattle.std.specs.List.{AllZip, sum}
+use Rattle.std.specs.List.{AllZip}
 use Rattle.std.specs.Option.{option_to_list}
 use Rattle.mx_base.specs.declared.refusal.Refusal.TheVariants.{ReadOnly, TransactionTooLong}
 use Rattle.mx_request.specs.declared.request.Request.{Request}
@@ -24,7 +23,7 @@ use Rattle.mx_model.specs.declared.slow_state.answers.SlowWrite.{SlowWrite}
 use Rattle.mx_model.specs.declared.slow_state.SlowState.{SlowState}
 use Rattle.mx_model.specs.Answers.{answer_by_statement, answer_to, answer_without_space, state_after_row, state_after_rows}
 use Rattle.mx_model.specs.Frame.{answer_to_statement}
-use Rattle.mx_model.specs.Histories.{is_write, writable_node}
+use Rattle.mx_model.specs.Bases.{is_write, writable_node}
 use Rattle.mx_model.specs.Overlaps.{TransactionStep, statements_in}
 use Rattle.mx_model.specs.RunAlone.{Run, answer_in_run, run_alone, run_with, statement_answer, within_limits, writes}
 use Rattle.mx_model.specs.Slow.{KeepsStep, RunStands, reads_of_statement, saturated, statement_reads}
@@ -35,6 +34,7 @@ use Rattle.mx_model.specs.Touches.{rows_meet}
 use Rattle.mx_model.specs.statements.Answer.{Answer, refusal_after, refusal_alone}
 use Rattle.mx_model.specs.statements.Statement.{Statement, statement_of}
 use Rattle.mx_model.proofs.FrameCommit.{row_after}
+use Rattle.mx_model.proofs.SizeLaws.{size_more}
 use Rattle.mx_model.proofs.SlowTouchLaws.{none_meet}
 use Rattle.mx_model.proofs.WriteLaws.{changes_again}
 
@@ -128,16 +128,6 @@ rows_meet_more before [] row reads = or_false (are_met before (touched_by_change
 rows_meet_more before (first ∷ rows) row reads =
     ap (λ t. are_met before (touched_by_change before (row_change before first)) reads || t) (rows_meet_more (state_after_row before first) rows row reads)
     ∙ sym (or_assoc (are_met before (touched_by_change before (row_change before first)) reads) (rows_meet (state_after_row before first) rows reads) _)
-
-sum_more : (sizes : List ℕ) (size : ℕ) → sum (sizes ++ size ∷ []) ≡ sum sizes + size
-sum_more sizes size = fold-append (λ a x. a + x) 0 sizes (size ∷ [])
-
-map_more : (rows : List Row) (row : Row) → map row_size (rows ++ row ∷ []) ≡ map row_size rows ++ row_size row ∷ []
-map_more [] row = refl
-map_more (first ∷ rows) row = ap (λ l. row_size first ∷ l) (map_more rows row)
-
-size_more : (rows : List Row) (row : Row) → rows_size (rows ++ row ∷ []) ≡ rows_size rows + row_size row
-size_more rows row = ap sum (map_more rows row) ∙ sum_more (map row_size rows) (row_size row)
 
 -- no statement
 pub none_run : (ids : Ids) (before : State) (state : SlowState) (run : SlowRun) → run.state ≡ state → run.rows ≡ [] → run.size ≡ 0 → run.touched ≡ [] → IsSlowState state before

@@ -15,7 +15,7 @@ use Rattle.mx_model.specs.declared.slow.transactions.SlowStep.{SlowStep}
 use Rattle.mx_model.specs.declared.slow_state.read_ranges.ReadRange.{ReadRange}
 use Rattle.mx_model.specs.declared.slow_state.touched.TouchedKey.{TouchedKey}
 use Rattle.mx_model.specs.Answers.{state_after_rows}
-use Rattle.mx_model.specs.Histories.{is_write}
+use Rattle.mx_model.specs.Bases.{is_write}
 use Rattle.mx_model.specs.Overlaps.{Active, TransactionStep, Transaction, doomed_or_view, first_overlap, has_row, has_schema_commit_since, has_written_since, is_some_row, overlap_of, place_by, place_read, reads_before, standing, standing_by, state_after_first, statements_in}
 use Rattle.mx_model.specs.RunAlone.{run_alone, writes}
 use Rattle.mx_model.specs.Slow.{KeepCommits, KeepsCommit, KeepsStep}

@@ -29,7 +29,7 @@ use Rattle.mx_model.specs.declared.slow.run.SlowRun.{SlowRun}
 use Rattle.mx_model.specs.declared.slow_state.answers.SlowAnswer.{SlowAnswer}
 use Rattle.mx_model.specs.declared.slow_state.read_ranges.ReadRange.{ReadRange}
 use Rattle.mx_model.specs.Answers.{answer_in_space, state_after_rows}
-use Rattle.mx_model.specs.Histories.{with_lsn, writable_node}
+use Rattle.mx_model.specs.Bases.{with_lsn, writable_node}
 use Rattle.mx_model.specs.Overlaps.{Active, Doomed, Standing, Transaction, TransactionStep, View, doomed_or_view, has_row, has_schema_commit_since, has_written_since, is_some_row, overlap_of, place_by, standing, standing_by, state_after_first, statements_in}
 use Rattle.mx_model.specs.RunAlone.{Run, answer_alone, answer_in_run, run_alone, statement_answer, within_limits, writes}
 use Rattle.mx_model.specs.Slow.{IsSlow, KeepCommits, KeepsCommit, KeepsTransaction, RunStands, Tells, reads_of_statement, statement_reads, told_by}
@@ -45,7 +45,7 @@ use Rattle.mx_model.specs.statements.Select.{iterator_of}
 use Rattle.mx_model.proofs.AlonePlaces.{never_overlapped, whole_state}
 use Rattle.mx_model.proofs.SlowRunLaws.{written}
 use Rattle.mx_model.proofs.SlowStandingLaws.{same_length}
-use Rattle.mx_model.proofs.HistoryLaws.{select_no_row}
+use Rattle.mx_model.proofs.SelectLaws.{select_no_row}
 
 -- ---- outcomes that commit nothing
 

@@ -5,7 +5,7 @@ use Rattle.mx_base.specs.Keys.{stream_key}
 use Rattle.mx_base.specs.declared.ids.TxnName.{TxnName}
 use Rattle.mx_base.specs.declared.kinds.Unsupported.TheVariants.{SchemaInTransaction}
 use Rattle.mx_base.specs.declared.refusal.Refusal.TheVariants.{AllOfConnectionOpen, AllTransactionsOpen, IllegalValue, LsnsUsedUp, ReadOnly, Unsupported}
-use Rattle.mx_model.specs.Histories.{writable_node}
+use Rattle.mx_model.specs.Bases.{writable_node}
 use Rattle.mx_model.specs.Overlaps.{Active, Doomed, Standing, Transaction, View, standing, statements_in}
 use Rattle.mx_model.specs.RunAlone.{run_alone, writes}
 use Rattle.mx_model.specs.StreamHistories.{Requested, begun_by}

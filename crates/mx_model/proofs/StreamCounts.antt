@@ -4,7 +4,7 @@ use Rattle.std.proofs.lemmas.List.{length-append, length-map}
 use Rattle.std.specs.Option.{option_to_list}
 use Rattle.std.specs.Prelude.{if◌then◌else◌, ◌==◌, ◌&&◌}
 use Rattle.mx_base.specs.declared.ids.TxnName.{TxnName}
-use Rattle.mx_model.specs.Histories.{Base, is_out_of_memory}
+use Rattle.mx_model.specs.Bases.{Base, is_out_of_memory}
 use Rattle.mx_model.specs.Overlaps.{Transaction}
 use Rattle.mx_model.specs.StreamHistories.{Disconnected, EndedTransaction, FollowsStreams, HaveOwnNames, IsLegalStreams, Requested, StreamEntry, StreamHistory, begun_by, begun_in, ended_as, ended_by, ended_in, ended_where, ends_now, is_commit, lacked_memory, streams_of, streams_with}
 use Rattle.mx_model.specs.Streams.{Becomes, Ends, Goes, IsTold, Opens, Outcome, Stays, Streams, is_name, of_connection, of_others, open_after, outcome_of, streams_after, transaction_named, with_step, without_named}
@@ -14,6 +14,14 @@ use Rattle.mx_request.specs.declared.request.Request.{Request}
 use Rattle.mx_model.proofs.StreamBegins.{Begins, outcome_begun}
 use Rattle.mx_model.proofs.StreamNames.{connection_count, lack_unnamed, length_with_step, named_count, own_kept, own_with_step}
 use Rattle.mx_request.specs.declared.request.Request.TheVariants as request
+
+-- a reply that isn't out of memory is the one that is demanded
+pub told_demanded : (streams : Streams) (name : TxnName) (asked : Request) (reply : Reply) → IsTold streams name asked reply → lacked_memory asked reply ≡ false
+    → reply ≡ (outcome_of streams name asked).reply
+told_demanded streams name asked reply (inl told) has = told
+told_demanded streams name asked reply (inr (may, told)) has =
+    let lacks : lacked_memory asked reply ≡ true = (λ i. may i && is_out_of_memory (told i)) in
+    let wrong : true ≡ false = sym lacks ∙ has in absurd cc
 
 module _ (streams : Streams) (own : HaveOwnNames streams.transactions) where
   abbrev all : List Transaction
@@ -57,12 +65,6 @@ module _ (streams : Streams) (own : HaveOwnNames streams.transactions) where
   lacking_begins name request.Begin reply lacks = absurd cc
   lacking_begins name other reply lacks = refl
 
-  told_demanded : (name : TxnName) (asked : Request) (reply : Reply) → IsTold streams name asked reply → lacked_memory asked reply ≡ false → reply ≡ (outcome_of streams name asked).reply
-  told_demanded name asked reply (inl told) has = told
-  told_demanded name asked reply (inr (may, told)) has =
-      let lacks : lacked_memory asked reply ≡ true = (λ i. may i && is_out_of_memory (told i)) in
-      let wrong : true ≡ false = sym lacks ∙ has in absurd cc
-
   requested : (name : TxnName) (asked : Request) (reply : Reply) → IsTold streams name asked reply
       → IsCounted (Requested name asked reply) (streams_with streams (Requested name asked reply)) (ended_by streams (Requested name asked reply))
   requested name asked reply told = by_test (lacked_memory asked reply) refl
@@ -77,7 +79,7 @@ module _ (streams : Streams) (own : HaveOwnNames streams.transactions) where
           let begins = outcome_begun streams name asked in (
             becomes_own name asked outcome.reply outcome.becomes begins,
             becomes_count name asked outcome.reply (is_commit asked) outcome outcome.becomes begins
-                ∙ ap (λ (one : Reply). begun_by (Requested name asked one) + length all) (sym (told_demanded name asked reply told has)),
+                ∙ ap (λ (one : Reply). begun_by (Requested name asked one) + length all) (sym (told_demanded streams name asked reply told has)),
           )
 
   pub entry_counted : (entry : StreamEntry) → FollowsStreams streams entry → IsCounted entry (streams_with streams entry) (ended_by streams entry)

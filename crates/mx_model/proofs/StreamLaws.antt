@@ -4,7 +4,7 @@ use Rattle.std.specs.List.{AllByRecursion}
 use Rattle.std.specs.Prelude.{if◌then◌else◌}
 use Rattle.mx_base.specs.declared.ids.TxnName.{TxnName}
 use Rattle.mx_model.specs.Alone.{AllStandAlone}
-use Rattle.mx_model.specs.Histories.{Base, CanBeAsked}
+use Rattle.mx_model.specs.Bases.{Base, CanBeAsked}
 use Rattle.mx_model.specs.StreamHistories.{Disconnected, EndedTransaction, FollowsStreams, IsLegalStreams, RanAlone, Requested, StreamEntry, StreamHistory, ended_as, ended_by, ended_in, ends_now, is_commit, lacked_memory, streams_of, streams_with}
 use Rattle.mx_model.specs.Streams.{Outcome, Streams, commit_with, of_connection, outcome_of, streams_after}
 use Rattle.mx_model.specs.declared.reply.Reply.{Reply}

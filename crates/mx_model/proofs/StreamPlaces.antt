@@ -4,7 +4,7 @@ use Rattle.std.proofs.lemmas.List.{length-append}
 use Rattle.std.specs.List.{AllZip}
 use Rattle.std.specs.Prelude.{slice_get}
 use Rattle.mx_model.specs.Alone.{IsToldAlone}
-use Rattle.mx_model.specs.Histories.{Base}
+use Rattle.mx_model.specs.Bases.{Base}
 use Rattle.mx_model.specs.Overlaps.{Transaction, reads_before, statements_in}
 use Rattle.mx_model.specs.RunAlone.{Run, run_alone}
 use Rattle.mx_model.specs.StreamHistories.{CommittedAlone, EndedTransaction, HasOverlap, RanAlone, WasAnsweredAlone, WasToldAlone, run_of}

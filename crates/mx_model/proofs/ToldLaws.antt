@@ -7,7 +7,8 @@ use Rattle.mx_request.specs.declared.request.Ask.{Ask}
 use Rattle.mx_row.specs.declared.tx.Tx.{Tx}
 use Rattle.mx_model.specs.declared.reply.Reply.{Reply}
 use Rattle.mx_model.specs.Transactions.{schema_version}
-use Rattle.mx_model.specs.Histories.{Base, Asked, Left, Took, Confirmed, Looked, History, asking, journal_of}
+use Rattle.mx_model.specs.Bases.{Base}
+use Rattle.mx_model.specs.Histories.{Asked, Left, Took, Confirmed, Looked, History, asking, journal_of}
 use Rattle.mx_model.specs.Replies.{Told, told_by, has_left, told_on, told_now}
 use Rattle.mx_model.proofs.HistoryLaws.{journal_of_asking}
 

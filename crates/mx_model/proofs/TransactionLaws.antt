@@ -11,7 +11,7 @@ use Rattle.mx_row.specs.Clocks.{clock_after_one, clock_after, follows}
 use Rattle.mx_model.specs.Directories.{Reached, is_shared, schema_is_alone, takes_rows, after_transaction, after_transactions, after_read, then_all, after_block, block_reached, after_blocks, AllFollow}
 use Rattle.mx_row.proofs.ClockLaws.{clock_after-append}
 use Rattle.mx_row.proofs.GroupLaws.{transactions_again}
-use Rattle.mx_model.proofs.HistoryLaws.{state_after-append}
+use Rattle.mx_model.proofs.JournalLaws.{state_after-append}
 
 -- transactions that follow can be written
 pub are_transactions : (now : State) (clock : List ℕ) (transactions : List Tx) → AllFollow now clock transactions → AllByRecursion IsTransaction transactions

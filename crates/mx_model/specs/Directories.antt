@@ -17,7 +17,7 @@ use Rattle.mx_write.specs.Judge.{row_refusal}
 use Rattle.mx_row.specs.declared.tx.Tx.{Tx}
 use Rattle.mx_row.specs.Clocks.{clock_after_one, follows}
 use Rattle.mx_row.specs.Rows.{IsTransaction, transactions_in}
-use Rattle.mx_model.specs.Histories.{Base}
+use Rattle.mx_model.specs.Bases.{Base}
 use Rattle.mx_model.specs.Transactions.{is_schema_commit}
 use Rattle.mx_files.specs.Names.{is_journal, is_snapshot, journal_name, same_bytes}
 use Rattle.mx_xlog.specs.Files.{FileRead, ReadsAs}

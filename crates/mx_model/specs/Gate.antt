@@ -1,6 +1,7 @@
 -- The durability gate: a reply is sent once every commit among the steps so far is durable.
 use Rattle.std.specs.Prelude.{⊤, ℕ, suc, ◌-◌, ◌≤◌, [], ◌∷◌, length, drop}
-use Rattle.mx_model.specs.Histories.{Base, Asked, History, ledger_of}
+use Rattle.mx_model.specs.Bases.{Base}
+use Rattle.mx_model.specs.Histories.{Asked, History, ledger_of}
 
 -- each request of the history is among its first so many steps
 abbrev pub AskedWithin : ℕ → History → Type 0

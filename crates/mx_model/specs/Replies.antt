@@ -3,7 +3,8 @@ use Rattle.std.specs.Prelude.{ℕ, Bool, true, false, List, [], ◌∷◌, ◌++
 use Rattle.mx_base.specs.declared.ids.TxnName.{TxnName}
 use Rattle.mx_model.specs.declared.reply.Reply.{Reply}
 use Rattle.mx_model.specs.Transactions.{schema_version}
-use Rattle.mx_model.specs.Histories.{Base, Entry, Asked, Left, History, journal_of}
+use Rattle.mx_model.specs.Bases.{Base}
+use Rattle.mx_model.specs.Histories.{Entry, Asked, Left, History, journal_of}
 
 -- a reply to a request under this name, and the schema's version after it
 pub record Told : Type 0 where

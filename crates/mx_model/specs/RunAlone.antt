@@ -8,7 +8,7 @@ use Rattle.mx_schema.specs.State.{State}
 use Rattle.mx_write.specs.Change.{state_after_changed}
 use Rattle.mx_model.specs.declared.ids.Ids.{Ids}
 use Rattle.mx_model.specs.Answers.{answer_in_space}
-use Rattle.mx_model.specs.Histories.{writable_node}
+use Rattle.mx_model.specs.Bases.{writable_node}
 use Rattle.mx_model.specs.statements.Answer.{Answer, refusal_after, refusal_alone}
 use Rattle.mx_model.specs.statements.Statement.{Operation, Selects, Statement, Writes}
 

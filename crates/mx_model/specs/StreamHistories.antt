@@ -12,7 +12,7 @@ use Rattle.mx_schema.specs.Sound.{IsSound}
 use Rattle.mx_model.specs.declared.reply.Reply.{Reply}
 use Rattle.mx_model.specs.declared.reply.Reply.TheVariants.{Empty, Refused}
 use Rattle.mx_model.specs.Alone.{IsToldAlone}
-use Rattle.mx_model.specs.Histories.{Base, CanBeAsked, is_out_of_memory}
+use Rattle.mx_model.specs.Bases.{Base, CanBeAsked, is_out_of_memory}
 use Rattle.mx_model.specs.Overlaps.{TransactionStep, Transaction, place_read, reads_before, state_after_first, statements_in}
 use Rattle.mx_model.specs.RunAlone.{Run, run_alone}
 use Rattle.mx_model.specs.Streams.{Becomes, Ends, IsTold, Outcome, Streams, is_name, may_lack_memory, of_connection, outcome_of, streams_after, streams_left, transaction_named}

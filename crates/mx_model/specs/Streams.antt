@@ -1,6 +1,6 @@
 -- Transactions in streams: what each request is told where transactions are open, and what becomes of these and of the journal.
 use Rattle.std.specs.Prelude.{◌≡◌, ◌⊎◌, ℕ, ◌+◌, Bool, true, false, not, ◌&&◌, List, [], ◌∷◌, ◌++◌, length, Option, Some, None, nat_le, nat_lt, slice_index, ◌==◌, if◌then◌else◌}
-use Rattle.std.specs.List.{filter}
+use Rattle.std.specs.List.{AllByRecursion, filter}
 use Rattle.std.specs.Option.{option_to_list}
 use Rattle.mx_vclock.specs.Vclocks.{max_lsn}
 use Rattle.mx_base.specs.declared.ids.TxnName.{TxnName}
@@ -18,7 +18,7 @@ use Rattle.mx_model.specs.declared.ids.Ids.{Ids}
 use Rattle.mx_model.specs.declared.reply.Reply.{Reply}
 use Rattle.mx_model.specs.declared.reply.Reply.TheVariants.{Empty, Refused}
 use Rattle.mx_model.specs.Answers.{answer_without_space}
-use Rattle.mx_model.specs.Histories.{Base, with_lsn, writable_node}
+use Rattle.mx_model.specs.Bases.{Base, with_lsn, writable_node}
 use Rattle.mx_model.specs.Overlaps.{Doomed, Standing, TransactionStep, Transaction, place_read, standing, state_after_first, statements_in}
 use Rattle.mx_model.specs.RunAlone.{answer_alone, run_alone, statement_answer, writes}
 use Rattle.mx_model.specs.Transactions.{state_after}
@@ -58,6 +58,13 @@ of_connection connection all = filter (λ one. one.name.conn.0 == connection) al
 
 abbrev pub of_others : (connection : ℕ) → List Transaction → List Transaction
 of_others connection all = filter (λ one. not (one.name.conn.0 == connection)) all
+
+-- a transaction has a stream, whose number isn't 0
+abbrev pub HasStream : Transaction → Type 0
+HasStream one = (one.name.stream.0 == 0) ≡ false
+
+abbrev pub AllHaveStreams : List Transaction → Type 0
+AllHaveStreams all = AllByRecursion HasStream all
 
 -- ---- what a request is told
 

@@ -8,7 +8,8 @@ use Rattle.mx_row.specs.declared.tx.Tx.{Tx}
 use Rattle.mx_model.specs.Transactions.{state_after}
 use Rattle.mx_row.specs.Clocks.{clock_after}
 use Rattle.mx_model.specs.Directories.{Reached, Origin, IsDirectoryState, AllFollow}
-use Rattle.mx_model.specs.Histories.{Base, History, journal_of}
+use Rattle.mx_model.specs.Bases.{Base}
+use Rattle.mx_model.specs.Histories.{History, journal_of}
 use Rattle.mx_images.specs.Fair.{IsFair}
 
 -- the files recover to these transactions, made on the origin

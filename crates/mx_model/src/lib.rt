@@ -40,6 +40,7 @@ pub use transaction_laws::{
     a_view_keeps_its_place, a_write_dooms_what_is_overlapped,
     committed_rows_are_those_of_running_alone, committed_transactions_are_serializable,
     conflict_is_told_where_a_transaction_is_doomed, every_transaction_ended_or_is_open,
-    every_transaction_ran_alone, open_transactions_stand_alone, out_of_memory_is_never_demanded,
+    every_transaction_ran_alone, legal_histories_are_serializable, open_transactions_stand_alone,
+    out_of_memory_is_never_demanded, transactions_of_a_history_ran_alone,
 };
 pub use txs::Txs;

@@ -4,7 +4,7 @@ ghost use Rattle.std.specs.Prelude.{◌≡◌, ◌<◌, suc, slice_index, slice_
 ghost use Rattle.mx_vclock.specs.Vclocks.{max_lsn, IsNext};
 ghost use Rattle.mx_request.specs.declared.request.Request.{Request};
 ghost use Rattle.mx_request.specs.Spelling.{type_number};
-ghost use Rattle.mx_model.specs.Histories.{is_write, writable_node};
+ghost use Rattle.mx_model.specs.Bases.{is_write, writable_node};
 
 use mx_vclock::Vclock;
 

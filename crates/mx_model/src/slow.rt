@@ -3,7 +3,7 @@
 
 ghost use Rattle.std.specs.Prelude.{◌≡◌, [], IfOk, MatchResult};
 ghost use Rattle.mx_space.specs.Stored.{Holds};
-ghost use Rattle.mx_model.specs.Histories.{Base, CanBeAsked};
+ghost use Rattle.mx_model.specs.Bases.{Base, CanBeAsked};
 ghost use Rattle.mx_model.specs.Slow.{Answers, IsSlow, statement_reads};
 ghost use Rattle.mx_model.specs.SlowReads.{HasRead};
 ghost use Rattle.mx_model.specs.Streams.{Streams, streams_left};

@@ -17,16 +17,18 @@ ghost use Rattle.mx_model.specs.declared.reply.Reply.TheVariants.{Empty, Refused
 ghost use Rattle.mx_model.specs.Alone.{AllStandAlone, StandsAlone, answers_alone};
 ghost use Rattle.mx_model.specs.Answers.{state_after_rows};
 ghost use Rattle.mx_model.specs.Frame.{IsDataStatement};
-ghost use Rattle.mx_model.specs.Histories.{CanBeAsked, Base, is_out_of_memory};
+ghost use Rattle.mx_model.specs.Bases.{CanBeAsked, Base, is_out_of_memory};
+ghost use Rattle.mx_model.specs.Histories.{History, IsLegal, journal_of, ledger_of};
+ghost use Rattle.mx_model.specs.HistoryStreams.{streams_in};
 ghost use Rattle.mx_model.specs.Overlaps.{Active, Doomed, IsWithin, TransactionStep, Transaction, View, has_row, is_some_row, place_read, reads_before, standing, standing_after_commit, standing_after_step, state_after_first, statements_in};
 ghost use Rattle.mx_model.specs.RunAlone.{run_alone, writes, answer_alone};
+ghost use Rattle.mx_model.specs.Serializability.{IsSerializable};
 ghost use Rattle.mx_model.specs.Streams.{Streams, commit_with, outcome_of, streams_after, streams_left, transaction_named, transaction_with, transaction_with_all, Goes, state_read, step_of};
 ghost use Rattle.mx_model.specs.StreamHistories.{HaveOwnNames, IsLegalStreams, RanAlone, StreamHistory, begun_in, ended_in, streams_of};
 ghost use Rattle.mx_model.specs.Touches.{rows_meet};
 ghost use Rattle.mx_model.specs.Transactions.{is_schema_commit, state_after};
 ghost use Rattle.mx_model.specs.statements.Answer.{Answer};
 ghost use Rattle.mx_model.specs.statements.Statement.{Statement, statement_of};
-ghost use Rattle.mx_model.specs.StreamHistories.{IsLegalStreams, RanAlone, StreamHistory, ended_in, streams_of};
 
 /// A commit changes how an open transaction stands exactly as the table of `standing_after_commit` says: it
 /// overlaps one that wasn't overlapped where it touches what that one has read, and dooms one that has a
@@ -155,6 +157,22 @@ pub fn every_transaction_ran_alone()
     ensures ended { (base : Base) (history : StreamHistory) → IsLegalStreams base history
         → AllByRecursion (RanAlone base (streams_of base history).journal) (ended_in base history) }
     ensures still_there { (base : Base) (history : StreamHistory) → IsLegalStreams base history → AllStandAlone (streams_of base history) }
+{}
+
+/// So it is in every legal history of a database: what it comes to follows from its requests and disconnects
+/// alone, which are a legal history of streams.
+pub fn transactions_of_a_history_ran_alone()
+    ensures streams { (base : Base) (history : History) → (ledger_of base history).streams ≡ streams_of base (streams_in history) }
+    ensures legal { (base : Base) (history : History) → IsLegal base history → IsLegalStreams base (streams_in history) }
+    ensures ran { (base : Base) (history : History) → IsLegal base history
+        → AllByRecursion (RanAlone base (journal_of base history)) (ended_in base (streams_in history)) }
+    ensures still_there { (base : Base) (history : History) → IsLegal base history → AllStandAlone (ledger_of base history).streams }
+{}
+
+/// So a legal history of a database is serializable: its transactions and the statements outside of them were
+/// each answered as if alone, those that write in the order of the journal.
+pub fn legal_histories_are_serializable()
+    ensures { (base : Base) (history : History) → IsLegal base history → IsSerializable base history }
 {}
 
 /// None is lost: as many transactions have ended or are open as were begun, and no two that are open have one

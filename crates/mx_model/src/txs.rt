@@ -2,7 +2,7 @@
 
 ghost use Rattle.std.specs.Prelude.{◌≡◌, List, [], ◌∷◌, ◌++◌, Some, OnOk, OnErr, IsTrue, ◌↔◌};
 
-use mx_row::Tx;
+use mx_row::{Rows, Tx};
 use std::alloc::{AllocError, Global};
 use std::marker::Model;
 
@@ -48,6 +48,15 @@ impl Txs {
     {
         self.items.push(tx)?;
         Ok(())
+    }
+
+    /// Gives the last transaction these rows, in place of its own.
+    pub fn fill_last(&mut self, rows: Rows)
+        ensures { (prefix : List Tx) (last : Tx) → self.old ≡ prefix ++ last ∷ [] → self.new ≡ prefix ++ record last { rows = rows } ∷ [] }
+    {
+        if let Some(last) = self.items.last_mut() {
+            last.rows = rows;
+        }
     }
 
     /// Takes the last transaction off.

@@ -6,7 +6,7 @@ ghost use Rattle.mx_request.specs.declared.request.Request.TheVariants as reques
 ghost use Rattle.mx_row.specs.declared.row.Row.{Row};
 ghost use Rattle.mx_write.specs.Writable.{describes_schema};
 ghost use Rattle.mx_vclock.specs.Vclocks.{max_lsn};
-ghost use Rattle.mx_model.specs.Histories.{writable_node};
+ghost use Rattle.mx_model.specs.Bases.{writable_node};
 ghost use Rattle.mx_model.specs.RunAlone.{Run};
 ghost use Rattle.mx_model.specs.Slow.{Answers, IsSlow, RunStands, Tells};
 ghost use Rattle.mx_model.specs.Streams.{Streams, commit_with, commits_rows};

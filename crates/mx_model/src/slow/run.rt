@@ -7,7 +7,7 @@ ghost use Rattle.mx_row.specs.declared.row.Row.{Row};
 ghost use Rattle.mx_row.specs.Limits.{has_room, row_size as plain_row_size, rows_size};
 ghost use Rattle.mx_schema.specs.State as plain;
 ghost use Rattle.mx_write.specs.Change.{Change, state_after_changed};
-ghost use Rattle.mx_model.specs.Histories.{is_write, writable_node};
+ghost use Rattle.mx_model.specs.Bases.{is_write, writable_node};
 ghost use Rattle.mx_model.specs.Overlaps.{TransactionStep, state_after_first, statements_in};
 ghost use Rattle.mx_model.specs.RunAlone.{Run, answer_in_run, run_alone, run_with, statement_answer, within_limits};
 ghost use Rattle.mx_model.specs.Slow.{IsSlow, KeepsStep, RunStands, saturated, statement_reads};

@@ -4,7 +4,7 @@ ghost use Rattle.std.specs.Prelude.{◌≡◌, ◌≤◌, ◌-◌, ◌&&◌, ◌
 ghost use Rattle.std.specs.List.{list_any};
 ghost use Rattle.mx_model.specs.Overlaps.{Transaction, doomed_or_view, is_some_row, overlap_of, place_read, standing};
 ghost use Rattle.mx_model.specs.Slow.{IsSlow, KeepsTransaction, standing_view};
-ghost use Rattle.mx_model.specs.Histories.{is_write};
+ghost use Rattle.mx_model.specs.Bases.{is_write};
 ghost use Rattle.mx_model.specs.SlowTouches.{meet};
 ghost use Rattle.mx_model.specs.Streams.{Streams};
 

@@ -3,7 +3,7 @@
 ghost use Rattle.std.specs.Prelude.{◌≡◌, ◌<◌, ◌&&◌, Some, IfOk, MatchResult, length};
 ghost use Rattle.mx_base.specs.declared.ids.TxnName.{TxnName};
 ghost use Rattle.mx_write.specs.Writable.{describes_schema};
-ghost use Rattle.mx_model.specs.Histories.{CanBeAsked};
+ghost use Rattle.mx_model.specs.Bases.{CanBeAsked};
 ghost use Rattle.mx_model.specs.Overlaps.{Transaction};
 ghost use Rattle.mx_model.specs.RunAlone.{writes};
 ghost use Rattle.mx_model.specs.Slow.{GoesOn, IsNamedAt, IsSlow, KeepsTransaction, Tells, standing_view, told_by};

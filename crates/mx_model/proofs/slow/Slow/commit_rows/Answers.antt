@@ -7,7 +7,7 @@ use Rattle.mx_row.specs.declared.row.Row.{Row}
 use Rattle.mx_vclock.specs.Vclocks.{max_lsn}
 use Rattle.mx_model.specs.declared.ids.Ids.{Ids}
 use Rattle.mx_model.specs.declared.reply.Reply.TheVariants.{Empty, Refused}
-use Rattle.mx_model.specs.Histories.{writable_node}
+use Rattle.mx_model.specs.Bases.{writable_node}
 use Rattle.mx_model.specs.Streams.{Ends, Streams, commit_with, commits_rows}
 use Rattle.mx_model.proofs.SlowStreamLaws.{commits_all, commits_read_only, commits_used_up, ends_committed, ends_with, lsn_is, no_row_where, some_row_where}
 use Rattle.mx_model.proofs.slow.Slow.commit_rows.Goals as goal

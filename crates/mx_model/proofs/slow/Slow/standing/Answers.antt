@@ -2,7 +2,7 @@ use Rattle.std.proofs.Common.{arith, ◌≤◌, ◌-◌, ◌||◌, drop, length,
 use Rattle.std.specs.Prelude.{nat_le, ◌&&◌}
 use Rattle.std.specs.List.{AllZip, list_any}
 use Rattle.mx_model.specs.declared.slow.transactions.SlowStep.{SlowStep}
-use Rattle.mx_model.specs.Histories.{is_write}
+use Rattle.mx_model.specs.Bases.{is_write}
 use Rattle.mx_model.specs.Overlaps.{doomed_or_view, is_some_row}
 use Rattle.mx_model.specs.Slow.{KeepsStep}
 use Rattle.mx_model.specs.Transactions.{is_schema_commit}
