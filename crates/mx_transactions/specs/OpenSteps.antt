@@ -1,5 +1,5 @@
 -- What the calls on open transactions find and make of them.
-use Rattle.std.specs.Prelude.{◌≡◌, ◌≢◌, ℕ, Bool, true, false, ◌||◌, ◌<◌, List, [], ◌∷◌, length, take, Option, Some, None, Result, Ok, Err, IsSome, MatchOption, slice_get, if◌then◌else◌}
+use Rattle.std.specs.Prelude.{◌≡◌, ◌≢◌, ℕ, Bool, true, false, not, ◌&&◌, ◌||◌, ◌<◌, ◌==◌, List, [], ◌∷◌, length, take, Option, Some, None, Result, Ok, Err, IsSome, MatchOption, slice_get, if◌then◌else◌}
 use Rattle.std.specs.FinMap.{get}
 use Rattle.std.specs.List.{list_any}
 use Rattle.std.specs.Option.{option_map}
@@ -126,6 +126,23 @@ pub record KeepsMore (old new : Open) : Type 0 where
   pub tracks : new.tracks ≡ old.tracks
   pub works : new.works ≡ old.works
   pub more : (number : ℕ) (memory : memory.State) → kept_at number old.kept ≡ Some memory → kept_at number new.kept ≡ Some memory
+
+-- a transaction is active and has written nothing
+abbrev pub is_reader_with : Option TxnState → Option Work → Bool
+is_reader_with (Some (txn.Active since)) (Some work) = not (has_rows work)
+is_reader_with state work = false
+
+abbrev pub is_reader : Open → (slot : ℕ) → Bool
+is_reader all slot = is_reader_with (get all.slots slot) (slice_get all.works slot)
+
+-- a slot is another one than that of a commit
+abbrev pub is_beside : (committing : Option ℕ) → (slot : ℕ) → Bool
+is_beside None slot = true
+is_beside (Some committing) slot = not (slot == committing)
+
+-- a commit by these marks gives a slot's transaction a view of the state before it; but not the transaction that commits
+abbrev pub gets_view : Open → (marks : List Bool) → (committing : Option ℕ) → (slot : ℕ) → Bool
+gets_view all marks committing slot = is_beside committing slot && is_marked marks slot && is_reader all slot
 
 -- where a commit by these marks gives a transaction a view of the state before it, that state is kept; but for the transaction that commits
 abbrev pub ViewsAreKept : Open → (marks : List Bool) → (commits : ℕ) → (committing : Option ℕ) → Type 0

@@ -27,7 +27,7 @@ ghost use Rattle.mx_model.specs.Streams.{Streams, begins_beside, is_name, stream
 ghost use Rattle.mx_transactions.specs.Open.{HasRun, HasSlot, HaveOwnSlots, HoldsOpen, SlotHas, WritesNothing, slot_named};
 ghost use Rattle.mx_txn.specs.declared.state.TxnState.TheVariants.{Aborted, Active, View};
 ghost use Rattle.mx_transactions.specs.declared.work.Work.{Work};
-ghost use Rattle.mx_transactions.specs.OpenSteps.{ChangesTo, ComesTo, FindsOpen, KeepsMore, Moves, MovesSlot, StandsOn, StaysAt, TellsOpen, ViewsAreKept, beside, has_rows};
+ghost use Rattle.mx_transactions.specs.OpenSteps.{ChangesTo, ComesTo, FindsOpen, KeepsMore, Moves, MovesSlot, StandsOn, StaysAt, TellsOpen, ViewsAreKept, beside, gets_view, has_rows, is_beside, is_reader};
 
 use crate::names::{Named, OpenNames};
 use crate::work::Work;
@@ -278,6 +278,7 @@ impl OpenTransactions {
             → kept_at commits self.new.kept ≡ Some memory → Holds memory before }
         ensures others { (number : ℕ) → number ≢ commits → kept_at number self.new.kept ≡ kept_at number self.old.kept }
         ensures ready { OnOk result (ViewsAreKept self.new marks.now commits committing) }
+        ensures spares { ((slot : ℕ) → gets_view self.old marks.now committing slot ≡ false) → self.new ≡ self.old }
         ensures err { OnErr result ((number : ℕ) → kept_at number self.new.kept ≡ kept_at number self.old.kept) }
     {
         if self.gives_view(marks, committing) {
@@ -289,7 +290,8 @@ impl OpenTransactions {
 
     /// Whether a commit by these marks gives a transaction a view, but for that of one slot.
     fn gives_view(&self, marks: &MarkSet, committing: Option<Slot>) -> bool
-        ensures { result ≡ false → (slot since : ℕ) → Some slot ≢ committing → get self.now.slots slot ≡ Some (Active since) → is_marked marks.now slot ≡ true
+        ensures gives { result ≡ true → (slot : ℕ) × (gets_view self.now marks.now committing slot ≡ true) }
+        ensures none { result ≡ false → (slot since : ℕ) → Some slot ≢ committing → get self.now.slots slot ≡ Some (Active since) → is_marked marks.now slot ≡ true
             → (work : Work) → slice_get self.now.works slot ≡ Some work → has_rows work ≡ true }
     {
         let mut from = 0;
@@ -319,7 +321,8 @@ impl OpenTransactions {
     /// Whether a slot's transaction is active and has written nothing.
     fn is_active_without_rows(&self, slot: Slot) -> bool
         requires live { IsLive self.now.slots slot }
-        ensures { (since : ℕ) → get self.now.slots slot ≡ Some (Active since) → (work : Work) → slice_get self.now.works slot ≡ Some work → result ≡ not (has_rows work) }
+        ensures reader { result ≡ true → is_reader self.now slot ≡ true }
+        ensures rows { (since : ℕ) → get self.now.slots slot ≡ Some (Active since) → (work : Work) → slice_get self.now.works slot ≡ Some work → result ≡ not (has_rows work) }
     {
         match self.slots.state(slot) {
             TxnState::Active { .. } => self.works[slot.number() as usize]
@@ -379,7 +382,8 @@ impl OpenTransactions {
     /// Whether a commit by these marks gives a slot's transaction a view, but for that of one slot.
     fn gets_view(&self, slot: Slot, marks: &MarkSet, committing: &Option<Slot>) -> bool
         requires live { IsLive self.now.slots slot }
-        ensures { result ≡ false → (since : ℕ) → Some slot ≢ committing.now → get self.now.slots slot ≡ Some (Active since) → is_marked marks.now slot ≡ true
+        ensures gives { result ≡ true → gets_view self.now marks.now committing.now slot ≡ true }
+        ensures none { result ≡ false → (since : ℕ) → Some slot ≢ committing.now → get self.now.slots slot ≡ Some (Active since) → is_marked marks.now slot ≡ true
             → (work : Work) → slice_get self.now.works slot ≡ Some work → has_rows work ≡ true }
     {
         is_other(slot, committing) && marks.has(slot.number()) && self.is_active_without_rows(slot)
@@ -388,7 +392,8 @@ impl OpenTransactions {
 
 /// Whether a slot is another one than that of a commit.
 fn is_other(slot: Slot, committing: &Option<Slot>) -> bool
-    ensures { Some slot ≢ committing.now → result ≡ true }
+    ensures beside { result ≡ true → is_beside committing.now slot ≡ true }
+    ensures other { Some slot ≢ committing.now → result ≡ true }
 {
     match committing {
         Some(committing) => slot.number() != committing.number(),

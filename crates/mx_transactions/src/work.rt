@@ -65,7 +65,7 @@ impl Work {
     }
 
     /// Whether a further row is within the limits of a transaction.
-    pub(crate) fn has_room(&self, row: &RowRef<'_>) -> bool
+    pub fn has_room(&self, row: &RowRef<'_>) -> bool
         ensures { (rows : List PlainRow) → self.now.rows ≡ rows → self.now.size ≡ saturated (rows_size rows) → result ≡ has_room rows (row_value row.now) }
     {
         self.rows.as_slice().len() < MAX_ROWS
