@@ -1,2 +1,8 @@
-pub mod EngineLaws
+pub mod CommitWorkLaws
+pub mod OutcomeLaws
 pub mod SelectLaws
+pub mod StandingLaws
+pub mod StatementLaws
+pub mod StepLaws
+pub mod ViewLaws
+pub mod WriteLaws

@@ -1,3 +1,4 @@
-pub mod Views
 pub mod Standing
+pub mod StatementViews
 pub mod Steps
+pub mod Views

@@ -1,34 +1,51 @@
 //! The engine.
 
-ghost use Rattle.std.specs.Prelude.{◌≡◌, ◌==◌, None, ◌<◌, ◌-◌, ◌^◌, ◌∷◌, [], length, IfOk};
+ghost use Rattle.std.specs.Prelude.{◌≡◌, ◌==◌, ℕ, List, None, ◌<◌, ◌-◌, ◌^◌, ◌∷◌, [], length, IfOk};
 ghost use Rattle.std.specs.List.{Contains};
-ghost use Rattle.mx_schema.specs.State as plain;
 ghost use Rattle.mx_space.specs.Stored.{Holds};
 ghost use Rattle.mx_base.specs.declared.refusal.Refusal.{Refusal};
 ghost use Rattle.mx_request.specs.declared.request.Ask.TheVariants as ask;
 ghost use Rattle.mx_request.specs.declared.request.Request.{Request};
 ghost use Rattle.mx_request.specs.InPlace.{request_view};
-ghost use Rattle.mx_request.specs.Spelling.{IsAskable};
+ghost use Rattle.mx_request.specs.Spelling.{IsAskable, type_number};
 ghost use Rattle.mx_model.specs.declared.reply.Reply.TheVariants.{Refused};
-ghost use Rattle.mx_model.specs.Answers.{answer_to};
-ghost use Rattle.mx_write.specs.Writes.{write_in};
-ghost use Rattle.mx_model.specs.Histories.{Base, writable_node, History, Asked, Left, Took, Confirmed, ledger_of, journal_of, clock_of};
+ghost use Rattle.mx_model.specs.Alone.{AllStandAlone};
+ghost use Rattle.mx_model.specs.Frame.{OperationHasBytes};
+ghost use Rattle.mx_model.specs.Bases.{Base, writable_node};
+ghost use Rattle.mx_model.specs.Histories.{History, Asked, Left, Took, Confirmed, ledger_of, journal_of, clock_of};
+ghost use Rattle.mx_model.specs.Streams.{AllHaveStreams, Streams, states, states_alone, transaction_named};
 ghost use Rattle.mx_model.specs.Transactions.{schema_version};
-ghost use Rattle.mx_engine.specs.Standing.{EngineStandsFor};
-ghost use Rattle.mx_engine.specs.Steps.{IsReplyOf};
+ghost use Rattle.mx_model.specs.statements.Statement.{statement_of};
+ghost use Rattle.mx_engine.specs.Standing.{EngineStandsFor, HasStreams};
+ghost use Rattle.mx_engine.specs.StatementViews.{AreKeysArrays, statement_view};
+ghost use Rattle.mx_engine.specs.Steps.{AnswersRequest, CountsStep, SameNode, TellsOrLacks};
 ghost use Rattle.mx_engine.specs.Views.{reply_of, reply_view};
 
 use crate::answer::{Answer, Answered};
 use crate::pending::Pending;
-use mx_base::{ConnId, Refusal, ReplicaId, TxnName};
-use mx_model::{Ids, Txs, WRITABLE_NODE, is_write, iterator_of};
+use crate::statement::{StatementRef, statement_in, statement_of};
+use mx_base::{ConnId, Refusal, TxnName};
+use mx_model::{Ids, Txs, WRITABLE_NODE};
 use mx_msgpack::Tuples;
 use mx_request::{Request, RequestRef};
-use mx_schema::array_or_empty;
-use mx_space::{Pick, State};
+use mx_space::State;
+use mx_transactions::OpenTransactions;
 use mx_vclock::Vclock;
-use mx_write::{not_built, write_in, write_of_request};
+use mx_write::not_built;
 use std::alloc::{AllocError, Global};
+
+// The numbers of the types of requests that are no statements.
+const NOP: u8 = 12;
+
+const BEGIN: u8 = 14;
+
+const COMMIT: u8 = 15;
+
+const ROLLBACK: u8 = 16;
+
+const PING: u8 = 64;
+
+const ID: u8 = 73;
 
 /// A database in memory. Each call that changes it is one step, which the engine counts.
 ///
@@ -40,6 +57,9 @@ pub struct Engine {
     pub(crate) state: State,
     pub(crate) clock: Vclock,
     ids: Ids,
+    /// How many commits were made.
+    pub(crate) commits: u64,
+    pub(crate) open: OpenTransactions,
     pub(crate) pending: Txs,
     count: u64,
     durable: u64,
@@ -63,6 +83,8 @@ impl Engine {
             state,
             clock,
             ids,
+            commits: 0,
+            open: OpenTransactions::new(alloc)?,
             pending: Txs::new(alloc),
             count: 0,
             durable: 0,
@@ -88,26 +110,18 @@ impl Engine {
 
     fn request_into(
         &mut self,
-        _name: TxnName,
+        name: TxnName,
         request: &Request,
         found: &mut Tuples,
     ) -> Result<Answered, Refusal>
         requires { self.old.count < 2 ^ 63 - 1 }
         ensures { (base : Base) (history : History) → EngineStandsFor self.old base history → IsAskable request.now
-            → EngineStandsFor self.new base (Asked _name (ask.Request request.now) (reply_of result found.new) ∷ history) }
+            → EngineStandsFor self.new base (Asked name (ask.Request request.now) (reply_of result found.new) ∷ history) }
     {
         self.count += 1;
-        if !is_write(request.kind()) {
-            return self.read(request, found);
-        }
-        let write = write_of_request(request);
-        if !self.is_writable() {
-            let writable = ReplicaId(WRITABLE_NODE);
-            return Err(Refusal::ReadOnly { writable });
-        }
-        match write {
-            Some((space, write)) => self.write(space, &write, found),
-            None => self.read(request, found),
+        match statement_of(request) {
+            Some(statement) => self.statement(name, &statement, found),
+            None => self.other(name, request.kind()),
         }
     }
 
@@ -118,27 +132,19 @@ impl Engine {
     /// The request is refused, and the state is as it was.
     pub fn request_in_place(
         &mut self,
-        _name: TxnName,
+        name: TxnName,
         request: &RequestRef<'_>,
         found: &mut Tuples,
     ) -> Result<Answered, Refusal>
         requires room { self.old.count < 2 ^ 63 - 1 }
         requires askable { IsAskable (request_view request.now) }
         ensures { (base : Base) (history : History) → EngineStandsFor self.old base history
-            → EngineStandsFor self.new base (Asked _name (ask.Request (request_view request.now)) (reply_of result found.new) ∷ history) }
+            → EngineStandsFor self.new base (Asked name (ask.Request (request_view request.now)) (reply_of result found.new) ∷ history) }
     {
         self.count += 1;
-        if !is_write(request.kind()) {
-            return self.read_in_place(request, found);
-        }
-        let write = write_in(request);
-        if !self.is_writable() {
-            let writable = ReplicaId(WRITABLE_NODE);
-            return Err(Refusal::ReadOnly { writable });
-        }
-        match write {
-            Some((space, write)) => self.write(space, &write, found),
-            None => self.read_in_place(request, found),
+        match statement_in(request) {
+            Some(statement) => self.statement(name, &statement, found),
+            None => self.other(name, request.kind()),
         }
     }
 
@@ -152,14 +158,14 @@ impl Engine {
         self.count += 1;
     }
 
-    /// Counts the step of a connection that disconnects.
-    pub fn leave(&mut self, _conn: ConnId)
+    /// Rolls the transactions of a connection back that disconnects.
+    pub fn leave(&mut self, conn: ConnId)
         requires { self.old.count < 2 ^ 63 - 1 }
         ensures { (base : Base) (history : History) → EngineStandsFor self.old base history
-            → EngineStandsFor self.new base (Left _conn.0 ∷ history) }
+            → EngineStandsFor self.new base (Left conn.0 ∷ history) }
     {
-        // No transaction outlives its request so far, so there is none to drop.
         self.count += 1;
+        self.open.leave(conn);
     }
 
     /// Hands out the commits that weren't taken before, to be written.
@@ -224,89 +230,69 @@ impl Engine {
     }
 
     /// Whether this node takes writes. Every node takes reads.
-    fn is_writable(&self) -> bool
+    pub(crate) fn is_writable(&self) -> bool
         ensures { result ≡ (self.now.ids.me == writable_node) }
     {
         self.ids.me == WRITABLE_NODE
     }
 
-    /// Answers a request that is no write.
-    fn read(&self, request: &Request, found: &mut Tuples) -> Result<Answered, Refusal>
-        ensures { (state : plain.State) → Holds self.now.state state → write_in request.now ≡ None → IsReplyOf (reply_of result found.new) (answer_to state request.now) }
+    /// Answers a statement, by itself or in the transaction that is open under the name.
+    fn statement(
+        &mut self,
+        name: TxnName,
+        statement: &StatementRef<'_>,
+        found: &mut Tuples,
+    ) -> Result<Answered, Refusal>
+        requires arrays { AreKeysArrays statement.now }
+        ensures answers { (streams : Streams) → HasStreams self.old streams → AllStandAlone streams → AllHaveStreams streams.transactions → CountsStep self.old → OperationHasBytes (statement_view statement.now).operation
+            → TellsOrLacks self.old self.new streams name (states streams (transaction_named name streams.transactions) (statement_view statement.now)) (reply_of result found.new) }
+        ensures keeps { SameNode self.old self.new }
     {
-        match request {
-            Request::Select {
-                space,
-                index,
-                limit,
-                offset,
-                iterator,
-                key,
-            } => {
-                let pick = Pick {
-                    iterator: iterator_of(*iterator),
-                    key: array_or_empty(key.as_slice()),
-                    offset: *offset,
-                    limit: *limit,
-                };
-                self.select(*space, *index, &pick, found)
-            }
-            Request::Nop | Request::Ping => Ok(Answered::Empty),
-            Request::Id => Ok(Answered::Id),
-            Request::Insert { .. }
-            | Request::Replace { .. }
-            | Request::Update { .. }
-            | Request::Delete { .. }
-            | Request::Upsert { .. } => Err(not_built(request.kind())),
-            Request::Begin
-            | Request::Commit
-            | Request::Rollback
-            | Request::Join { .. }
-            | Request::Subscribe { .. }
-            | Request::Ack { .. } => Err(not_built(request.kind())),
+        let is_outside = name.stream.0 == 0;
+        if is_outside {
+            return self.alone(statement, found);
+        }
+        match self.open.find(name) {
+            Some((slot, state)) => self.step(slot, state, statement, found),
+            None => self.alone(statement, found),
         }
     }
 
-    /// As `read`, of a request that stands in its packet.
-    fn read_in_place(
-        &self,
-        request: &RequestRef<'_>,
+    /// Answers a statement by itself, and commits its row.
+    fn alone(
+        &mut self,
+        statement: &StatementRef<'_>,
         found: &mut Tuples,
     ) -> Result<Answered, Refusal>
-        requires askable { IsAskable (request_view request.now) }
-        ensures { (state : plain.State) → Holds self.now.state state → write_in (request_view request.now) ≡ None
-            → IsReplyOf (reply_of result found.new) (answer_to state (request_view request.now)) }
+        requires arrays { AreKeysArrays statement.now }
+        ensures answers { (streams : Streams) (name : TxnName) → HasStreams self.old streams → AllStandAlone streams → CountsStep self.old → OperationHasBytes (statement_view statement.now).operation
+            → TellsOrLacks self.old self.new streams name (states_alone streams (statement_view statement.now)) (reply_of result found.new) }
+        ensures keeps { SameNode self.old self.new }
     {
-        match request {
-            RequestRef::Select {
-                space,
-                index,
-                limit,
-                offset,
-                iterator,
-                key,
-            } => {
-                let pick = Pick {
-                    iterator: iterator_of(*iterator),
-                    key,
-                    offset: *offset,
-                    limit: *limit,
-                };
-                self.select(*space, *index, &pick, found)
-            }
-            RequestRef::Nop | RequestRef::Ping => Ok(Answered::Empty),
-            RequestRef::Id => Ok(Answered::Id),
-            RequestRef::Insert { .. }
-            | RequestRef::Replace { .. }
-            | RequestRef::Update { .. }
-            | RequestRef::Delete { .. }
-            | RequestRef::Upsert { .. } => Err(not_built(request.kind())),
-            RequestRef::Begin
-            | RequestRef::Commit
-            | RequestRef::Rollback
-            | RequestRef::Join { .. }
-            | RequestRef::Subscribe { .. }
-            | RequestRef::Ack { .. } => Err(not_built(request.kind())),
+        match statement {
+            StatementRef::Select(wanted) => self.select(
+                wanted.space,
+                wanted.index,
+                &wanted.pick(),
+                found,
+            ),
+            StatementRef::Write { space, write } => self.write(*space, write, found),
+        }
+    }
+
+    /// Answers a request of this type that is no statement.
+    fn other(&mut self, name: TxnName, kind: u8) -> Result<Answered, Refusal>
+        ensures answers { (streams : Streams) (asked : Request) (found : List (List ℕ)) → HasStreams self.old streams → AllStandAlone streams → CountsStep self.old → kind ≡ type_number asked → statement_of asked ≡ None
+            → AnswersRequest self.old self.new streams name asked (reply_of result found) }
+        ensures keeps { SameNode self.old self.new }
+    {
+        match kind {
+            BEGIN => self.begin(name),
+            COMMIT => self.commit(name),
+            ROLLBACK => self.rollback(name),
+            NOP | PING => Ok(Answered::Empty),
+            ID => Ok(Answered::Id),
+            _ => Err(not_built(kind)),
         }
     }
 }

@@ -4,7 +4,9 @@
 mod answer;
 mod engine;
 mod pending;
+mod statement;
 mod statements;
+mod transactions;
 
 pub use answer::{Answer, Answered};
 pub use engine::Engine;

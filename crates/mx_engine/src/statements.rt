@@ -1,4 +1,5 @@
 //! What the engine does for each statement.
 
-mod select;
-mod write;
+pub(crate) mod select;
+mod step;
+pub(crate) mod write;

@@ -1,33 +1,37 @@
 //! The writes: INSERT, REPLACE, UPDATE, DELETE and UPSERT.
 
-ghost use Rattle.std.specs.Prelude.{◌≡◌, ◌+◌, ◌%◌, ◌^◌, Some, true, ◌∷◌, [], IfOk, OnOk, MatchResult, if◌then◌else◌};
-ghost use Rattle.mx_request.specs.Spelling.{IsAskable};
-ghost use Rattle.mx_request.specs.declared.request.Request.{Request};
+ghost use Rattle.std.specs.Prelude.{◌≡◌, ◌+◌, ◌%◌, ◌^◌, ◌∷◌, [], IfOk, OnOk, MatchResult, if◌then◌else◌};
+ghost use Rattle.std.specs.Option.{option_copied, option_map};
+ghost use Rattle.mx_base.specs.declared.ids.TxnName.{TxnName};
 ghost use Rattle.mx_row.specs.Views.{row_value};
-ghost use Rattle.mx_schema.specs.State as plain;
-ghost use Rattle.mx_space.specs.Stored.{Holds};
 ghost use Rattle.mx_write.specs.Makes.{tuples_shown};
 ghost use Rattle.mx_write.specs.Made.{row_with};
 ghost use Rattle.mx_write.specs.Views.{AreArrays, write_view};
 ghost use Rattle.mx_write.specs.Writable.{describes_schema};
-ghost use Rattle.mx_write.specs.Writes.{write_in};
+ghost use Rattle.mx_write.specs.Writes.{HasBytes};
+ghost use Rattle.mx_write.specs.declared.write.Write as place;
+ghost use Rattle.mx_model.specs.Alone.{AllStandAlone};
+ghost use Rattle.mx_model.specs.Streams.{Streams, states_alone};
+ghost use Rattle.mx_engine.specs.Standing.{HasStreams};
+ghost use Rattle.mx_engine.specs.StatementViews.{write_in_space};
 ghost use Rattle.mx_engine.specs.Steps as steps;
-ghost use Rattle.mx_engine.specs.Steps.{AnswersRequest, IsWriteOf, SameNode, Stores};
+ghost use Rattle.mx_engine.specs.Steps.{CountsCommit, CountsStep, IsWriteOf, Keeps, Prepares, Readies, SameNode, Stores, TellsOrLacks, row_made};
 ghost use Rattle.mx_engine.specs.Views.{reply_of};
 
 use crate::answer::Answered;
 use crate::engine::Engine;
+use crate::statement::describes_schema;
 use mx_base::{Lsn, Refusal, ReplicaId, SpaceId};
 use mx_model::{WRITABLE_NODE, next_lsn};
 use mx_msgpack::Tuples;
 use mx_row::{RowRef, Tx};
-use mx_schema::{INDEX_ROWS, SPACE_ROWS};
 use mx_space::StateView;
+use mx_tracker::{MarkSet, TouchedKeys};
 use mx_write::{Effect, Made, Notes, Scope, Write, Writer, row_of};
 use std::alloc::{AllocError, Global};
 
 impl Engine {
-    /// Makes a write, and commits what it changes.
+    /// Makes a write by itself, and commits what it changes.
     pub(crate) fn write(
         &mut self,
         space: SpaceId,
@@ -35,18 +39,21 @@ impl Engine {
         found: &mut Tuples,
     ) -> Result<Answered, Refusal>
         requires arrays { AreArrays write.now }
-        ensures answers { (state : plain.State) (asked : Request) → Holds self.old.state state → IsAskable asked → steps.accepts self.old.ids asked ≡ true
-            → write_in asked ≡ Some (space.0, write_view write.now) → AnswersRequest self.old self.new state asked (reply_of result found.new) }
+        ensures answers { (streams : Streams) (name : TxnName) → HasStreams self.old streams → AllStandAlone streams → CountsStep self.old → HasBytes (write_view write.now)
+            → TellsOrLacks self.old self.new streams name (states_alone streams (write_in_space space write.now)) (reply_of result found.new) }
         ensures keeps { SameNode self.old self.new }
     {
+        if !self.is_writable() {
+            let writable = ReplicaId(WRITABLE_NODE);
+            return Err(Refusal::ReadOnly { writable });
+        }
         let scope = Scope {
             view: StateView::of(&self.state),
             alloc: self.alloc,
             writer: Writer::Client,
             space,
         };
-        let made = scope.judge(write, &mut Notes::off())?;
-        match made {
+        match scope.judge(write, &mut Notes::off())? {
             Some(made) => self.put(space, write, made, found),
             None => {
                 found.clear();
@@ -63,15 +70,15 @@ impl Engine {
         made: Made,
         found: &mut Tuples,
     ) -> Result<Answered, Refusal>
-        ensures answers { (state : plain.State) (asked : Request) → IsWriteOf self.old state space write.now made asked
-            → AnswersRequest self.old self.new state asked (reply_of result found.new) }
+        ensures answers { (streams : Streams) (name : TxnName) → IsWriteOf self.old streams space write.now made
+            → TellsOrLacks self.old self.new streams name (states_alone streams (write_in_space space write.now)) (reply_of result found.new) }
         ensures keeps { SameNode self.old self.new }
     {
         let mut clock = self.clock;
         let Some(lsn) = next_lsn(&mut clock) else {
             return Err(Refusal::LsnsUsedUp);
         };
-        match self.commit(lsn, space, write, made, found) {
+        match self.commit_alone(lsn, space, write, made, found) {
             Ok(()) => {
                 self.clock = clock;
                 Ok(Answered::Tuples)
@@ -80,7 +87,11 @@ impl Engine {
         }
     }
 
-    fn commit(
+    /// Commits what a write makes, but for the vclock.
+    ///
+    /// # Errors
+    /// Out of memory. Nothing changed then.
+    fn commit_alone(
         &mut self,
         lsn: u64,
         space: SpaceId,
@@ -89,9 +100,42 @@ impl Engine {
         shown: &mut Tuples,
     ) -> Result<(), AllocError>
         ensures shown { OnOk result (shown.new ≡ tuples_shown made.effect) }
-        ensures stores { (state : plain.State) (asked : Request) → IsWriteOf self.old state space write.now made asked → MatchResult result
-            (λ _. Stores self.old self.new state (steps.transaction_of lsn (row_with space.0 (write_view write.now) made.row_key) ∷ []))
-            (λ _. Stores self.old self.new state []) }
+        ensures stores { (streams : Streams) → IsWriteOf self.old streams space write.now made → MatchResult result
+            (λ _. Stores self.old self.new streams (steps.transaction_of lsn (row_made space write.now made)))
+            (λ _. Keeps self.old self.new streams) }
+        ensures keeps { SameNode self.old self.new }
+        ensures clock { self.new.clock ≡ self.old.clock }
+    {
+        let marks = self.ready(lsn, space, write, &made, shown)?;
+        match made.install(self.alloc, &mut self.state, space) {
+            Ok(()) => {
+                self.count_commit(space, &marks);
+                Ok(())
+            }
+            Err(fault) => {
+                self.pending.pop();
+                Err(fault)
+            }
+        }
+    }
+
+    /// Takes all that the commit of a write needs but for its tuple, puts the commit behind those that wait, and
+    /// shows the tuple that its reply has. Gives which slots it overlaps, where a transaction is open.
+    ///
+    /// # Errors
+    /// Out of memory. Nothing changed then but that a state may be kept.
+    fn ready(
+        &mut self,
+        lsn: u64,
+        space: SpaceId,
+        write: &Write<'_>,
+        made: &Made,
+        shown: &mut Tuples,
+    ) -> Result<Option<Box<MarkSet>>, AllocError>
+        ensures shown { OnOk result (shown.new ≡ tuples_shown made.now.effect) }
+        ensures readies { (streams : Streams) → IsWriteOf self.old streams space write.now made.now → MatchResult result
+            (λ marks. Readies self.old self.new streams (row_made space write.now made.now) (steps.transaction_of lsn (row_made space write.now made.now)) (option_map (λ b. b.value) marks))
+            (λ _. Keeps self.old self.new streams) }
         ensures keeps { SameNode self.old self.new }
         ensures clock { self.new.clock ≡ self.old.clock }
     {
@@ -101,13 +145,45 @@ impl Engine {
             row_of(space, write, made.row_key.as_slice()),
         )?;
         show(&made.effect, shown)?;
+        let marks = self.marks_of(space, made)?;
         self.pending.push(transaction)?;
-        if let Err(fault) = made.install(self.alloc, &mut self.state, space) {
-            self.pending.pop();
-            return Err(fault);
-        }
+        Ok(marks)
+    }
+
+    /// Counts a commit into a space, and moves those that it overlaps, where there are marks.
+    fn count_commit(&mut self, space: SpaceId, marks: &Option<Box<MarkSet>>)
+        ensures counts { CountsCommit self.old self.new space.0 (option_map (λ b. b.value) marks.now) }
+        ensures keeps { SameNode self.old self.new }
+    {
         self.schema = version_after(self.schema, space);
-        Ok(())
+        if let Some(marks) = marks {
+            self.open
+                .move_overlapped(marks, describes_schema(space), self.commits);
+        }
+        self.commits = self.commits.saturating_add(1);
+    }
+
+    /// Which slots a write overlaps, where a transaction is open; the state that they will read is kept then.
+    ///
+    /// # Errors
+    /// Out of memory. Nothing is kept then.
+    fn marks_of(&mut self, space: SpaceId, made: &Made) -> Result<Option<Box<MarkSet>>, AllocError>
+        ensures marks { (streams : Streams) (write : place.Write) → IsWriteOf self.old streams space write made.now → MatchResult result
+            (λ marks. Prepares self.old self.new streams (row_made space write made.now) (option_map (λ b. b.value) marks))
+            (λ _. Keeps self.old self.new streams) }
+        ensures keeps { SameNode self.old self.new }
+        ensures clock { self.new.clock ≡ self.old.clock }
+    {
+        if self.open.is_empty() {
+            return Ok(None);
+        }
+        let mut keys = TouchedKeys::new(self.alloc);
+        made.touch(self.alloc, StateView::of(&self.state), space, &mut keys)?;
+        let marks = self.open.overlapped(&keys);
+        // In a box, since moving a thousand marks costs as much as a small commit where none is open.
+        let marks = Box::new(self.alloc, marks)?;
+        self.open.prepare(&self.state, self.commits, &*marks, None)?;
+        Ok(Some(marks))
     }
 }
 
@@ -115,7 +191,7 @@ impl Engine {
 fn version_after(version: u32, space: SpaceId) -> u32
     ensures { result ≡ (if describes_schema space.0 then (version + 1) % 2 ^ 32 else version) }
 {
-    if space.0 == SPACE_ROWS || space.0 == INDEX_ROWS {
+    if describes_schema(space) {
         version.wrapping_add(1)
     } else {
         version
@@ -123,7 +199,7 @@ fn version_after(version: u32, space: SpaceId) -> u32
 }
 
 /// Puts the tuple that a reply shows into `shown`, in place of what it had.
-fn show(effect: &Effect, shown: &mut Tuples) -> Result<(), AllocError>
+pub(crate) fn show(effect: &Effect, shown: &mut Tuples) -> Result<(), AllocError>
     ensures { OnOk result (shown.new ≡ tuples_shown effect.now) }
 {
     shown.clear();

@@ -1,4 +1,4 @@
-use Rattle.mx_engine.proofs.EngineLaws.{count_is_length}
+use Rattle.mx_engine.proofs.StandingLaws.{count_is_length}
 use Rattle.mx_engine.proofs.engine.Engine.count.Goals as goal
 
 pub returns-clause-steps : goal.returns-clause-steps

@@ -1,4 +1,4 @@
-use Rattle.mx_engine.proofs.EngineLaws.{ids_are_those}
+use Rattle.mx_engine.proofs.StandingLaws.{ids_are_those}
 use Rattle.mx_engine.proofs.engine.Engine.ids.Goals as goal
 
 pub returns : goal.returns

@@ -1,4 +1,4 @@
-use Rattle.mx_engine.proofs.EngineLaws.{stands_refused}
+use Rattle.mx_engine.proofs.StandingLaws.{stands_refused}
 use Rattle.mx_engine.proofs.engine.Engine.look.Goals as goal
 
 pub returns : goal.returns
