@@ -3,7 +3,8 @@
 use Rattle.std.proofs.Common.{◌≡◌, ℕ, List, [], ◌∷◌, ◌++◌, refl, sym, ap, ◌∙◌, subst}
 use Rattle.std.proofs.lemmas.List.{append-nil, append_assoc}
 use Rattle.mx_model.specs.declared.out_units.OutUnit.{OutUnit}
-use Rattle.mx_model.specs.Histories.{Base, History, HasMemory, IsLegal, asking, asks_in, history_from}
+use Rattle.mx_model.specs.Bases.{Base}
+use Rattle.mx_model.specs.Histories.{History, HasMemory, IsLegal, asking, asks_in, history_from}
 use Rattle.mx_model.specs.Order.{Step, asks_among, order_in}
 use Rattle.mx_model.specs.Replies.{told_on}
 use Rattle.mx_model.proofs.HistoryLaws.{history_of_asks}

@@ -2,7 +2,8 @@
 use Rattle.std.proofs.Common.{◌≡◌, ℕ, List, ◌++◌, length, sym, ap, ◌∙◌, subst, arith}
 use Rattle.std.specs.Prelude.{Option}
 use Rattle.mx_outside.specs.Disks.{Disk, IfKnown}
-use Rattle.mx_model.specs.Histories.{Base, History, IsLegal, clock_of, state_of}
+use Rattle.mx_model.specs.Bases.{Base}
+use Rattle.mx_model.specs.Histories.{History, IsLegal, clock_of, state_of}
 use Rattle.mx_model.specs.Order.{Step, order_in}
 use Rattle.mx_images.proofs.ToldLaws.{told_weaker}
 use Rattle.mx_node.specs.declared.single.Single.{Single}

@@ -16,7 +16,8 @@ use Rattle.mx_row.specs.Clocks.{clock_after}
 use Rattle.mx_row.specs.Rows.{transactions_of, transactions_text}
 use Rattle.mx_model.specs.Directories.{Reached, AllFollow}
 use Rattle.mx_files.specs.Names.{journal_name, same_bytes}
-use Rattle.mx_model.specs.Histories.{Base, History, journal_of}
+use Rattle.mx_model.specs.Bases.{Base}
+use Rattle.mx_model.specs.Histories.{History, journal_of}
 use Rattle.mx_model.proofs.HistoryLaws.{base_of_ledger}
 use Rattle.mx_model.proofs.DirectoryLaws.{continues_same, stands_after, same_itself}
 use Rattle.mx_model.proofs.TransactionLaws.{after_blocks_again}

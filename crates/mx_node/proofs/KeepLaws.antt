@@ -3,7 +3,8 @@ use Rattle.std.proofs.Common.{◌≡◌, ◌≤◌, List, [], ◌∷◌, ◌++�
 use Rattle.std.specs.Prelude.{Option}
 use Rattle.std.proofs.lemmas.List.{take_all}
 use Rattle.mx_outside.specs.Disks.{Disk, IfKnown}
-use Rattle.mx_model.specs.Histories.{Base, History, Asked, Left, Took, Confirmed, Looked, journal_of}
+use Rattle.mx_model.specs.Bases.{Base}
+use Rattle.mx_model.specs.Histories.{History, Asked, Left, Took, Confirmed, Looked, journal_of}
 use Rattle.mx_model.specs.Replies.{told_by, told_in}
 use Rattle.mx_engine.specs.declared.engine.Engine.{Engine}
 use Rattle.mx_journal.specs.declared.journal.Journal.{Journal}

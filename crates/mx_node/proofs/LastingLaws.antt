@@ -12,8 +12,9 @@ use Rattle.mx_base.specs.declared.ids.TxnName.{TxnName}
 use Rattle.mx_request.specs.declared.request.Ask.{Ask}
 use Rattle.mx_model.specs.declared.reply.Reply.{Reply}
 use Rattle.mx_model.specs.Directories.{Origin}
-use Rattle.mx_model.specs.Histories.{Base, History, Asked, Left, Took, Confirmed, Looked, IsLegal, commits_of, journal_of, ledger_of}
-use Rattle.mx_model.proofs.HistoryLaws.{steps_of_ledger}
+use Rattle.mx_model.specs.Bases.{Base}
+use Rattle.mx_model.specs.Histories.{History, Asked, Left, Took, Confirmed, Looked, IsLegal, journal_of, ledger_of}
+use Rattle.mx_model.proofs.HistoryLaws.{commits_of, durable-asked, journal_of-asked, steps_of_ledger, takes-asked}
 use Rattle.mx_model.specs.Order.{Step, RequestStep, TakeStep, ConfirmStep, order_in}
 use Rattle.mx_model.specs.Gate.{confirmed_part}
 use Rattle.mx_images.proofs.MomentLaws.{no_moments, joined, kept}
@@ -32,7 +33,7 @@ journal_grows base [] history = ([], sym (append-nil (journal_of base history)))
 journal_grows base (Asked name ask reply ∷ more) history =
     let (others, is) = journal_grows base more history in
     let new = commits_of (ledger_of base (more ++ history)) name ask reply in
-    (others ++ new, ap (λ l. l ++ new) is ∙ append_assoc (journal_of base history) others new)
+    (others ++ new, journal_of-asked base name ask reply (more ++ history) ∙ ap (λ l. l ++ new) is ∙ append_assoc (journal_of base history) others new)
 journal_grows base (Left connection ∷ more) history = journal_grows base more history
 journal_grows base (Took transactions upto ∷ more) history = journal_grows base more history
 journal_grows base (Confirmed upto ∷ more) history = journal_grows base more history
@@ -106,7 +107,8 @@ keep_on base history first old new keep lasts = λ origin transactions all.
 -- a take names no step that wasn't made
 steps_within : (base : Base) (history : History) → IsLegal base history → (upto : ℕ) → Contains (ledger_of base history).takes upto → upto ≤ length history
 steps_within base [] legal upto (place, inside, is) = absurd (omega (arith, inside))
-steps_within base (Asked name ask reply ∷ earlier) legal upto is = let l = steps_within base earlier legal.0 upto is in omega (arith, l)
+steps_within base (Asked name ask reply ∷ earlier) legal upto is =
+    let l = steps_within base earlier legal.0 upto (subst (λ takes. Contains takes upto) (takes-asked (ledger_of base earlier) name ask reply) is) in omega (arith, l)
 steps_within base (Left connection ∷ earlier) legal upto is = let l = steps_within base earlier legal.0 upto is in omega (arith, l)
 steps_within base (Took transactions steps ∷ earlier) (legal, follows) upto (zero, inside, is) =
     let named : steps ≡ length earlier = follows.1 ∙ steps_of_ledger base earlier in
@@ -119,7 +121,8 @@ steps_within base (Looked ∷ earlier) legal upto is = let l = steps_within base
 
 pub durable_within : (base : Base) (history : History) → IsLegal base history → (ledger_of base history).durable ≤ length history
 durable_within base [] legal = omega arith
-durable_within base (Asked name ask reply ∷ earlier) legal = let l = durable_within base earlier legal.0 in omega (arith, l)
+durable_within base (Asked name ask reply ∷ earlier) legal =
+    let l = durable_within base earlier legal.0 in omega (arith, l, durable-asked (ledger_of base earlier) name ask reply)
 durable_within base (Left connection ∷ earlier) legal = let l = durable_within base earlier legal.0 in omega (arith, l)
 durable_within base (Took transactions upto ∷ earlier) legal = let l = durable_within base earlier legal.0 in omega (arith, l)
 durable_within base (Looked ∷ earlier) legal = let l = durable_within base earlier legal.0 in omega (arith, l)
@@ -214,7 +217,7 @@ breaks_in base name ask reply history old new legal lasts keep =
     let step : History = Asked name ask reply ∷ [] in
     breaks_at_first base step history history (order_in history ++ RequestStep name ask ∷ TakeStep ∷ ConfirmStep ∷ []) old new legal
     (TakeStep ∷ ConfirmStep ∷ [], append_assoc (order_in history) (RequestStep name ask ∷ []) (TakeStep ∷ ConfirmStep ∷ []))
-    (durable_within base history legal.0) lasts
+    (subst (λ (durable : ℕ). durable ≤ length history) (sym (durable-asked (ledger_of base history) name ask reply)) (durable_within base history legal.0)) lasts
     (keep_on base (step ++ history) history old new (keep_longer base step history history old keep) lasts) [] refl
 
 -- steps were made before those at which the call stopped

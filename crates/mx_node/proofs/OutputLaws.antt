@@ -7,7 +7,8 @@ use Rattle.mx_session.specs.declared.job.Job.{Job}
 use Rattle.mx_session.specs.Jobs.{jobs_of, ends}
 use Rattle.mx_session.proofs.JobLaws.{nothing_after_the_end, in_pieces}
 use Rattle.mx_model.specs.Replies.{Told, has_left, told_on, told_now}
-use Rattle.mx_model.specs.Histories.{Base, History}
+use Rattle.mx_model.specs.Bases.{Base}
+use Rattle.mx_model.specs.Histories.{History}
 use Rattle.mx_model.specs.ReplyStream.{packet_told, packets_of_replies}
 use Rattle.mx_model.specs.declared.out_units.OutUnit.{OutUnit}
 use Rattle.mx_node.specs.Inputs.{InputUnit, Bytes, Close, connection_of}

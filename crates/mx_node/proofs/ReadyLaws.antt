@@ -16,8 +16,9 @@ use Rattle.mx_model.specs.Answers.{state_after_rows}
 use Rattle.mx_row.specs.Clocks.{clock_after, clock_after_one}
 use Rattle.mx_model.specs.Directories.{AllFollow, Continues, ids_in}
 use Rattle.mx_files.specs.Names.{same_bytes}
-use Rattle.mx_model.specs.Histories.{Base, History, Asked, Took, Confirmed, IsLegal, commits_of, ledger_of, journal_of}
-use Rattle.mx_model.proofs.HistoryLaws.{steps_of_ledger, taken_within}
+use Rattle.mx_model.specs.Bases.{Base}
+use Rattle.mx_model.specs.Histories.{History, Asked, Took, Confirmed, IsLegal, ledger_of, journal_of}
+use Rattle.mx_model.proofs.HistoryLaws.{commits_of, journal_of-asked, steps_of_ledger, taken-asked, taken_within}
 use Rattle.mx_model.proofs.GateLaws.{may_leave_once_confirmed}
 use Rattle.mx_row.proofs.ClockLaws.{clock_after-append}
 use Rattle.mx_model.proofs.CommitLaws.{commits_follow}
@@ -67,7 +68,9 @@ waiting_more waits txs index tx within is =
 taken_of-asked : (base : Base) (name : TxnName) (ask : Ask) (reply : Reply) (history : History)
     → taken_of base (Asked name ask reply ∷ history) ≡ taken_of base history
 taken_of-asked base name ask reply history =
-    take-append-le (ledger_of base history).taken (journal_of base history) (commits_of (ledger_of base history) name ask reply)
+    ap (λ (count : ℕ). take count (journal_of base (Asked name ask reply ∷ history))) (taken-asked (ledger_of base history) name ask reply)
+    ∙ ap (take (ledger_of base history).taken) (journal_of-asked base name ask reply history)
+    ∙ take-append-le (ledger_of base history).taken (journal_of base history) (commits_of (ledger_of base history) name ask reply)
     (taken_within base history)
 
 -- a request that was answered changes nothing of what is written

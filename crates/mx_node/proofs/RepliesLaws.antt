@@ -8,7 +8,8 @@ use Rattle.mx_session.specs.declared.job.Job.{Job}
 use Rattle.mx_session.specs.Jobs.{job_in, broken_job, up_to_end, jobs_of, ends}
 use Rattle.mx_session.proofs.JobLaws.{in_pieces}
 use Rattle.mx_model.specs.Replies.{Told, told_by, told_now}
-use Rattle.mx_model.specs.Histories.{Base, Asked, Left, Took, Confirmed, Looked, History}
+use Rattle.mx_model.specs.Bases.{Base}
+use Rattle.mx_model.specs.Histories.{Asked, Left, Took, Confirmed, Looked, History}
 use Rattle.mx_model.specs.Order.{Step, RequestStep, DepartureStep, TakeStep, ConfirmStep, LookStep, order_in}
 use Rattle.mx_model.proofs.ToldLaws.{AreElsewhere, told_now-asked, told_now-elsewhere, told_now-left}
 use Rattle.mx_node.specs.Inputs.{InputUnit, Bytes, Close, connection_of}

@@ -9,7 +9,8 @@ use Rattle.mx_frame.proofs.FrameLaws.{rest_of-append}
 use Rattle.mx_session.specs.declared.job.Job.{Job}
 use Rattle.mx_session.specs.Jobs.{ends, jobs_of}
 use Rattle.mx_session.specs.Sessions.{SessionState}
-use Rattle.mx_model.specs.Histories.{Base, History, Left}
+use Rattle.mx_model.specs.Bases.{Base}
+use Rattle.mx_model.specs.Histories.{History, Left}
 use Rattle.mx_model.specs.Replies.{told_now}
 use Rattle.mx_model.specs.Order.{Step, order_in}
 use Rattle.mx_model.specs.ReplyStream.{packets_of_replies}

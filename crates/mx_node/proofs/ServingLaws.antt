@@ -23,9 +23,10 @@ use Rattle.mx_row.specs.Rows.{transactions_text}
 use Rattle.mx_model.specs.Directories.{Named, Reached, ReadAll, Origin, AllFollow, Continues, ids_in, origin_of, reached_at}
 use Rattle.mx_xlog.specs.Files.{ReadsAs}
 use Rattle.mx_files.specs.Names.{is_journal, is_snapshot, same_bytes, counts}
-use Rattle.mx_model.specs.Histories.{Base, History, Took, IsLegal, ledger_of, journal_of}
+use Rattle.mx_model.specs.Bases.{Base}
+use Rattle.mx_model.specs.Histories.{History, Took, IsLegal, ledger_of, journal_of}
 use Rattle.mx_files.proofs.NameLaws.{journal_name-is_journal}
-use Rattle.mx_model.proofs.HistoryLaws.{state_after-append}
+use Rattle.mx_model.proofs.JournalLaws.{state_after-append}
 use Rattle.mx_row.proofs.ClockLaws.{clock_after-append}
 use Rattle.mx_model.proofs.CommitLaws.{commits_follow}
 use Rattle.mx_model.proofs.DirectoryLaws.{continues_same, names_of, names_same, stands_after, same_itself}

@@ -10,7 +10,8 @@ use Rattle.mx_session.specs.declared.job.Job.{Job}
 use Rattle.mx_session.specs.Sessions.{SessionState, Waiting, released}
 use Rattle.mx_model.specs.declared.reply.Reply.{Reply}
 use Rattle.mx_row.specs.declared.tx.Tx.{Tx}
-use Rattle.mx_model.specs.Histories.{Base, History, Took, Confirmed, IsLegal, ledger_of}
+use Rattle.mx_model.specs.Bases.{Base}
+use Rattle.mx_model.specs.Histories.{History, Took, Confirmed, IsLegal, ledger_of}
 use Rattle.mx_model.specs.Replies.{Told, told_now}
 use Rattle.mx_model.specs.Order.{Step, RequestStep, TakeStep, ConfirmStep, order_in}
 use Rattle.mx_model.specs.ReplyStream.{packet_told, packets_of_replies}

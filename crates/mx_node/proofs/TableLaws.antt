@@ -4,7 +4,8 @@ use Rattle.std.specs.Prelude.{Option, replicate, if◌then◌else◌}
 use Rattle.std.specs.Vec.{with_items}
 use Rattle.std.proofs.lemmas.List.{append-nil, append_assoc, take_at, take_more, length-set, length-take-le, set-set}
 use Rattle.mx_session.specs.Sessions.{SessionState}
-use Rattle.mx_model.specs.Histories.{Base, History, Left, clock_of, state_of}
+use Rattle.mx_model.specs.Bases.{Base}
+use Rattle.mx_model.specs.Histories.{History, Left, clock_of, state_of}
 use Rattle.mx_model.specs.Replies.{told_in}
 use Rattle.mx_model.specs.Order.{Step, order_in}
 use Rattle.mx_node.specs.Inputs.{InputUnit}

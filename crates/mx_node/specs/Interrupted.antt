@@ -4,7 +4,8 @@ use mathlib.Core.List.{IsPrefix}
 use Rattle.mx_outside.specs.Disks.{Disk, IfKnown}
 use Rattle.mx_row.specs.declared.tx.Tx.{Tx}
 use Rattle.mx_model.specs.Directories.{Origin}
-use Rattle.mx_model.specs.Histories.{Base, History, IsLegal, journal_of}
+use Rattle.mx_model.specs.Bases.{Base}
+use Rattle.mx_model.specs.Histories.{History, IsLegal, journal_of}
 use Rattle.mx_model.specs.Order.{Step, order_in}
 use Rattle.mx_model.specs.Gate.{confirmed_part}
 use Rattle.mx_model.specs.Survival.{Extend, Lasts, Survive}

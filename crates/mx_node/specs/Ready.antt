@@ -11,7 +11,8 @@ use Rattle.mx_session.specs.Sessions.{SessionState, NextSeen, JobSeen, next_of}
 use Rattle.mx_frame.specs.Packets.{rest_of}
 use Rattle.mx_row.specs.Clocks.{clock_after, clock_after_one, follows}
 use Rattle.mx_model.specs.Directories.{Continues, ids_in}
-use Rattle.mx_model.specs.Histories.{Base, History, Entry, Asked, Took, Confirmed, ledger_of, journal_of}
+use Rattle.mx_model.specs.Bases.{Base}
+use Rattle.mx_model.specs.Histories.{History, Entry, Asked, Took, Confirmed, ledger_of, journal_of}
 use Rattle.mx_model.specs.Replies.{Told, told_now}
 use Rattle.mx_model.specs.Transactions.{schema_version}
 use Rattle.mx_model.specs.Order.{order_in}

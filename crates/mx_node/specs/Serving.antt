@@ -7,7 +7,8 @@ use Rattle.mx_files.specs.Names.{journal_name}
 use Rattle.mx_frame.specs.Packets.{rest_of}
 use Rattle.mx_session.specs.Jobs.{ends}
 use Rattle.mx_session.specs.Sessions.{SessionState}
-use Rattle.mx_model.specs.Histories.{History, Left, IsLegal, Base, state_of, clock_of}
+use Rattle.mx_model.specs.Bases.{Base}
+use Rattle.mx_model.specs.Histories.{History, Left, IsLegal, state_of, clock_of}
 use Rattle.mx_model.specs.Replies.{told_in}
 use Rattle.mx_model.specs.Order.{order_in}
 use Rattle.mx_node.specs.declared.single.Single.{Single}

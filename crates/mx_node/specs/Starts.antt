@@ -3,7 +3,7 @@ use Rattle.std.specs.Prelude.{◌≡◌, List, ℕ, Option, Ok}
 use Rattle.mx_outside.specs.Disks.{Disk, IfKnown}
 use Rattle.mx_model.specs.declared.ids.Ids.{Ids}
 use Rattle.mx_model.specs.Directories.{Reached, IsDirectoryState, ids_or}
-use Rattle.mx_model.specs.Histories.{Base}
+use Rattle.mx_model.specs.Bases.{Base}
 use Rattle.mx_reply.specs.Greeting.{greeting_of}
 
 pub record Start : Type 0 where

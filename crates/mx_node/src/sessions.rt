@@ -1,7 +1,8 @@
 //! The sessions of a node's connections, by the numbers of the connections.
 
 ghost use Rattle.std.specs.Prelude.{◌≡◌, ◌<◌, ℕ, ◌∷◌, ◌++◌, [], length, None, Some, OnOk, IfOk, slice_set, unwrap_or, if◌then◌else◌};
-ghost use Rattle.mx_model.specs.Histories.{Base, History, Left};
+ghost use Rattle.mx_model.specs.Bases.{Base};
+ghost use Rattle.mx_model.specs.Histories.{History, Left};
 ghost use Rattle.mx_engine.specs.Standing.{EngineStandsFor};
 ghost use Rattle.mx_node.specs.Outputs.{sent_on, closed_on};
 ghost use Rattle.mx_node.specs.Serving.{IsTable, goes_on, left_from, opened, session_at};

@@ -42,7 +42,8 @@ impl Single {
     ghost use Rattle.mx_row.specs.declared.tx.Tx.{Tx};
     ghost use Rattle.mx_model.specs.declared.damage.Damage.{Damage};
     ghost use Rattle.mx_model.specs.Directories.{IsDirectoryState, Origin};
-    ghost use Rattle.mx_model.specs.Histories.{Base, History};
+    ghost use Rattle.mx_model.specs.Bases.{Base};
+    ghost use Rattle.mx_model.specs.Histories.{History};
     ghost use Rattle.mx_model.specs.Survival.{Lasts, Recovers, FollowFrom, ReadsMost, Survive, NoFewerSurvive};
     ghost use Rattle.mx_recover.specs.declared.fault.RecoverFault.TheVariants.{Damaged, Failed};
     ghost use Rattle.mx_node.specs.Inputs.{InputUnit, Bytes, Close, connection_of, max_connection};

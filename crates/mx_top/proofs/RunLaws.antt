@@ -7,10 +7,12 @@ use Rattle.mx_outside.specs.Disks.{Disk, IfKnown, KnownAlike}
 use Rattle.mx_outside.specs.Moments.{Each, Moments}
 use Rattle.mx_row.specs.declared.tx.Tx.{Tx}
 use Rattle.mx_model.specs.Directories.{Origin, AllFollow}
-use Rattle.mx_model.specs.Histories.{Base, History, IsLegal, journal_of}
+use Rattle.mx_model.specs.Bases.{Base}
+use Rattle.mx_model.specs.Histories.{History, IsLegal, journal_of}
 use Rattle.mx_row.specs.Clocks.{clock_after}
 use Rattle.mx_model.proofs.CommitLaws.{all_follow-append, commits_follow}
 use Rattle.mx_model.proofs.OnceLaws.{one_state}
+use Rattle.mx_model.proofs.SerializableLaws.{is_serializable}
 use Rattle.mx_images.proofs.MomentLaws.{both_moments, joined, kept, weaker}
 use Rattle.mx_images.proofs.ToldLaws.{told_both, told_chain, told_then, told_weaker, where_told}
 use Rattle.mx_model.specs.Gate.{confirmed_part}
@@ -191,6 +193,7 @@ served status start seed input output now old middle new begins alike opens seen
       history = history;
       both = refl;
       legal = stopped.legal;
+      serializable = is_serializable start.base history stopped.legal;
       answers = seen.answers;
       order_later = stopped.ordered;
       gate = seen.gate;

@@ -8,9 +8,11 @@ use Rattle.mx_row.specs.declared.tx.Tx.{Tx}
 use Rattle.mx_images.specs.Changes.{KeepsOthers}
 use Rattle.mx_model.specs.Directories.{Origin, IsDirectoryState}
 use Rattle.mx_model.specs.declared.out_units.OutUnit.{OutUnit}
-use Rattle.mx_model.specs.Histories.{Base, History, IsLegal, HasMemory, journal_of}
+use Rattle.mx_model.specs.Bases.{Base}
+use Rattle.mx_model.specs.Histories.{History, IsLegal, HasMemory, journal_of}
 use Rattle.mx_model.specs.Order.{Step, order_in}
 use Rattle.mx_model.specs.Gate.{RepliesMayLeave, confirmed_part}
+use Rattle.mx_model.specs.Serializability.{IsSerializable}
 use Rattle.mx_model.specs.Survival.{Recovers, Survive, NoFewerSurvive, ReadsMost}
 use Rattle.mx_node.specs.Inputs.{InputUnit}
 use Rattle.mx_node.specs.Order.{order_by, order_of, whole_order_of}
@@ -148,8 +150,8 @@ DamageSeen _ old = ⊤
 -- ---- the run
 
 -- A run that opened its directory. It answered these units whole, and began none of the others but the next; one history has
--- the steps for both. Each part says the same of that history: what was written, what the directory recovers at each moment,
--- and that no reply was written before all that it depends on was durable.
+-- the steps for both. Each part says the same of that history: that it is serializable, what was written, what the directory
+-- recovers at each moment, and that no reply was written before all that it depends on was durable.
 pub record Served (status : Status) (seed input : List ℕ) (output_old output_new : Held) (old new : Option (List Disk)) : Type 0 where
   pub start : Start
   pub begins : Begins start seed old
@@ -163,6 +165,7 @@ pub record Served (status : Status) (seed input : List ℕ) (output_old output_n
   pub history : History
   pub both : history ≡ later ++ answered
   pub legal : IsLegal start.base history
+  pub serializable : IsSerializable start.base history
   pub answers : AnswersAll start units answered sent
   pub order_later : IsPrefix (order_in history) (order_until units others)
   pub gate : RepliesMayLeave start.base answered

@@ -62,9 +62,11 @@ pub fn run<D: Dir, S: Source, K: Sink>(
     // The list of directories keeps its length.
     ensures dirs { length dirs.new.items ≡ length dirs.old.items }
 
-    // One legal history has the steps for the units that were answered whole, and then those of the next one. What was
-    // written is the output for the former; the directory recovers a prefix of its commits after any crash, at any moment,
-    // and all on which a reply that was written depends. A run that opened no directory wrote and committed nothing.
+    // One legal history has the steps for the units that were answered whole, and then those of the next one. It is
+    // serializable: each transaction was answered as if alone, those that commit rows in the order of the journal, and a
+    // conflict has a commit that touched what was read before it. What was written is the output for the former steps; the
+    // directory recovers a prefix of the history's commits after any crash, at any moment, and all on which a reply that
+    // was written depends. A run that opened no directory wrote and committed nothing.
     ensures history { (bytes : List ℕ) (old new : D) → S.left input.old ≡ Some bytes → dirs.old.items ≡ old ∷ [] → dirs.new.items ≡ new ∷ []
         → RunSeen result seed.now bytes (held (K.contents output.old) (K.passed output.old)) (held (K.contents output.new) (K.passed output.new)) (D.states old) (D.states new) }
 

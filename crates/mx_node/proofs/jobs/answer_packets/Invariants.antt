@@ -1,6 +1,7 @@
 use Rattle.std.proofs.Common.{◌≡◌, List, length}
 use Rattle.mx_session.specs.declared.job.Job.{Job}
-use Rattle.mx_model.specs.Histories.{Base, History}
+use Rattle.mx_model.specs.Bases.{Base}
+use Rattle.mx_model.specs.Histories.{History}
 use Rattle.mx_images.specs.Changes.{KeepsOthers}
 use Rattle.mx_images.proofs.MomentLaws.{Steps}
 use Rattle.mx_node.specs.Ready.{Ready, AnswersJobs}

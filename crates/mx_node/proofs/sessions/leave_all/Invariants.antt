@@ -1,5 +1,6 @@
 use Rattle.std.proofs.Common.{take}
-use Rattle.mx_model.specs.Histories.{Base, History}
+use Rattle.mx_model.specs.Bases.{Base}
+use Rattle.mx_model.specs.Histories.{History}
 use Rattle.mx_engine.specs.Standing.{EngineStandsFor}
 use Rattle.mx_node.specs.Serving.{left_from}
 use Rattle.mx_node.proofs.sessions.leave_all.Given as goal
