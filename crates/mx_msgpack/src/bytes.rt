@@ -124,6 +124,7 @@ impl Bytes {
     }
 
     /// The bytes in place.
+    #[inline]
     pub fn as_slice(&self) -> &[u8]
         ensures { result.now ≡ self.now }
     {
@@ -153,6 +154,7 @@ impl Bytes {
     ///
     /// # Errors
     /// Out of memory; nothing is added.
+    #[inline]
     pub fn extend_from_slice(&mut self, bytes: &[u8]) -> Result<(), AllocError>
         ensures { MatchResult result (λ _. self.new ≡ self.old ++ bytes.now) (λ _. self.new ≡ self.old) }
     {
@@ -193,6 +195,7 @@ impl Bytes {
     }
 
     /// How many bytes there are.
+    #[inline]
     pub fn len(&self) -> usize
         ensures { result ≡ length self.now }
     {

@@ -39,12 +39,14 @@ impl ShortBytes {
         }
     }
 
+    #[inline]
     pub(crate) fn as_slice(&self) -> &[u8]
         ensures { result.now ≡ self.now }
     {
         &self.items[..usize::from(self.len)]
     }
 
+    #[inline]
     pub(crate) fn len(&self) -> usize
         ensures value { result ≡ length self.now }
         ensures fits { result ≤ max_short }
@@ -52,6 +54,7 @@ impl ShortBytes {
         usize::from(self.len)
     }
 
+    #[inline]
     pub(crate) fn has_room(&self, additional: usize) -> bool
         ensures { IsTrue result ↔ (length self.now + additional ≤ max_short) }
     {

@@ -33,6 +33,7 @@ impl Model for Notes {
 
 impl Notes {
     /// Notes nothing, and takes no memory.
+    #[inline]
     pub fn off() -> Notes
         ensures { result ≡ None }
     {
@@ -49,6 +50,7 @@ impl Notes {
     }
 
     /// The reads; `None` where they aren't noted.
+    #[inline]
     pub fn as_reads(&self) -> Option<&Reads>
         ensures { option_copied result ≡ self.now }
     {
@@ -65,6 +67,7 @@ impl Notes {
     }
 
     /// Notes a read of all keys of an index that begin with the key of these comparable bytes.
+    #[inline]
     pub fn note_key(
         &mut self,
         alloc: Global,
@@ -83,6 +86,7 @@ impl Notes {
     }
 
     /// Notes a read of a range of an index's keys.
+    #[inline]
     pub fn note_range(
         &mut self,
         space: SpaceId,
@@ -99,6 +103,7 @@ impl Notes {
     }
 
     /// Notes a read of the row that describes a space.
+    #[inline]
     pub fn note_space(&mut self, alloc: Global, space: SpaceId) -> Result<(), AllocError>
         ensures { OnOk result (AddsReads self.old self.new (space_read space.0 ∷ [])) }
     {
@@ -106,6 +111,7 @@ impl Notes {
     }
 
     /// Notes a read of the rows that describe a space's indexes.
+    #[inline]
     pub fn note_indexes(&mut self, alloc: Global, space: SpaceId) -> Result<(), AllocError>
         ensures { OnOk result (AddsReads self.old self.new (index_read space.0 ∷ [])) }
     {
