@@ -39,6 +39,7 @@ KEYS = {
     "vclock": 0x26,
     "version": 0x54,
     "features": 0x55,
+    "timeout": 0x56,
     "isolation": 0x59,
 }
 # An UPDATE has its operations in the place of a tuple.
@@ -203,9 +204,9 @@ def reply(sync, body, kind=0, schema=0):
     return packet({TYPE: Wide(kind, 4), SYNC: Wide(sync, 8), SCHEMA: Wide(schema, 4)}, body)
 
 
-def ok_reply(sync=0):
+def ok_reply(sync=0, schema=0):
     """The reply to a request that has nothing to tell."""
-    return reply(sync, {})
+    return reply(sync, {}, schema=schema)
 
 
 def tuples_reply(sync, *tuples, schema=0):
@@ -350,11 +351,14 @@ WHOLE = (
     ),
     (request("PING"), "ce00000003 810040"),
     (request(8, 1, -1, isolation=2), "ce0000000a 8300080101 0aff 815902"),
+    (request("BEGIN", 1, 2, timeout=5, isolation=4), "ce0000000c 83000e0101 0a02 8256055904"),
+    (request("COMMIT", stream=Wide(1, 8)), "ce0000000d 82000f 0acf0000000000000001"),
     (request("UPSERT", 1, tuple=[1], operations=[]), "ce0000000b 8200090101 822191012890"),
     (request("UPDATE", 1, base=1, operations=[["=", 2, 2]]), "ce0000000f 8200040101 821501219193a13d0202"),
     (packet({TYPE: 64}, width=0), "03 810040"),
     (packet({TYPE: 12}, {}, width=1), "cc04 81000c80"),
     (ok_reply(7), "ce00000018 8300ce0000000001cf000000000000000705ce00000000 80"),
+    (ok_reply(1, 258), "ce00000018 8300ce0000000001cf000000000000000105ce00000102 80"),
     (
         tuples_reply(1, [1, "a"]),
         "ce00000022 8300ce0000000001cf000000000000000105ce00000000 8130dd000000019201a161",

@@ -6,9 +6,20 @@ import signal
 import socket
 import subprocess
 import sys
+from collections import deque
 from pathlib import Path
 
-from iproto import GREETING_BYTES, SEED, greeting, pack, request_parts
+from iproto import (
+    GREETING_BYTES,
+    SEED,
+    close_unit,
+    greeting,
+    input_unit,
+    output_unit,
+    output_units,
+    pack,
+    request_parts,
+)
 
 ROOT = Path(__file__).resolve().parent.parent
 PROGRAM = str(ROOT / "vurandy")
@@ -42,6 +53,53 @@ def build_histories():
         sys.exit(built.stdout.decode(errors="replace") + built.stderr.decode(errors="replace"))
 
 
+def output_of(folder, units, status=0, said=""):
+    """What a run in a folder's directory writes for these units. It has to end with this status, and with this line."""
+    ended = subprocess.run(
+        [PROGRAM, *TRACE], input=b"".join(units), capture_output=True, cwd=folder, env=environment(SEED)
+    )
+    expect("standard error", said, ended.stderr.decode(errors="replace").strip())
+    expect("status", status, ended.returncode)
+    return ended.stdout
+
+
+def sent(output):
+    """What an output has for each input unit: a connection, its content, and an empty one where the server ends it."""
+    units, found = output_units(output), []
+    expect("bytes behind the output units", 0, len(output) - sum(len(output_unit(content)) for _, content in units))
+    for connection, content in units:
+        if content or not found:
+            found.append((connection, [content]))
+        else:
+            found[-1][1].append(content)
+    return found
+
+
+def answers(folder, asked):
+    """What a run in a folder's directory answers to each of these, which come in a unit each.
+
+    What is asked is a connection with a packet, or with None for its close. An answer is the contents of output units,
+    without the greeting: none to a close and behind the end of a connection, and else one, with an empty one behind it
+    where the server ends the connection.
+    """
+    units = [close_unit(connection) if one is None else input_unit(one, connection) for connection, one in asked]
+    waiting, is_ended, answered = deque(sent(output_of(folder, units))), {}, []
+    for connection, one in asked:
+        contents = []
+        if one is None:
+            is_ended.pop(connection, None)
+        elif not is_ended.get(connection):
+            answering, contents = waiting.popleft() if waiting else (connection, [])
+            expect(f"connection of answer {len(answered) + 1}", connection, answering)
+            if contents and connection not in is_ended:
+                expect(f"greeting of connection {connection}", GREETING, contents[0][:GREETING_BYTES])
+                contents[0] = contents[0][GREETING_BYTES:]
+            is_ended[connection] = len(contents) > 1
+        answered.append(contents)
+    expect("output units behind the last answer", 0, len(waiting))
+    return answered
+
+
 def ask_line(connection, name, stream=None, **fields):
     """The line that asks `mx_histories` for a request."""
     header, body = request_parts(name, stream=stream, **fields)
@@ -55,9 +113,9 @@ def history_answers(lines):
         [HISTORIES / "out" / "mx_histories"], input="\n".join(lines).encode(), stdout=subprocess.PIPE
     )
     expect("status of mx_histories", 0, ended.returncode)
-    answers = ended.stdout.decode().splitlines()
-    expect("number of answers", len(lines), len(answers))
-    return answers
+    answered = ended.stdout.decode().splitlines()
+    expect("number of answers", len(lines), len(answered))
+    return answered
 
 
 class Listening:

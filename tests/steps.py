@@ -1,30 +1,27 @@
-"""Writes and what they are answered, as tests of the built program say them.
+"""Requests and what they are answered, as tests of the built program say them.
 
-A step is the name of a request or the number of its type, the fields of its body, with its stream if it has
-one, and its reply: a list of tuples, or the number and the text of a refusal. What is expected is worked out
-by hand.
+A step is the name of a request or the number of its type, the fields of its body, and its reply: a list of tuples,
+`OK`, or the number and the text of a refusal. Its stream, if it has one, and its connection, if that isn't 1, stand
+among the fields. `CLOSE` closes a connection. What is expected is worked out by hand.
 """
 
-import subprocess
 import tempfile
 from pathlib import Path
 
 from iproto import (
-    GREETING_BYTES,
     KEYS,
     OPERATIONS,
-    SEED,
+    TYPE,
+    TYPES,
     Spelled,
     Wide,
-    contents,
     error_reply,
-    input_unit,
+    ok_reply,
     pack,
-    packets_in,
     request,
     tuples_reply,
 )
-from program import GREETING, PROGRAM, TRACE, environment, expect
+from program import answers, expect
 
 MAX_TUPLE = 1_048_576
 MAX_ROW_BODY = 2_097_120
@@ -165,11 +162,16 @@ def primary_last(name):
 
 BAD_SPACE, BAD_INDEX = (9, "Bad space row"), (14, "Bad index row")
 UNKNOWN_OPERATOR = (28, "Unknown update operator")
+IN_TRANSACTION = (5, "Unsupported: schema statement in a transaction")
 IN_PLACE = (5, "Unsupported: change of a schema row in place")
 SYSTEM_WRITE = (5, "Unsupported: write to a system space")
 HASH_ITERATOR = (5, "Unsupported: iterator of a hash index")
+TRANSACTION_OPEN = (79, "Transaction is open in this stream")
+CONFLICT = (97, "Transaction has been aborted by conflict")
+ALL_OPEN = (201, "All 1024 transactions are open")
+ALL_OF_CONNECTION = (204, "All 64 transactions of the connection are open")
 ROW_TOO_LONG, RESULT_TOO_LONG = (202, "Transaction is too long"), (207, "Result is longer than 16777216 bytes")
-READ_ONLY = (7, "Node is read-only, the writable node is 1")
+READ_ONLY, NOT_MESSAGEPACK = (7, "Node is read-only, the writable node is 1"), (20, "Packet is not MessagePack")
 # Those of a field, a key and a space that many tables have.
 NO_FIELD, NOT_UNSIGNED = field_missing(0), field_type(0)
 DUPLICATE, KEY_CHANGED, NO_SPACE = duplicate(), key_changed(), no_space(513)
@@ -177,15 +179,35 @@ DUPLICATE, KEY_CHANGED, NO_SPACE = duplicate(), key_changed(), no_space(513)
 
 # ---- steps
 
+OK, CLOSE = {}, "CLOSE"
+
+
+def begin(stream=1, reply=OK, **fields):
+    """A BEGIN in a stream, or in none for None."""
+    return "BEGIN", {"stream": stream, **fields}, reply
+
+
+def commit(stream=1, reply=OK, **fields):
+    return "COMMIT", {"stream": stream, **fields}, reply
+
+
+def rollback(stream=1, reply=OK, **fields):
+    return "ROLLBACK", {"stream": stream, **fields}, reply
+
+
+def close(connection=1):
+    """The connection closes. No reply is expected."""
+    return CLOSE, {"connection": connection}, None
+
 
 def insert(tuple_, reply=None, space=TEST, **fields):
     """An INSERT, whose reply is the tuple where no other is expected."""
     return "INSERT", {"space": space, "tuple": tuple_, **fields}, [tuple_] if reply is None else reply
 
 
-def replace(tuple_, reply=None, space=TEST):
+def replace(tuple_, reply=None, space=TEST, **fields):
     """A REPLACE, whose reply is the tuple where no other is expected."""
-    return "REPLACE", {"space": space, "tuple": tuple_}, [tuple_] if reply is None else reply
+    return "REPLACE", {"space": space, "tuple": tuple_, **fields}, [tuple_] if reply is None else reply
 
 
 def update(key, operations, reply, space=TEST, **fields):
@@ -249,38 +271,65 @@ def shown(data):
     return data.hex() if len(data) <= SHOWN_BYTES else f"{data[:SHOWN_BYTES].hex()}.. of {len(data)} bytes"
 
 
+def expect_bytes(what, due, seen):
+    """Checks bytes. A message shows them from the first one on that differs."""
+    if due != seen:
+        differing = (at for at, (one, other) in enumerate(zip(due, seen)) if one != other)
+        at = next(differing, min(len(due), len(seen)))
+        raise AssertionError(f"{what}, from byte {at} on: expected {shown(due[at:])}, saw {shown(seen[at:])}")
+
+
+def shown_all(contents):
+    """The contents of output units as a message shows them."""
+    return ", ".join(shown(content) if content else "the end of the connection" for content in contents) or "nothing"
+
+
+def asked_by(steps):
+    """The connection of each step, with its packet, or with None for its close. Syncs count from 1."""
+    asked = []
+    for sync, (name, fields, _) in enumerate(steps, 1):
+        body = {field: value for field, value in fields.items() if field != "connection"}
+        asked.append((fields.get("connection", 1), None if name == CLOSE else request(name, sync, **body)))
+    return asked
+
+
+def packet_of(sync, reply, schema):
+    """The packet of a reply."""
+    if is_refusal(reply):
+        return error_reply(sync, *reply, schema)
+    return ok_reply(sync, schema) if reply == OK else tuples_reply(sync, *reply, schema=schema)
+
+
+def due_to(steps):
+    """What each step is answered: its reply, and an empty content where the server ends the connection."""
+    due, schema = [], 0
+    for sync, step in enumerate(steps, 1):
+        name, _, reply = step
+        # The commits of a step count in its own reply.
+        schema += changes_schema(step)
+        contents = [] if name == CLOSE else [packet_of(sync, reply, schema)]
+        due.append([*contents, b""] if reply == NOT_MESSAGEPACK else contents)
+    return due
+
+
 def converse(steps, folder=None):
     """Asks these steps in a folder's directory, or in a new one, each in a unit of its own, and checks each reply."""
     if folder is None:
         with tempfile.TemporaryDirectory(prefix="vurandy-") as new_folder:
             return converse(steps, Path(new_folder))
-    asked = [request(name, sync, **fields) for sync, (name, fields, _) in enumerate(steps, 1)]
-    ended = subprocess.run(
-        [PROGRAM, *TRACE],
-        input=b"".join(map(input_unit, asked)),
-        capture_output=True,
-        cwd=folder,
-        env=environment(SEED),
-    )
-    output = b"".join(contents(ended.stdout))
-    expect("standard error", b"", ended.stderr)
-    expect("status", 0, ended.returncode)
-    expect("greeting", GREETING[:64], output[:64])
-    replies = list(packets_in(output[GREETING_BYTES:]))
-    schema = 0
-    for sync, (packet, step, seen) in enumerate(zip(asked, steps, replies), 1):
-        name, _, reply = step
-        # The commits of a step count in its own reply.
-        schema += changes_schema(step)
-        due = error_reply(sync, *reply, schema) if is_refusal(reply) else tuples_reply(sync, *reply, schema=schema)
-        assert seen == due, f"reply {sync}, to {name} {shown(packet)}: expected {shown(due)}, saw {shown(seen)}"
-    expect("number of replies", len(steps), len(replies))
+    asked = asked_by(steps)
+    replies = zip(due_to(steps), answers(folder, asked))
+    for sync, (step, (connection, packet), (due, seen)) in enumerate(zip(steps, asked, replies), 1):
+        what = f"reply {sync}, to {step[0]} on connection {connection} {shown(packet or b'')}"
+        assert seen == due, f"{what}: expected {shown_all(due)}, saw {shown_all(seen)}"
 
 
 # ---- directories
 
 # What ends a journal in order.
 END = bytes.fromhex("d510aded")
+# The fields of a row's body, by rising key.
+ROW_FIELDS = ("space", "base", "key", "tuple", "operations")
 
 
 def journal_name(lsn):
@@ -308,12 +357,47 @@ def files_of(folder):
     return sorted(path.name for path in (folder / "DIR").iterdir())
 
 
+def checksum(data):
+    """CRC-32C without its first and last inversion."""
+    register = 0
+    for byte in data:
+        register ^= byte
+        for _ in range(8):
+            register = register >> 1 ^ (0x82F63B78 if register & 1 else 0)
+    return register
+
+
+def block(data):
+    """The block of these rows."""
+    sizes = pack(Wide(len(data), 4)) + b"\0" + pack(Wide(checksum(data), 4)) + b"\xa3\0\0\0"
+    return bytes.fromhex("d5ba0bab") + sizes + data
+
+
+def transaction(lsn, *steps):
+    """The block of a commit whose rows are those of these steps, the first of this lsn. A key is the primary one."""
+    rows, last = [], len(steps) - 1
+    for place, (name, fields, _) in enumerate(steps):
+        header = {TYPE: TYPES[name], 0x02: 1, 0x03: lsn + place}
+        header |= {0x08: place} if last else {}
+        header |= {0x09: 1} if last and place == last else {}
+        rows.append(pack(header) + body_of(name, {field: fields[field] for field in ROW_FIELDS if field in fields}))
+    return block(b"".join(rows))
+
+
+def expect_journals(folder, blocks):
+    """Checks all files of a directory: the journals that begin at these numbers of commits, with their blocks."""
+    expect("files", sorted(map(journal_name, blocks)), files_of(folder))
+    for commits, held in blocks.items():
+        name = journal_name(commits)
+        expect_bytes(name, journal_header(commits) + b"".join(held) + END, (folder / "DIR" / name).read_bytes())
+
+
 # ---- long rows
 
 
 def body_of(name, fields):
     """The body of a request."""
-    keys = KEYS | {"operations": OPERATIONS[name]}
+    keys = KEYS | {"operations": OPERATIONS.get(name)}
     return pack({keys[field]: value for field, value in fields.items()})
 
 

@@ -9,12 +9,11 @@ import tempfile
 from pathlib import Path
 
 import schema_cases
-from iproto import Spelled, Wide, pack
+from iproto import Spelled, Wide
 from operation_cases import SHAPES, UPDATES, UPDATES_FROM_ONE, UPSERTS
-from program import all_pass, expect, is_built
+from program import all_pass, is_built
 from steps import (
     DUPLICATE,
-    END,
     FLOAT,
     KEY_CHANGED,
     LEADER,
@@ -26,17 +25,16 @@ from steps import (
     ROW_TOO_LONG,
     SETTINGS,
     TEST,
+    block,
     converse,
     delete,
     duplicate,
+    expect_journals,
     field_type,
-    files_of,
     filling,
     has_tuples,
     insert,
     is_refusal,
-    journal_header,
-    journal_name,
     key_changed,
     key_count,
     key_type,
@@ -308,22 +306,6 @@ def row_body_may_have_its_length():
 # ---- what a further run finds
 
 
-def checksum(data):
-    """CRC-32C without its first and last inversion."""
-    register = 0
-    for byte in data:
-        register ^= byte
-        for _ in range(8):
-            register = register >> 1 ^ (0x82F63B78 if register & 1 else 0)
-    return register
-
-
-def block(row):
-    """The block of one row."""
-    sizes = pack(Wide(len(row), 4)) + b"\0" + pack(Wide(checksum(row), 4)) + b"\xa3\0\0\0"
-    return bytes.fromhex("d5ba0bab") + sizes + row
-
-
 # One step a run: the step, the type of its row and its body, if it leaves one, and the tuples that the next
 # run finds, of `test` and beside the leader's of 272.
 RUNS = (
@@ -394,20 +376,17 @@ RUNS = (
 
 def rows_are_found_again():
     folder, tuples, settings = new_folder(), [], []
-    journals, lsn = {}, 0
+    journals, lsn = {0: []}, 0
     for step, kind, body, next_tuples, next_settings in RUNS:
         found = [has_tuples(*tuples), select([], *settings, LEADER, space=SETTINGS)]
         converse([*found, step], folder)
-        journals[journal_name(lsn)] = journal_header(lsn)
         if body is not None:
+            journals[lsn].append(block(bytes.fromhex(f"8300{kind}020103{lsn + 1:02x}" + body)))
             lsn += 1
-            journals[journal_name(lsn - 1)] += block(bytes.fromhex(f"8300{kind}020103{lsn:02x}" + body))
+            journals[lsn] = []
         tuples, settings = next_tuples, next_settings
     converse([has_tuples(*tuples), select([], *settings, LEADER, space=SETTINGS)], folder)
-    journals[journal_name(lsn)] = journal_header(lsn)
-    expect("journals", sorted(journals), files_of(folder))
-    for name, due in journals.items():
-        expect(f"{name} after the last run", (due + END).hex(), (folder / "DIR" / name).read_bytes().hex())
+    expect_journals(folder, journals)
 
 
 def spaces_are_found_again():
