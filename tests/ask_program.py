@@ -39,6 +39,7 @@ SELECT = request("SELECT", 2, space=512, limit=10, iterator="EQ", key=[1])
 PING = packet({TYPE: 64}, width=0)
 PONG = ok_reply()
 NO_PACKET = (20, "Packet is not MessagePack")
+UUID = "00010203-0405-4607-8809-0a0b0c0d0e0f"
 # What the server says when it ends connection 1.
 ENDED = output_unit(b"")
 
@@ -125,10 +126,15 @@ REFUSED = (
     (request("REPLACE", 1, space=512, tuple=[]), 39, "Field 0 is missing"),
     (request("REPLACE", 1, space=512, tuple=[-1]), 23, "Field 0: unsigned expected"),
     (request("REPLACE", 1, space=512, tuple=["a", 1]), 23, "Field 0: unsigned expected"),
-    # What isn't built yet, with BEGIN in stream 0, and an acknowledgement.
-    (request("BEGIN", 1), 48, "Unknown request type 14"),
-    (request("COMMIT", 1), 48, "Unknown request type 15"),
-    (request("ROLLBACK", 1), 48, "Unknown request type 16"),
+    # Transactions need a stream.
+    (request("BEGIN", 1), 1, "Illegal value of key 0x0a"),
+    (request("BEGIN", 1, 0), 1, "Illegal value of key 0x0a"),
+    (request("BEGIN", 1, isolation=5), 1, "Illegal value of key 0x59"),
+    (request("COMMIT", 1), 1, "Illegal value of key 0x0a"),
+    (request("ROLLBACK", 1), 1, "Illegal value of key 0x0a"),
+    # What isn't built yet: links, and an acknowledgement.
+    (packet({TYPE: 65, SYNC: 1}, {0x24: UUID}), 48, "Unknown request type 65"),
+    (packet({TYPE: 66, SYNC: 1}, {0x24: UUID, 0x25: UUID, KEYS["vclock"]: {}}), 48, "Unknown request type 66"),
     (packet({TYPE: 0, SYNC: 1}, {KEYS["vclock"]: {}}), 48, "Unknown request type 0"),
 )
 
@@ -156,6 +162,17 @@ EXCHANGES = (
     (request("ID", 6, version=4, features=[0, 1, 2, 3, 4]), id_reply(6)),
     (packet({TYPE: 64, SYNC: 7}, width=0), ok_reply(7)),
     (packet({TYPE: 12}, width=1), PONG),
+    # A transaction. Its stream is one number in any spelling, and how long it may take isn't looked at.
+    (
+        packet({STREAM: Wide(9, 8), SYNC: 8, TYPE: 14}, {KEYS["timeout"]: None, KEYS["isolation"]: Wide(4, 2)}),
+        ok_reply(8),
+    ),
+    (request("REPLACE", 9, stream=Wide(9, 1), space=512, tuple=[5]), tuples_reply(9, [5])),
+    (request("SELECT", 10, space=512, key=[5]), tuples_reply(10)),
+    (request("PING", 11, stream=9), ok_reply(11)),
+    (packet({TYPE: Wide(15, 4), SYNC: 12, STREAM: 9}, width=0), ok_reply(12)),
+    (request("SELECT", 13, stream=9, space=512, key=[5]), tuples_reply(13, [5])),
+    (packet({TYPE: 16, SYNC: 14, STREAM: 9}, {}, width=2), ok_reply(14)),
 )
 
 

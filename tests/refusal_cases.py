@@ -3,12 +3,16 @@
 from iproto import Spelled, Wide
 from schema_cases import BY_NAME, FIRST, HASH, NO_TEXT, NUMBERS, OWN, PRIMARY, TEXT_EXPECTED, TEXTS
 from steps import (
+    ALL_OF_CONNECTION,
+    ALL_OPEN,
     BAD_INDEX,
     BAD_SPACE,
     CLUSTER,
+    CONFLICT,
     DUPLICATE,
     HASH_ITERATOR,
     IN_PLACE,
+    IN_TRANSACTION,
     INDEX_ROWS,
     INDEXES,
     KEY_CHANGED,
@@ -19,6 +23,7 @@ from steps import (
     NO_FIELD,
     NO_SPACE,
     NOT_UNSIGNED,
+    OK,
     READ_ONLY,
     RESULT_TOO_LONG,
     ROW_TOO_LONG,
@@ -29,10 +34,13 @@ from steps import (
     SPACES,
     SYSTEM_WRITE,
     TEST,
+    TRANSACTION_OPEN,
     UNKNOWN_OPERATOR,
     add_index,
     add_space,
     bad_argument,
+    begin,
+    commit,
     delete,
     drop_index,
     drop_space,
@@ -87,11 +95,20 @@ TOO_LONG = LONGEST + b"a"
 # So many tuples of the greatest length that a SELECT of all is refused.
 LONG_TUPLES = tuple(upsert([key, LONGEST], []) for key in range(17))
 
+# So many transactions as may be open, of one connection and of all.
+OF_CONNECTION = tuple(begin(stream) for stream in range(1, 65))
+OF_ALL = tuple(begin(stream, connection=connection) for connection in range(1, 17) for stream in range(1, 65))
+# A transaction of stream 1 that has read a key, which is put then, and has a row; and one that only has read it.
+DOOMED = (begin(), select([50], stream=1), replace([60], stream=1), insert([50]))
+OVERLAPPED = (begin(), select([50], stream=1), insert([50]))
+# So many rows as a transaction may have.
+FULL = (begin(), *(replace([60], stream=1) for _ in range(4_096)))
+
 # ---- each refusal, as the last reply of a conversation
 
-# Memory or lsns would have to run out for 2 and 208. Those of transactions are 79, 97, 201 and 204, and those of links
-# and views 205, 206, 209 and 210; none of these is built yet.
-UNMET = {2, 208, 79, 97, 201, 204, 205, 206, 209, 210}
+# Memory or lsns would have to run out for 2 and 208. Those of links and views are 205, 206, 209 and 210, and not built
+# yet.
+UNMET = {2, 208, 205, 206, 209, 210}
 EQUAL = [TEST, 1, "equal", "tree", {"unique": False}, NUMBERS]
 KEY_KINDS = ("unsigned", "integer", "string", "boolean", "varbinary", "scalar")
 
@@ -106,6 +123,8 @@ EACH = (
     (select([], (1, "Illegal value of key 0x14"), iterator=7),),
     (insert([1]), insert([1, "a"], (3, 'Duplicate key in unique index "primary" of space "test"'))),
     ((7, {}, (5, "Unsupported: authentication")),),
+    (begin(), replace([TEST], (5, "Unsupported: schema statement in a transaction"), SPACES, stream=1)),
+    (begin(), delete([TEST, 1], (5, "Unsupported: schema statement in a transaction"), INDEXES, stream=1)),
     (replace([TEST], (5, "Unsupported: change of a schema row in place"), SPACES),),
     (insert([1], (5, "Unsupported: write to a system space"), SHOWN_SPACES),),
     (add_index(HASH), select([], (5, "Unsupported: iterator of a hash index"), index=1, iterator="LT")),
@@ -133,10 +152,17 @@ EACH = (
     (add_index(EQUAL), delete([1], (41, 'Index "equal" of space "test" is not unique'), index=1)),
     ((8, {}, (48, "Unknown request type 8")),),
     (("SELECT", {"space": TEST}, (69, "Missing key 0x20")),),
+    (begin(), begin(1, (79, "Transaction is open in this stream"))),
     (insert([1]), update([1], [["=", 0, 2]], (94, 'Primary key of space "test" is changed'))),
     (insert([1, MOST]), update([1], [["+", 1, 1]], (95, "Update operation 0: integer overflow"))),
+    (*DOOMED, select([60], (97, "Transaction has been aborted by conflict"), stream=1)),
+    (*DOOMED, commit(1, (97, "Transaction has been aborted by conflict"))),
+    (*OVERLAPPED, insert([60], (97, "Transaction has been aborted by conflict"), stream=1)),
+    (*OF_ALL, begin(1, (201, "All 1024 transactions are open"), connection=17)),
     (upsert([1], upsert_too_long(), (202, "Transaction is too long"), base=1),),
+    (*FULL, insert([1], (202, "Transaction is too long"), stream=1)),
     (insert([1, TOO_LONG], (203, "Tuple of 1048577 bytes, 1048576 allowed")),),
+    (*OF_CONNECTION, begin(65, (204, "All 64 transactions of the connection are open"))),
     (*LONG_TUPLES, select([], (207, "Result is longer than 16777216 bytes"))),
 )
 # The same of a node that isn't writable.
@@ -145,12 +171,19 @@ EACH_OF_OTHER_NODE = ((insert([1], (7, "Node is read-only, the writable node is 
 # ---- the order of refusals, two by two
 
 # What a request is judged by, in this order. Its type, which comes first, leaves no other but the keys to be judged.
-STAGES = ("keys", "read-only", "space", "index", "parts", "tuple", "duplicate", "limits")
+STAGES = ("keys", "stream", "conflict", "read-only", "space", "index", "parts", "tuple", "duplicate", "limits")
+# A node that takes no writes has no commit to conflict with.
+UNTRIED = {"conflict before read-only"}
 NAMED = (add_index(BY_NAME), insert([1, "a"]), insert([2, "b"]))
 HASHED, EQUALS = (add_index(HASH),), (add_index(EQUAL),)
 NOT_UNIQUE, NAME_TAKEN, THIRD_TAKEN = not_unique("equal"), duplicate("name"), duplicate("third")
 STILL_INDEXED, PRIMARY_LAST, TEST_EXISTS = still_indexed("test"), primary_last("test"), space_exists("test")
 LONG_ROW = update_too_long(["=", 1, 0])
+
+
+def add_in_stream(row):
+    """The row of a space is added in a transaction of stream 1."""
+    return insert(row, IN_TRANSACTION, SPACES, stream=1)
 
 
 def last_left_out(pair, setting, operations, first, second, space=TEST):
@@ -165,7 +198,19 @@ PAIRS = (
     ("type before keys", (), (7, {"stream": -1}, (5, "Unsupported: authentication")), {"type": "PING"}, illegal(0x0A)),
     ("type before keys", (), ("a", {"stream": -1}, illegal(0x00)), {"type": "PING"}, illegal(0x0A)),
     # That a request's type is known and not done yet comes behind its keys.
-    ("keys before type", (), ("BEGIN", {"isolation": 5}, illegal(0x59)), {"isolation": 4}, unknown_type(14)),
+    ("keys before type", (), (0, {"vclock": 7}, illegal(0x26)), {"vclock": {}}, unknown_type(0)),
+    ("keys before stream", (), begin(0, illegal(0x59), isolation=5), {"isolation": 4}, illegal(0x0A)),
+    ("keys before stream", (begin(),), begin(1, illegal(0x59), isolation=5), {"isolation": 4}, TRANSACTION_OPEN),
+    (
+        "keys before stream",
+        (begin(),),
+        ("INSERT", {"space": SPACES, "stream": 1}, missing(0x21)),
+        {"tuple": []},
+        IN_TRANSACTION,
+    ),
+    ("keys before conflict", DOOMED, select(7, illegal(0x20), stream=1), {"key": []}, CONFLICT),
+    ("keys before conflict", DOOMED, update([1], [["?"]], UNKNOWN_OPERATOR, stream=1), {"operations": []}, CONFLICT),
+    ("keys before conflict", OVERLAPPED, insert(7, illegal(0x21), stream=1), {"tuple": [1]}, CONFLICT),
     ("keys before space", (), select(7, illegal(0x20), space=513), {"key": []}, NO_SPACE),
     ("keys before space", (), ("INSERT", {"space": 513}, missing(0x21)), {"tuple": [1]}, NO_SPACE),
     ("keys before space", (), update([1], [["?"]], UNKNOWN_OPERATOR, CLUSTER), {"operations": []}, SYSTEM_WRITE),
@@ -185,6 +230,51 @@ PAIRS = (
     ("keys before duplicate", NAMED, insert([1, "a"], illegal(0x0A), stream="a"), {"stream": 0}, DUPLICATE),
     ("keys before duplicate", NAMED, upsert([3, "a"], [], illegal(0x15), base=2), {"base": 0}, NAME_TAKEN),
     ("keys before limits", (insert([1]),), update([1], LONG_ROW, illegal(0x15), base=2), {"base": 0}, ROW_TOO_LONG),
+    ("keys before limits", OF_CONNECTION, begin(65, illegal(0x59), isolation=5), {"isolation": 4}, ALL_OF_CONNECTION),
+    ("stream before conflict", DOOMED, begin(1, TRANSACTION_OPEN), {"type": "COMMIT"}, CONFLICT),
+    ("stream before conflict", DOOMED, add_in_stream([]), {"space": TEST}, CONFLICT),
+    ("stream before space", (begin(),), add_in_stream([511]), {"stream": 2}, SYSTEM_WRITE),
+    ("stream before space", (begin(),), replace([TEST], IN_TRANSACTION, SPACES, stream=1), {"stream": 0}, IN_PLACE),
+    (
+        "stream before index",
+        (begin(),),
+        delete([TEST], IN_TRANSACTION, SPACES, index=9, stream=1),
+        {"stream": 0},
+        no_index(9, "_space"),
+    ),
+    (
+        "stream before parts",
+        (begin(),),
+        delete([TEST, 1], IN_TRANSACTION, SPACES, stream=1),
+        {"stream": 2},
+        key_count(2, 1),
+    ),
+    ("stream before tuple", (begin(),), add_in_stream([OWN, 1, "a"]), {"stream": 0}, BAD_SPACE),
+    (
+        "stream before tuple",
+        (begin(),),
+        delete([TEST], IN_TRANSACTION, SPACES, stream=1),
+        {"stream": 2},
+        STILL_INDEXED,
+    ),
+    ("stream before duplicate", (begin(),), add_in_stream(space_row(TEST, "a")), {"stream": 2}, TEST_EXISTS),
+    ("stream before limits", OF_CONNECTION, begin(64, TRANSACTION_OPEN), {"stream": 65}, ALL_OF_CONNECTION),
+    ("stream before limits", OF_ALL, begin(64, TRANSACTION_OPEN), {"connection": 17}, ALL_OPEN),
+    ("stream before limits", OF_ALL, begin(0, illegal(0x0A)), {"stream": 65}, ALL_OF_CONNECTION),
+    ("conflict before space", DOOMED, insert([1], CONFLICT, 513, stream=1), {"stream": 2}, NO_SPACE),
+    ("conflict before space", OVERLAPPED, insert([1], CONFLICT, CLUSTER, stream=1), {"stream": 0}, SYSTEM_WRITE),
+    ("conflict before index", DOOMED, select([], CONFLICT, index=9, stream=1), {"stream": 2}, no_index(9)),
+    ("conflict before parts", DOOMED, select([1, 2], CONFLICT, stream=1), {"stream": 2}, key_count(2, 1)),
+    ("conflict before parts", OVERLAPPED, delete(["a"], CONFLICT, stream=1), {"stream": 0}, key_type(0)),
+    ("conflict before tuple", OVERLAPPED, insert([], CONFLICT, stream=1), {"stream": 0}, NO_FIELD),
+    ("conflict before duplicate", OVERLAPPED, insert([50], CONFLICT, stream=1), {"stream": 0}, DUPLICATE),
+    (
+        "conflict before limits",
+        OVERLAPPED,
+        update([50], update_too_long(["=", 1, 0]), CONFLICT, stream=1),
+        {"stream": 0},
+        ROW_TOO_LONG,
+    ),
     ("space before index", (), select([], NO_SPACE, space=513, index=9), {"space": TEST}, no_index(9)),
     ("space before index", (), delete([1], SYSTEM_WRITE, CLUSTER, index=9), {"space": TEST}, no_index(9)),
     ("space before index", (add_space(FIRST),), insert([1], NO_SPACE, 513), {"space": OWN}, no_index(0, "first")),
@@ -266,26 +356,29 @@ PAIRS = (
         ROW_TOO_LONG,
     ),
 )
-# A pair, a request of a new database with its refusal, and that by a node that isn't writable.
+# A pair, what is asked before it, a request of a new database with its refusal, and that by a node that isn't writable.
 PAIRS_OF_OTHER_NODE = (
-    ("keys before read-only", insert([1], illegal(0x0A), stream=-1), illegal(0x0A)),
-    ("keys before read-only", insert(7, illegal(0x21)), illegal(0x21)),
-    ("keys before read-only", update([1], [["?"]], UNKNOWN_OPERATOR), UNKNOWN_OPERATOR),
-    ("keys before read-only", upsert([1], [["="]], bad_argument(0)), bad_argument(0)),
-    ("read-only before space", insert([1], NO_SPACE, 513), READ_ONLY),
-    ("read-only before space", replace([1], IN_PLACE, SPACES), READ_ONLY),
-    ("read-only before space", delete([1], SYSTEM_WRITE, CLUSTER), READ_ONLY),
-    ("read-only before index", delete([1], no_index(9), index=9), READ_ONLY),
-    ("read-only before parts", update([], [], key_count(0, 1)), READ_ONLY),
-    ("read-only before parts", delete(["a"], key_type(0)), READ_ONLY),
-    ("read-only before tuple", replace([], NO_FIELD), READ_ONLY),
-    ("read-only before tuple", add_space([OWN, 1, "a"], BAD_SPACE), READ_ONLY),
-    ("read-only before tuple", drop_space(TEST, STILL_INDEXED), READ_ONLY),
-    ("read-only before duplicate", add_space(space_row(TEST, "a"), TEST_EXISTS), READ_ONLY),
-    ("read-only before limits", upsert([1], upsert_too_long(), ROW_TOO_LONG, base=1), READ_ONLY),
+    ("keys before read-only", (), insert([1], illegal(0x0A), stream=-1), illegal(0x0A)),
+    ("keys before read-only", (), insert(7, illegal(0x21)), illegal(0x21)),
+    ("keys before read-only", (), update([1], [["?"]], UNKNOWN_OPERATOR), UNKNOWN_OPERATOR),
+    ("keys before read-only", (), upsert([1], [["="]], bad_argument(0)), bad_argument(0)),
+    ("stream before read-only", (begin(),), add_in_stream([OWN]), IN_TRANSACTION),
+    ("stream before read-only", (begin(),), replace([], IN_TRANSACTION, INDEXES, stream=1), IN_TRANSACTION),
+    ("read-only before space", (), insert([1], NO_SPACE, 513), READ_ONLY),
+    ("read-only before space", (begin(),), insert([1], NO_SPACE, 513, stream=1), READ_ONLY),
+    ("read-only before space", (), replace([1], IN_PLACE, SPACES), READ_ONLY),
+    ("read-only before space", (), delete([1], SYSTEM_WRITE, CLUSTER), READ_ONLY),
+    ("read-only before index", (), delete([1], no_index(9), index=9), READ_ONLY),
+    ("read-only before parts", (), update([], [], key_count(0, 1)), READ_ONLY),
+    ("read-only before parts", (), delete(["a"], key_type(0)), READ_ONLY),
+    ("read-only before tuple", (), replace([], NO_FIELD), READ_ONLY),
+    ("read-only before tuple", (), add_space([OWN, 1, "a"], BAD_SPACE), READ_ONLY),
+    ("read-only before tuple", (), drop_space(TEST, STILL_INDEXED), READ_ONLY),
+    ("read-only before duplicate", (), add_space(space_row(TEST, "a"), TEST_EXISTS), READ_ONLY),
+    ("read-only before limits", (), upsert([1], upsert_too_long(), ROW_TOO_LONG, base=1), READ_ONLY),
 )
 
-# Within the stages of parts, tuple and duplicate: the numbers of the refusals, and all else as above.
+# Within the stages of parts, tuple, duplicate and limits: the numbers of the refusals, and all else as above.
 FIELDS = (("id", "integer"), ("text", "string"))
 OF_TWO = (*own_space(2, *FIELDS), insert([1, "a"], space=OWN))
 OF_ANY = own_space(0, *FIELDS)
@@ -390,6 +483,7 @@ PAIRS_WITHIN = (
         {"operations": [["=", 2, 2]]},
         THIRD_TAKEN,
     ),
+    ("204 before 201", OF_ALL, begin(65, ALL_OF_CONNECTION), {"connection": 17}, ALL_OPEN),
     # An index to be made comes behind its own row, and its tuples by their primary keys.
     (
         "3 of a row before 39 of a tuple",
@@ -504,6 +598,16 @@ LADDERS = {
         ({"operations": upsert_too_long(["=", 2, 0])}, ROW_TOO_LONG),
         ({"operations": [["=", 2, 0]]}, []),
     ),
+    "BEGIN": (
+        ({"stream": -1, "isolation": 5}, illegal(0x0A)),
+        ({"stream": 0}, illegal(0x59)),
+        ({"isolation": 4}, illegal(0x0A)),
+        ({"stream": 1}, OK),
+        ({}, TRANSACTION_OPEN),
+        ({"stream": 2}, OK),
+    ),
+    "COMMIT": (({"stream": -1}, illegal(0x0A)), ({"stream": 0}, illegal(0x0A)), ({"stream": 1}, OK)),
+    "ROLLBACK": (({"stream": -1}, illegal(0x0A)), ({"stream": 0}, illegal(0x0A)), ({"stream": 1}, OK)),
     # Rows that another index names, whose keys have two parts.
     "SELECT by a name": (
         ({"space": 513, "index": 9, "key": [-1, 5, 5]}, NO_SPACE),

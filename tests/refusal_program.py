@@ -26,10 +26,13 @@ from refusal_cases import (
     SYSTEM_WRITES,
     UNCHANGED,
     UNMET,
+    UNTRIED,
 )
 from steps import (
     MOST,
     READ_ONLY,
+    begin,
+    commit,
     converse,
     delete,
     files_of,
@@ -37,6 +40,7 @@ from steps import (
     journal_name,
     make_other_node,
     replace,
+    select,
     update,
     upsert,
 )
@@ -62,7 +66,7 @@ def each_number_is_met():
 
 def each_pair_of_stages_is_tried():
     pairs = {f"{first} before {second}" for first, second in combinations(STAGES, 2)}
-    expect("pairs that aren't tried", set(), pairs - {row[0] for row in (*PAIRS, *PAIRS_OF_OTHER_NODE)})
+    expect("pairs that aren't tried", UNTRIED, pairs - {row[0] for row in (*PAIRS, *PAIRS_OF_OTHER_NODE)})
 
 
 def first_comes_before_second(setting, step, changes, second):
@@ -72,10 +76,10 @@ def first_comes_before_second(setting, step, changes, second):
     converse([*setting, step, (mended.pop("type", name), mended, second)])
 
 
-def both_nodes_refuse(step, refusal):
+def both_nodes_refuse(setting, step, refusal):
     """Asks a writable node, and one that isn't and refuses so."""
-    converse([step])
-    converse_with_other_node([(*step[:2], refusal)])
+    converse([*setting, step])
+    converse_with_other_node([*setting, (*step[:2], refusal)])
 
 
 def refused_writes_change_nothing():
@@ -107,6 +111,12 @@ def other_nodes_take_no_writes():
             update([1], [], READ_ONLY),
             delete([1], READ_ONLY),
             upsert([1], [], READ_ONLY),
+            # Nor do its transactions, which may read and commit.
+            begin(),
+            insert([1], READ_ONLY, stream=1),
+            select([], stream=1),
+            delete([1], READ_ONLY, stream=1),
+            commit(),
             *UNCHANGED,
         )
     )
