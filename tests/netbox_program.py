@@ -13,7 +13,21 @@ import sys
 import tempfile
 from pathlib import Path
 
-from iproto import DATA, SCHEMA, SYNC, TYPE, error_reply, id_reply, ok_reply, packet, read_reply, request, tuples_reply
+from iproto import (
+    DATA,
+    SCHEMA,
+    STREAM,
+    SYNC,
+    TYPE,
+    Spelled,
+    error_reply,
+    id_reply,
+    ok_reply,
+    packet,
+    read_reply,
+    request,
+    tuples_reply,
+)
 from program import GREETING, Listening, all_pass, exchange, expect, is_built, receive
 from steps import DUPLICATE, INDEX_ROWS, INDEXES, SHOWN_INDEXES, SHOWN_SPACES, SPACE_ROWS, TEST, index_row
 
@@ -23,6 +37,8 @@ NO_COLLATIONS = 77
 SCRIPT = Path(__file__).resolve().parent / "netbox.lua"
 # The limit of a request that has none.
 ALL = 2**32 - 1
+# The seconds that a transaction may take, where none are given: the float 3153600000.
+TIMEOUT = Spelled(bytes.fromhex("cb41e77f03c0000000"))
 BY_NAME = index_row(TEST, 1, "name", [[1, "string"]])
 
 
@@ -66,6 +82,13 @@ PACKETS = (
     (request("SELECT", 21, space=SHOWN_SPACES, limit=ALL, key=[]), tuples_reply(21, *SPACE_ROWS, schema=1)),
     (request("SELECT", 22, space=SHOWN_INDEXES, limit=ALL, key=[]), tuples_reply(22, *INDEX_ROWS, BY_NAME, schema=1)),
     (select(23, ["d"], index=1, limit=2), tuples_reply(23, [3, "d", 0], schema=1)),
+    # A transaction in a stream, whose timeout is a float.
+    (packet({TYPE: 14, SYNC: 24, STREAM: 1}, {0x56: TIMEOUT, 0x59: 0}), ok_reply(24, schema=1)),
+    (request("REPLACE", 25, stream=1, space=TEST, tuple=[5, "f"]), tuples_reply(25, [5, "f"], schema=1)),
+    (select(26, [5], limit=2), tuples_reply(26, schema=1)),
+    (packet({TYPE: 15, SYNC: 27, STREAM: 1}), ok_reply(27, schema=1)),
+    (select(28, [5], limit=2), tuples_reply(28, [5, "f"], schema=1)),
+    (packet({TYPE: 16, SYNC: 29, STREAM: 1}), ok_reply(29, schema=1)),
 )
 # The spaces of a new database as net.box has them: number, engine and number of fields, and of each index the
 # number, the type, whether it is unique, and the type of each part and its field, counted from 1.
