@@ -18,6 +18,7 @@ from iproto import (
     output_unit,
     output_units,
     pack,
+    packet,
     request_parts,
 )
 
@@ -100,10 +101,11 @@ def answers(folder, asked):
     return answered
 
 
-def ask_line(connection, name, stream=None, **fields):
-    """The line that asks `mx_histories` for a request."""
+def spelled_twice(connection, name, stream=None, **fields):
+    """A request as the line that asks `mx_histories` for it, and as the packet that asks the program."""
     header, body = request_parts(name, stream=stream, **fields)
-    return f"ask {connection} {pack(header).hex()} {'' if body is None else pack(body).hex()}"
+    line = f"ask {connection} {pack(header).hex()} {'' if body is None else pack(body).hex()}"
+    return line, packet(header, body)
 
 
 def history_answers(lines):

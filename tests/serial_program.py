@@ -10,31 +10,36 @@ transactions. So are the keys that it reads and those that a commit touches. Of 
 - a transaction is told of a conflict exactly where it had read a key or a gap that a later commit touched, and it has
   a row or has written since; from then on it is told so to its end;
 - a statement outside of a transaction was answered as if it ran alone, and the tuples in the end are those that the
-  commits make.
+  commits make;
+- the built program answers the same. It is asked the first COMPARED histories, or as many as `--compared NUMBER` says.
 
-The histories go on from each other's tuples, some in one database, all in one run of `mx_histories`. One that fails
-is printed in the notation of `interleaving_cases.py`, and the status is 0 only where none does. `--histories NUMBER`
-asks fewer or more of them, and `--seed NUMBER` others.
+The histories go on from each other's tuples, some in one database, all in one run of `mx_histories`. The built program
+has a run for each database. A history that fails is printed in the notation of `interleaving_cases.py`, and the status
+is 0 only where none does. `--histories NUMBER` asks fewer or more of them, and `--seed NUMBER` others.
 """
 
 import argparse
 import json
 import sys
+import tempfile
 from functools import lru_cache
 from itertools import islice
+from pathlib import Path
 from random import Random
 
 from interleaving_cases import BY_NAME
-from interleavings_program import line_and_answer, tuples_line
+from interleavings_program import program_lines, read_step, tuples_line
 from iproto import Reader
-from program import ask_line, build_histories, history_answers
+from program import build_histories, history_answers, is_built, spelled_twice
 from steps import TEST
 
-HISTORIES, PER_DATABASE = 30_000, 100
+HISTORIES, COMPARED, PER_DATABASE = 30_000, 30_000, 100
 # The indexes of the space beside the primary one: a unique one on field 1, and one on field 2 that isn't.
 BY_NUMBER = '9: insert space 288 [512, 2, "number", "tree", {"unique": false}, [[2, "unsigned"]]]'
 KEY, NAME, NUMBER = range(3)
 KINDS = (int, str, int)
+SETTING = [read_step(step) for step in (BY_NAME, BY_NUMBER)]
+DUE = [step.due for step in SETTING]
 # The names of open transactions, each with its connection and stream, and a connection outside of streams.
 STREAMS, PLAIN = ((1, 1), (2, 1), (1, 2)), (9, None)
 KEYS, NAMES, NUMBERS = range(5), "abcde", range(3)
@@ -263,13 +268,14 @@ def listed(value):
 
 
 @lru_cache(maxsize=None)
-def asked_line(name, statement):
-    """The line of a step of this name, a connection and a stream."""
+def asked(name, statement):
+    """A step of this name, a connection and a stream: the line that asks `mx_histories`, and what asks the program."""
     connection, stream = name
     if statement == ("leave",):
-        return f"leave {connection}"
+        return f"leave {connection}", (connection, None)
     fields = {} if len(statement) == 1 else {"space": TEST, **fields_of(statement)}
-    return ask_line(connection, statement[0].upper(), stream, **fields)
+    line, packet = spelled_twice(connection, statement[0].upper(), stream, **fields)
+    return line, (connection, packet)
 
 
 @lru_cache(maxsize=None)
@@ -513,30 +519,52 @@ def show(seed, number, before, steps, answers, why):
 # ---- all histories
 
 
-def lines_of(histories, setting):
+def lines_of(histories):
     """The lines of all histories, some in one database."""
     for number, steps in enumerate(histories):
         if number % PER_DATABASE == 0:
-            yield from ("new", *setting)
-        yield from (asked_line(name, step) for name, step in steps)
+            yield from ("new", *(step.line for step in SETTING))
+        yield from (asked(name, step)[0] for name, step in steps)
 
 
-def search_all(histories, due, answers, seed):
+def program_answers(histories):
+    """What the built program answers to each history, in the lines of `mx_histories`."""
+    for begin in range(0, len(histories), PER_DATABASE):
+        part = histories[begin : begin + PER_DATABASE]
+        packets = [(step.connection, step.packet) for step in SETTING]
+        packets += [asked(name, step)[1] for steps in part for name, step in steps]
+        with tempfile.TemporaryDirectory(prefix="vurandy-") as folder:
+            lines = program_lines(Path(folder), packets)
+            expect([*islice(lines, len(SETTING))] == DUE, "the program adds the indexes")
+            for steps in part:
+                yield [*islice(lines, len(steps))]
+
+
+def check_same(seen, answered):
+    """Checks that the built program, where it was asked, answered a history as the plain slow one did."""
+    for number, (line, other) in enumerate(zip(seen, seen if answered is None else answered), 1):
+        expect(line == other, f"step {number} is answered `{other}` by the program")
+
+
+def search_all(histories, answers, compared, seed):
     """Searches each history. Returns how many have a serial order, how many have a conflict, and how many have none.
 
-    One that has none is printed, and those behind it in its database are passed over.
+    One that has none, or is answered otherwise by the program, is printed, and those behind it in its database are
+    passed over.
     """
     found, conflicts, failed, tuples = 0, 0, 0, {}
     for number, steps in enumerate(histories):
         if number % PER_DATABASE == 0:
-            expect([*islice(answers, 1 + len(due))] == ["new", *due], "the indexes are added")
+            expect([*islice(answers, 1 + len(SETTING))] == ["new", *DUE], "the indexes are added")
             tuples = {}
         seen = [*islice(answers, len(steps))]
-        if tuples is None:
-            continue
         try:
+            answered = next(compared, None)
+            if tuples is None:
+                continue
             after = search(tuples, steps, seen)
-        except Differs as why:
+            check_same(seen, answered)
+        except (Differs, AssertionError) as why:
             show(seed, number, tuples, steps, seen, why)
             failed, tuples = failed + 1, None
         else:
@@ -554,17 +582,22 @@ def search(tuples, steps, seen):
 
 def main():
     parser = argparse.ArgumentParser(description="Searches generated histories for serial orders.")
-    parser.add_argument("--histories", type=int, default=HISTORIES)
+    parser.add_argument("--histories", type=int, default=HISTORIES, help="how many histories are asked")
+    parser.add_argument(
+        "--compared", type=int, default=COMPARED, help="how many of them the built program is asked, too"
+    )
     parser.add_argument("--seed", type=int, default=1)
     given = parser.parse_args()
-    # The build is proved first, and may take far longer than the checks.
+    # The builds are proved first, and may take far longer than the checks.
     build_histories()
-    setting, due = zip(*map(line_and_answer, (BY_NAME, BY_NUMBER)))
+    if not is_built():
+        print("FAILED  the program is not built")
+        return 1
     histories = [some_history(Random(f"{given.seed} {number}")) for number in range(given.histories)]
-    answers = history_answers(lines_of(histories, setting))
-    found, conflicts, failed = search_all(histories, due, iter(answers), given.seed)
-    told = f", {failed} failed" if failed else ""
-    print(f"serial_program: {found} passed, {conflicts} of them with a conflict{told}")
+    answers, compared = history_answers(lines_of(histories)), program_answers(histories[: given.compared])
+    found, conflicts, failed = search_all(histories, iter(answers), compared, given.seed)
+    told = f"{found} passed, {conflicts} of them with a conflict, {len(histories[: given.compared])} asked of the program"
+    print(f"serial_program: {told}{f', {failed} failed' if failed else ''}")
     return 1 if failed else 0
 
 
