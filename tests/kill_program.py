@@ -1,14 +1,16 @@
 #!/usr/bin/env python3
 """Kills the built program at many points, and checks what a further run finds.
 
-Each round has a folder of its own. A run on it is sent one REPLACE a unit, of the keys 1, 2, 3 and
-so on, and is killed by SIGKILL. Then a further run SELECTs each of these keys: it has to find the
-keys from 1 up to one of them, each with its own tuple, among them all that were acknowledged and
-none that wasn't sent. Some rounds kill three runs in a row, and each goes on at the next key.
+Each round has a folder of its own. A run on it is sent one commit after the other, and is killed by SIGKILL. A commit
+is one REPLACE, or a transaction of 1 to 50 of them: in one unit, in a unit for each request, or beside another one in
+a second stream. Between transactions some are rolled back, and one is never ended. Then a further run SELECTs all
+tuples: it has to find those of all commits up to one of them, each whole and with its own tuples, among them all that
+were acknowledged and none that wasn't sent. Some rounds kill three runs in a row, and each goes on at the next commit.
 
 A line is printed for each round that fails, and the status is 0 only where none does.
 """
 
+import itertools
 import random
 import signal
 import subprocess
@@ -17,42 +19,114 @@ import tempfile
 import threading
 import time
 from pathlib import Path
+from typing import NamedTuple
 
-from iproto import GREETING_BYTES, SEED, contents, input_unit, output_unit, request, tuples_reply
+from iproto import (
+    DATA,
+    GREETING_BYTES,
+    SEED,
+    contents,
+    input_unit,
+    ok_reply,
+    output_unit,
+    read_reply,
+    request,
+    tuples_reply,
+)
 from program import GREETING, PROGRAM, TRACE, all_pass, environment, expect, is_built
+from steps import expect_bytes
 
 SECONDS = 60
 SCRATCH = Path(tempfile.mkdtemp(prefix="vurandy-"))
 DELAYS = random.Random(20261127)
+# The most rows of a commit, and the streams: the first two commit, the others don't.
+MAX_ROWS = 50
+ONE, OTHER, ROLLED_BACK, LEFT_OPEN = range(1, 5)
 
 
-def tuple_of(key):
-    """The tuple that is put for a key."""
-    return [key, str(key)]
+class Unit(NamedTuple):
+    """What is asked in a unit, what it is answered, and how many commits it makes."""
+
+    asked: bytes
+    answer: bytes
+    commits: int = 0
 
 
-def replace(key):
-    """A REPLACE of a key's tuple, with the key as its sync."""
-    return request("REPLACE", key, space=512, tuple=tuple_of(key))
+def joined(units):
+    """What these units ask, in one."""
+    asked, answers, commits = zip(*units)
+    return Unit(b"".join(asked), b"".join(answers), sum(commits))
 
 
-def select(key):
-    """A SELECT of a key, with the key as its sync."""
-    return request("SELECT", key, space=512, limit=1, iterator="EQ", key=[key])
+def replace(sync, tuple_, stream=None, commits=0):
+    """A REPLACE of a tuple."""
+    return Unit(request("REPLACE", sync, stream, space=512, tuple=tuple_), tuples_reply(sync, tuple_), commits)
 
 
-def greeted(replies):
-    """What output units of one reply each hold: the first one the greeting before its reply."""
-    return [GREETING + replies[0], *replies[1:]] if replies else []
+def transaction(commit, stream, end="COMMIT"):
+    """The requests of a transaction, with the commit as their sync. If it doesn't commit its tuples are others."""
+    yield Unit(request("BEGIN", commit, stream), ok_reply(commit))
+    for key, text in many_rows(commit):
+        yield replace(commit, [key, text if end == "COMMIT" else "lost"], stream)
+    if end is not None:
+        yield Unit(request(end, commit, stream), ok_reply(commit), int(end == "COMMIT"))
+
+
+def transactions(commit):
+    """The transaction of a commit, and maybe one before it that is rolled back."""
+    if commit % 3 == 0:
+        yield transaction(commit, ROLLED_BACK, "ROLLBACK")
+    yield transaction(commit, ONE)
+
+
+def one_row(commit):
+    """The tuples of a commit of one row."""
+    return [[commit, str(commit)]]
+
+
+def many_rows(commit):
+    """The tuples of a commit of 1 to 50 rows."""
+    return [[MAX_ROWS * commit + place, str(commit)] for place in range(1 + commit * 31 % MAX_ROWS)]
+
+
+def one_request(first):
+    """The units of all commits from this one on, each of them one REPLACE."""
+    for commit in itertools.count(first):
+        yield replace(commit, *one_row(commit), commits=1)
+
+
+def one_unit(first):
+    """The same of transactions, each in one unit."""
+    yield joined(transaction(first, LEFT_OPEN, None))
+    for commit in itertools.count(first):
+        yield from map(joined, transactions(commit))
+
+
+def many_units(first):
+    """The same with each request in a unit of its own."""
+    yield from transaction(first, LEFT_OPEN, None)
+    for commit in itertools.count(first):
+        yield from itertools.chain(*transactions(commit))
+
+
+def two_streams(first):
+    """The same with two transactions at once, of which the one that begins first ends last."""
+    yield from transaction(first, LEFT_OPEN, None)
+    for commit in itertools.count(first, 2):
+        *outer, last = transaction(commit + 1, ONE)
+        *inner, end = transaction(commit, OTHER)
+        yield from filter(None, itertools.chain(*itertools.zip_longest(outer, inner)))
+        yield end
+        yield last
 
 
 class Run:
-    """A run on a folder that is sent one REPLACE a unit, of the keys from `first` on."""
+    """A run on a folder that is sent units."""
 
-    def __init__(self, folder, first):
+    def __init__(self, folder, units):
         self.directory = folder / "DIR"
-        self.first = first
-        self.sent = 0
+        self.units = units
+        self.sent = []
         self.output = b""
         self.sender = threading.Thread(target=self.stream, daemon=True)
         self.process = subprocess.Popen(
@@ -71,19 +145,14 @@ class Run:
     def __exit__(self, *_):
         self.end()
 
-    def next_unit(self):
-        """The unit that is to be sent next."""
-        return input_unit(replace(self.first + self.sent))
-
     def send(self):
         """Sends the next unit, which counts as sent once its sending begins."""
-        unit = self.next_unit()
-        self.sent += 1
-        self.process.stdin.write(unit)
+        self.sent.append(next(self.units))
+        self.process.stdin.write(input_unit(self.sent[-1].asked))
 
     def send_part(self, size):
-        """Sends so many bytes of the next unit, and not all, so that it doesn't count as sent."""
-        unit = self.next_unit()
+        """Sends so many bytes of the next unit, or all but so many below 0, so that it doesn't count as sent."""
+        unit = input_unit(next(self.units).asked)
         assert size < len(unit), f"bytes of a unit: expected fewer than {len(unit)}, saw {size}"
         self.process.stdin.write(unit[:size])
 
@@ -98,7 +167,7 @@ class Run:
         """Sends so many units, each once the one before it is answered, and awaits the last reply."""
         for _ in range(count):
             self.send()
-            self.await_replies(self.sent)
+            self.await_replies(len(self.sent))
 
     def stream(self):
         """Sends units and awaits no reply, until nobody reads them."""
@@ -122,17 +191,18 @@ class Run:
         expect("status of the killed run", -signal.SIGKILL, self.process.returncode)
         expect("standard error of the killed run", b"", stderr)
 
-    def acknowledged(self):
-        """How many units are answered. The output has to be their replies, the last one maybe cut."""
-        keys = range(self.first, self.first + self.sent)
-        due = [output_unit(held) for held in greeted([tuples_reply(key, tuple_of(key)) for key in keys])]
-        count = len(contents(self.output))
-        rest = self.output
-        for at, unit in enumerate(due[: count + 1]):
-            expect(f"output unit {at}", unit[: len(rest)].hex(), rest[: len(unit)].hex())
-            rest = rest[len(unit) :]
+    def commits(self):
+        """How many commits are acknowledged, and how many were sent.
+
+        The output has to be the answers to the units that were sent, the last one maybe cut.
+        """
+        count, rest = len(contents(self.output)), self.output
+        for at, unit in enumerate(self.sent[: count + 1]):
+            due = output_unit((b"" if at else GREETING) + unit.answer)
+            expect_bytes(f"output unit {at}", due[: len(rest)], rest[: len(due)])
+            rest = rest[len(due) :]
         expect("output that answers no unit", "", rest.hex())
-        return count
+        return sum(unit.commits for unit in self.sent[:count]), sum(unit.commits for unit in self.sent)
 
 
 def after_reply(run, count):
@@ -157,7 +227,7 @@ def after_units(run, count):
 
 
 def inside_unit(run, place):
-    """Kills it once so many bytes of this unit were sent."""
+    """Kills it once so many bytes of this unit were sent, or all but so many below 0."""
     count, size = place
     run.exchange(count - 1)
     run.send_part(size)
@@ -192,36 +262,94 @@ def kill_within(run, most):
 
 
 ROUNDS = (
-    [(after_reply, 0)],
-    [(after_reply, 1)],
-    [(after_reply, 2)],
-    [(after_reply, 150)],
-    [(after_unit, 1)],
-    [(after_unit, 2)],
-    [(after_unit, 30)],
-    [(after_units, 40)],
-    [(inside_unit, (1, 4))],
-    [(inside_unit, (2, 9))],
-    [(inside_unit, (3, 22))],
-    [(inside_unit, (20, 29))],
-    [(while_opening, 1)],
-    [(while_opening, 4)],
-    [(while_streaming, 2)],
-    [(while_streaming, 40)],
-    # Three kills in a row: each run goes on at the key behind those that were found.
-    [(after_reply, 3), (after_unit, 2), (inside_unit, (2, 15))],
-    [(while_opening, 2), (inside_unit, (4, 12)), (after_units, 8)],
-    [(after_unit, 2), (after_unit, 3), (after_unit, 4)],
-    [(while_streaming, 20), (while_starting, 60), (while_streaming, 20)],
+    *(
+        (one_row, one_request, kills)
+        for kills in (
+            [(after_reply, 0)],
+            [(after_reply, 1)],
+            [(after_reply, 2)],
+            [(after_reply, 150)],
+            [(after_unit, 1)],
+            [(after_unit, 2)],
+            [(after_unit, 30)],
+            [(after_units, 40)],
+            [(inside_unit, (1, 4))],
+            [(inside_unit, (2, 9))],
+            [(inside_unit, (3, 22))],
+            [(inside_unit, (20, 29))],
+            [(while_opening, 1)],
+            [(while_opening, 4)],
+            [(while_streaming, 2)],
+            [(while_streaming, 40)],
+            # Three kills in a row: each run goes on at the commit behind those that were found.
+            [(after_reply, 3), (after_unit, 2), (inside_unit, (2, 15))],
+            [(while_opening, 2), (inside_unit, (4, 12)), (after_units, 8)],
+            [(after_unit, 2), (after_unit, 3), (after_unit, 4)],
+            [(while_streaming, 20), (while_starting, 60), (while_streaming, 20)],
+        )
+    ),
+    # The first unit is never committed, and the one before the third commit is rolled back.
+    *(
+        (many_rows, one_unit, kills)
+        for kills in (
+            [(after_reply, 1)],
+            [(after_reply, 2)],
+            [(after_reply, 60)],
+            [(after_unit, 2)],
+            [(after_unit, 3)],
+            [(after_unit, 20)],
+            [(after_units, 30)],
+            # Behind the BEGIN, inside of the rows, and before the last byte of the COMMIT.
+            [(inside_unit, (2, 21))],
+            [(inside_unit, (3, 200))],
+            [(inside_unit, (5, -1))],
+            [(while_opening, 4)],
+            [(while_streaming, 2)],
+            [(while_streaming, 20)],
+            [(after_reply, 4), (after_unit, 3), (inside_unit, (3, -1))],
+            [(while_streaming, 10), (while_starting, 40), (while_streaming, 10)],
+        )
+    ),
+    # Unit 67 is the first COMMIT.
+    *(
+        (many_rows, many_units, kills)
+        for kills in (
+            [(after_reply, 66)],
+            [(after_reply, 67)],
+            [(after_unit, 67)],
+            [(after_units, 67)],
+            [(after_units, 260)],
+            [(inside_unit, (67, -1))],
+            [(while_streaming, 5)],
+            [(while_streaming, 30)],
+            [(after_units, 120), (after_unit, 90), (after_units, 150)],
+            [(while_streaming, 20), (while_starting, 60), (while_streaming, 20)],
+        )
+    ),
+    # Units 81 and 82 are the first two COMMITs.
+    *(
+        (many_rows, two_streams, kills)
+        for kills in (
+            [(after_reply, 80)],
+            [(after_reply, 81)],
+            [(after_unit, 81)],
+            [(after_unit, 82)],
+            [(after_units, 260)],
+            [(inside_unit, (82, -1))],
+            [(while_streaming, 5)],
+            [(while_streaming, 30)],
+            [(after_units, 120), (after_unit, 90), (after_units, 150)],
+            [(while_streaming, 20), (while_starting, 60), (while_streaming, 20)],
+        )
+    ),
 )
 
 
-def keys_found(folder, last):
-    """The keys from 1 up to this one that a further run finds, each of them with its own tuple."""
-    keys = range(1, last + 1)
+def tuples_found(folder):
+    """The reply, with sync 1, to a SELECT of all tuples in a further run."""
     ended = subprocess.run(
         [PROGRAM, *TRACE],
-        input=b"".join(input_unit(select(key)) for key in keys),
+        input=input_unit(request("SELECT", 1, space=512, key=[])),
         capture_output=True,
         env=environment(SEED),
         cwd=folder,
@@ -230,35 +358,37 @@ def keys_found(folder, last):
     expect("standard error of the further run", b"", ended.stderr)
     held = contents(ended.stdout)
     expect("bytes behind its output units", len(b"".join(map(output_unit, held))), len(ended.stdout))
-    expect("number of its output units", last, len(held))
+    expect("number of its output units", 1, len(held))
     expect("greeting of the further run", GREETING, held[0][:GREETING_BYTES])
-    found = []
-    for key, answer in zip(keys, [held[0][GREETING_BYTES:], *held[1:]]):
-        if answer != tuples_reply(key):
-            expect(f"reply to SELECT of {key}", tuples_reply(key, tuple_of(key)).hex(), answer.hex())
-            found.append(key)
-    return found
+    return held[0][GREETING_BYTES:]
 
 
-def check_round(kills):
+def commits_found(folder, rows, least, most):
+    """How many commits a further run finds. It has to find the tuples of these, from the first on, and nothing else."""
+    reply, commits, tuples = tuples_found(folder), 0, []
+    found = len(read_reply(reply).body.get(DATA, ()))
+    while len(tuples) < found:
+        commits += 1
+        tuples += rows(commits)
+    expect_bytes("reply with all tuples", tuples_reply(1, *tuples), reply)
+    assert least <= commits <= most, f"commits found: expected {least} to {most}, saw {commits}"
+    return commits
+
+
+def check_round(rows, requests, kills):
     """Kills runs on one folder, and checks behind each of them what a further run finds."""
-    folder = Path(tempfile.mkdtemp(dir=SCRATCH))
-    there = 0
+    folder, there = Path(tempfile.mkdtemp(dir=SCRATCH)), 0
     for kill, point in kills:
-        with Run(folder, there + 1) as run:
+        with Run(folder, requests(there + 1)) as run:
             kill(run, point)
-            least, most = there + run.acknowledged(), there + run.sent
-        # One key more than were sent is asked for, which must not be there.
-        found = keys_found(folder, most + 1)
-        there = len(found)
-        gaps = sorted(set(range(1, there + 1)) - set(found))
-        expect("keys that aren't found before one that is", [], gaps[:5])
-        assert least <= there <= most, f"keys found: expected {least} to {most}, saw {there}"
+            least, most = run.commits()
+        there = commits_found(folder, rows, there + least, there + most)
 
 
-def name_of(kills):
-    """The names of a round's kill points."""
-    return ", ".join(f"{kill.__name__.replace('_', ' ')} {point}" for kill, point in kills)
+def name_of(requests, kills):
+    """The names of a round's requests and kill points."""
+    points = ", ".join(f"{kill.__name__.replace('_', ' ')} {point}" for kill, point in kills)
+    return f"{requests.__name__.replace('_', ' ')}: {points}"
 
 
 def main():
@@ -266,7 +396,7 @@ def main():
     if not is_built():
         print("FAILED  the program is not built")
         return 1
-    rounds = [(name_of(kills), check_round, kills) for kills in ROUNDS]
+    rounds = [(name_of(requests, kills), check_round, rows, requests, kills) for rows, requests, kills in ROUNDS]
     return 0 if all_pass("kill_program", rounds, SECONDS, SCRATCH) else 1
 
 
