@@ -366,10 +366,13 @@ def tuples_found(folder):
 def commits_found(folder, rows, least, most):
     """How many commits a further run finds. It has to find the tuples of these, from the first on, and nothing else."""
     reply, commits, tuples = tuples_found(folder), 0, []
-    found = len(read_reply(reply).body.get(DATA, ()))
-    while len(tuples) < found:
+    found = read_reply(reply).body.get(DATA, [])
+    while len(tuples) < len(found):
         commits += 1
         tuples += rows(commits)
+    for place, (due, seen) in enumerate(zip(tuples, found)):
+        expect(f"tuple {place} that is found", due, seen)
+    expect("number of tuples that are found", len(tuples), len(found))
     expect_bytes("reply with all tuples", tuples_reply(1, *tuples), reply)
     assert least <= commits <= most, f"commits found: expected {least} to {most}, saw {commits}"
     return commits

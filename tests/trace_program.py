@@ -21,8 +21,9 @@ from collections import Counter
 from dataclasses import dataclass
 from pathlib import Path
 
-from iproto import GREETING_BYTES, SEED, contents, input_unit, output_unit, request, tuples_reply
+from iproto import GREETING_BYTES, SEED, contents, input_unit, ok_reply, output_unit, request, tuples_reply
 from program import EXAMPLE, GREETING, ROOT, TRACE, all_pass, environment, expect, is_built
+from steps import END, transaction
 
 # strace is given the program itself, and not the script that builds it.
 BUILT = ROOT / "crates" / "mx_program" / "out" / "mx_program"
@@ -255,6 +256,26 @@ def each_commit_is_durable_before_its_reply():
     check_order(calls, *steps)
 
 
+def transaction_is_appended_at_its_commit():
+    folder = new_folder()
+    rows = [("REPLACE", {"space": 512, "tuple": tuple_of(key)}, None) for key in (2, 3, 4)]
+    asked = [request("BEGIN", 1, 1), *(request(name, sync, 1, **body) for sync, (name, body, _) in enumerate(rows, 2))]
+    due = [ok_reply(1), *(tuples_reply(key, tuple_of(key)) for key in (2, 3, 4)), ok_reply(5)]
+    ended, calls = traced(folder, b"".join(map(input_unit, [*asked, request("COMMIT", 5, 1)])))
+    check_end(ended, 0, replies(*due))
+    check_durable(calls)
+    journal = folder / "DIR" / journal_name(0)
+    appends = [call.result for call in calls if call.writes_to(journal)]
+    expect("bytes of each append", [len(transaction(1, *rows)), len(END)], appends)
+    check_order(
+        calls,
+        *((f"reply {number}", Call.writes_reply) for number in range(1, len(due))),
+        ("appending the rows", lambda call: call.writes_to(journal)),
+        ("syncing the rows", lambda call: call.syncs(journal)),
+        ("the last reply", Call.writes_reply),
+    )
+
+
 def journals_that_are_read_are_durable_before_a_reply():
     folder = new_folder()
     keys = (1, 2, 3)
@@ -409,6 +430,7 @@ PLAIN = (files_are_read_in_name_order, refused_starts_make_no_folder)
 TRACED = (
     new_directory_is_durable_before_a_reply,
     each_commit_is_durable_before_its_reply,
+    transaction_is_appended_at_its_commit,
     journals_that_are_read_are_durable_before_a_reply,
     files_are_appended_to,
     journals_are_read_from_offset_to_offset,
