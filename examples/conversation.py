@@ -1,9 +1,10 @@
 #!/usr/bin/env python3
 """Holds a conversation with the server and prints it, requests on the left and replies on the right.
 
-A line such as `1.3 REPLACE ..` is the request with sync 3 on connection 1. The client runs `./vurandy
-trace` on a new directory, and needs Python's standard library alone; `tests/iproto.py` writes and reads
-the packets. With --bytes each line is followed by the bytes that were sent.
+A line such as `1.3 REPLACE ..` is the request with sync 3 on connection 1. From BEGIN to COMMIT or ROLLBACK
+the requests of one `stream` are a transaction. The client runs `./vurandy trace` on a new directory, and needs
+Python's standard library alone; `tests/iproto.py` writes and reads the packets. With --bytes each line is
+followed by the bytes that were sent.
 """
 
 import argparse
@@ -18,8 +19,6 @@ ROOT = Path(__file__).resolve().parent.parent
 sys.path.append(str(ROOT / "tests"))
 
 from iproto import (  # noqa: E402
-    BYTES,
-    CLOSE,
     DATA,
     ERROR,
     GREETING_BYTES,
@@ -33,26 +32,24 @@ from iproto import (  # noqa: E402
     packets_in,
     read_reply,
     request,
-    unit,
 )
 
 LEFT_WIDTH = 50
 RIGHT_WIDTH = 50
 
-# Update operations: on numbers, and on a text and whole fields.
-NUMBERS = [["+", 2, 3], ["-", 2, 1], ["&", 3, 6], ["|", 3, 1], ["^", 3, 3]]
-FIELDS = [[":", 1, 3, 0, "s"], ["!", 2, 0], ["#", 3, 1], ["=", 3, 1]]
+# Update operations: on numbers, and on a text.
+OPERATIONS = [["+", 2, 3], ["|", 3, 1], [":", 1, 3, 0, "s"]]
 
 
 class Said:
-    """What a client did: a line for people, and the bytes."""
+    """What a client sent: a line for people, and the bytes."""
 
-    def __init__(self, connection, line, content=b"", kind=BYTES):
-        self.connection, self.line, self.content, self.kind = connection, line, content, kind
+    def __init__(self, connection, line, content):
+        self.connection, self.line, self.content = connection, line, content
 
 
 def asks(connection, sync, name, **fields):
-    """A client sends a request."""
+    """A client sends a request, in a stream where one is among the fields."""
     line = " ".join([f"{connection}.{sync}", name, *(f"{field}={value}" for field, value in fields.items())])
     if len(line) > LEFT_WIDTH + RIGHT_WIDTH:
         line = line.replace(", ", ",")
@@ -60,35 +57,36 @@ def asks(connection, sync, name, **fields):
 
 
 def conversation():
-    """What the clients do, in order."""
-    ping = request("PING", 2)
+    """What the clients send, in order."""
     return [
         asks(1, 1, "ID", version=4, features=[0, 1, 2, 3, 4]),
-        Said(1, "1   the first 4 bytes of a PING", ping[:4]),
-        Said(1, "1.2 the rest of it", ping[4:]),
+        asks(1, 2, "PING"),
         asks(1, 3, "REPLACE", space=512, tuple=[1, "apple"]),
         asks(2, 1, "REPLACE", space=512, tuple=[2, "banana"]),
         asks(2, 2, "INSERT", space=512, tuple=[3, "cherry"]),
         asks(2, 3, "SELECT", space=512, key=[1]),
         asks(1, 4, "SELECT", space=512, iterator="GE", key=[2]),
-        asks(1, 5, "SELECT", space=512, iterator="LT", key=[3], limit=1),
+        asks(1, 5, "UPSERT", space=512, tuple=[2], operations=[["=", 2, 5]]),
         asks(1, 6, "SELECT", space=513, key=[1]),
-        asks(1, 7, "UPSERT", space=512, tuple=[2], operations=[["=", 2, 5]]),
-        asks(1, 8, "DELETE", space=512, key=[2]),
+        asks(1, 7, "DELETE", space=512, key=[2]),
         # A space, its primary index and a second one.
-        asks(1, 9, "INSERT", space=280, tuple=[600, 1, "fruit", "memtx", 0, {}, []]),
-        asks(1, 10, "INSERT", space=288, tuple=[600, 0, "id", "tree", {}, [[0, "unsigned"]]]),
-        asks(1, 11, "INSERT", space=288, tuple=[600, 1, "name", "tree", {}, [[1, "string"]]]),
-        asks(1, 12, "INSERT", space=600, tuple=[7, "fig", 5, 12]),
-        asks(1, 13, "INSERT", space=600, tuple=[8, "fig"]),
-        asks(1, 14, "UPDATE", space=600, key=[7], operations=NUMBERS),
-        asks(1, 15, "UPDATE", space=600, index=1, key=["fig"], operations=FIELDS),
-        asks(1, 16, "SELECT", space=600, index=1, key=["figs"]),
-        Said(1, "1   closes the connection", kind=CLOSE),
-        Said(2, "2.4 a PING with c1, which is no MessagePack", packet({TYPE: 64, SYNC: 4}, Spelled(b"\xc1"))),
-        asks(2, 5, "PING"),
-        Said(2, "2   closes the connection", kind=CLOSE),
-        asks(2, 1, "PING"),
+        asks(1, 8, "INSERT", space=280, tuple=[600, 1, "fruit", "memtx", 0, {}, []]),
+        asks(1, 9, "INSERT", space=288, tuple=[600, 0, "id", "tree", {}, [[0, "unsigned"]]]),
+        asks(1, 10, "INSERT", space=288, tuple=[600, 1, "name", "tree", {}, [[1, "string"]]]),
+        asks(1, 11, "INSERT", space=600, tuple=[7, "fig", 5, 12]),
+        asks(1, 12, "INSERT", space=600, tuple=[8, "fig"]),
+        asks(1, 13, "UPDATE", space=600, index=1, key=["fig"], operations=OPERATIONS),
+        # What one transaction has read another one changes: the first reads on in its view, and can't write.
+        asks(1, 14, "BEGIN", stream=1),
+        asks(1, 15, "SELECT", stream=1, space=512, key=[1]),
+        asks(2, 4, "BEGIN", stream=2),
+        asks(2, 5, "REPLACE", stream=2, space=512, tuple=[1, "pear"]),
+        asks(2, 6, "COMMIT", stream=2),
+        asks(2, 7, "SELECT", space=512, key=[1]),
+        asks(1, 16, "SELECT", stream=1, space=512, key=[1]),
+        asks(1, 17, "REPLACE", stream=1, space=512, tuple=[1, "plum"]),
+        asks(1, 18, "ROLLBACK", stream=1),
+        Said(2, "2.8 a PING with c1, which is no MessagePack", packet({TYPE: 64, SYNC: 8}, Spelled(b"\xc1"))),
     ]
 
 
@@ -137,9 +135,9 @@ class Server:
         )
 
     def answer(self, said):
-        """The contents of the output units for what a client did."""
+        """The contents of the output units for what a client sent."""
         marker = input_unit(request("PING", 0), self.MARKER)
-        self.process.stdin.write(unit(said.kind, said.connection, said.content) + marker)
+        self.process.stdin.write(input_unit(said.content, said.connection) + marker)
         self.process.stdin.flush()
         contents = []
         while True:
@@ -163,7 +161,7 @@ class Server:
 
 
 def show(said, answers, with_bytes):
-    """Prints what a client did, and beside it what it was sent, or below where there is no room."""
+    """Prints what a client sent, and beside it what it was answered, or below where there is no room."""
     if len(said.line) >= LEFT_WIDTH:
         answers = [("", b""), *answers]
     rows = [(said.line, said.content, *(answers[0] if answers else ("", b"")))]
@@ -189,8 +187,6 @@ def main():
                 answers += answers_in(said.connection, content, said.connection in greeted)
                 greeted.add(said.connection)
             show(said, answers, with_bytes)
-            if said.kind == CLOSE:
-                greeted.discard(said.connection)
         return server.end()
 
 
