@@ -73,9 +73,9 @@ TYPES_ASKED = {
 PING = packet({TYPE: 64}, width=0)
 
 
-def replace(sync, key, value):
+def replace(sync, key, value, stream=None):
     """A REPLACE of [key, value]. Syncs have one width, so that requests of one key have one length."""
-    return request("REPLACE", Wide(sync, 4), space=512, tuple=[key, value])
+    return request("REPLACE", Wide(sync, 4), stream, space=512, tuple=[key, value])
 
 
 def insert(sync, key, value):
@@ -83,21 +83,21 @@ def insert(sync, key, value):
     return request("INSERT", Wide(sync, 4), space=512, tuple=[Wide(key, 4), value])
 
 
-def select(sync, key, iterator="EQ", limit=10):
+def select(sync, key, iterator="EQ", limit=10, stream=None):
     """A SELECT of so many tuples at most by an iterator, from this key on."""
-    return request("SELECT", Wide(sync, 4), space=512, limit=limit, iterator=iterator, key=[key])
+    return request("SELECT", Wide(sync, 4), stream, space=512, limit=limit, iterator=iterator, key=[key])
 
 
-def units(pieces):
-    """As few units as hold the pieces, each of which is whole packets."""
+def units(pieces, connection=1):
+    """As few units of a connection as hold the pieces, each of which is whole packets."""
     made, held = [], bytearray()
     for piece in pieces:
         if len(held) + len(piece) > MAX_UNIT_BYTES:
-            made.append(input_unit(held))
+            made.append(input_unit(held, connection))
             held = bytearray()
         held += piece
     if held:
-        made.append(input_unit(held))
+        made.append(input_unit(held, connection))
     return b"".join(made)
 
 
