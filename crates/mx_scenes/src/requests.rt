@@ -1,6 +1,6 @@
 //! Requests that are no statements, and those that aren't built yet.
 
-use crate::database::{Asked, Database, NO_KEY, Step, Told, play, play_at, play_both};
+use crate::database::{Asked, NO_KEY, Step, Told, play_at, play_both};
 use crate::harness::{Exchange, check_refusals};
 use std::test::Fail;
 
@@ -18,22 +18,19 @@ fn bare_requests_are_answered(rt: HostRuntime) -> Result<(), Fail> {
 
 const SEVEN: &[u8] = b"\x91\x07";
 
-/// Requests of transactions, which only the slow program answers yet.
+const NO_STREAM: Told<'static> = Told::Refused(1, b"Illegal value of key 0x0a");
+
+/// Requests of transactions, outside of streams.
 const OF_TRANSACTIONS: &[Step<'static>] = &[
-    (Asked::Begin, Told::Refused(48, b"Unknown request type 14")),
-    (Asked::Commit, Told::Refused(48, b"Unknown request type 15")),
-    (
-        Asked::Rollback,
-        Told::Refused(48, b"Unknown request type 16"),
-    ),
+    (Asked::Begin, NO_STREAM),
+    (Asked::Commit, NO_STREAM),
+    (Asked::Rollback, NO_STREAM),
     (Asked::Select(512, 0, NO_KEY), Told::Tuples(b"")),
 ];
 
 #[test]
-fn an_engine_refuses_transactions(rt: HostRuntime) -> Result<(), Fail> {
-    let alloc = rt.alloc();
-    let mut engine = Database::engine(&rt, alloc)?;
-    Ok(play(&rt, alloc, &mut engine, OF_TRANSACTIONS)?)
+fn transactions_need_a_stream(rt: HostRuntime) -> Result<(), Fail> {
+    Ok(play_both(&rt, rt.alloc(), OF_TRANSACTIONS)?)
 }
 
 /// Requests that aren't built yet, and that nothing was changed.
@@ -70,15 +67,15 @@ fn read_only_nodes_refuse_writes(rt: HostRuntime) -> Result<(), Fail> {
     Ok(play_at(&rt, rt.alloc(), "{}", 2, NOT_BUILT)?)
 }
 
-/// BEGIN.
-const NOT_BUILT_IN_RUNS: &[Exchange] = &[Exchange {
+/// BEGIN outside of a stream.
+const REFUSED_IN_RUNS: &[Exchange] = &[Exchange {
     asked: &[b"\x82\x00\x0e\x01\x01\x80"],
     sync: 1,
-    kind: 0x8030,
-    told: &[b"\x81\x31\xb7Unknown request type 14"],
+    kind: 0x8001,
+    told: &[b"\x81\x31\xb9Illegal value of key 0x0a"],
 }];
 
 #[test]
 fn refusals_leave_nothing(rt: HostRuntime) -> Result<(), Fail> {
-    Ok(check_refusals(&rt, rt.alloc(), NOT_BUILT_IN_RUNS)?)
+    Ok(check_refusals(&rt, rt.alloc(), REFUSED_IN_RUNS)?)
 }
