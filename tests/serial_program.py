@@ -11,7 +11,7 @@ transactions. So are the keys that it reads and those that a commit touches. Of 
   a row or has written since; from then on it is told so to its end;
 - a statement outside of a transaction was answered as if it ran alone, and the tuples in the end are those that the
   commits make;
-- the built program answers the same. It is asked the first COMPARED histories, or as many as `--compared NUMBER` says.
+- the built program answers the same. It is asked all histories, or the first ones, as many as `--compared NUMBER` says.
 
 The histories go on from each other's tuples, some in one database, all in one run of `mx_histories`. The built program
 has a run for each database. A history that fails is printed in the notation of `interleaving_cases.py`, and the status
@@ -33,7 +33,7 @@ from iproto import Reader
 from program import build_histories, history_answers, is_built, spelled_twice
 from steps import TEST
 
-HISTORIES, COMPARED, PER_DATABASE = 30_000, 30_000, 100
+HISTORIES, PER_DATABASE = 30_000, 100
 # The indexes of the space beside the primary one: a unique one on field 1, and one on field 2 that isn't.
 BY_NUMBER = '9: insert space 288 [512, 2, "number", "tree", {"unique": false}, [[2, "unsigned"]]]'
 KEY, NAME, NUMBER = range(3)
@@ -583,9 +583,7 @@ def search(tuples, steps, seen):
 def main():
     parser = argparse.ArgumentParser(description="Searches generated histories for serial orders.")
     parser.add_argument("--histories", type=int, default=HISTORIES, help="how many histories are asked")
-    parser.add_argument(
-        "--compared", type=int, default=COMPARED, help="how many of them the built program is asked, too"
-    )
+    parser.add_argument("--compared", type=int, help="how many of them the built program is asked too, or all")
     parser.add_argument("--seed", type=int, default=1)
     given = parser.parse_args()
     # The builds are proved first, and may take far longer than the checks.
@@ -596,8 +594,8 @@ def main():
     histories = [some_history(Random(f"{given.seed} {number}")) for number in range(given.histories)]
     answers, compared = history_answers(lines_of(histories)), program_answers(histories[: given.compared])
     found, conflicts, failed = search_all(histories, iter(answers), compared, given.seed)
-    told = f"{found} passed, {conflicts} of them with a conflict, {len(histories[: given.compared])} asked of the program"
-    print(f"serial_program: {told}{f', {failed} failed' if failed else ''}")
+    asked_too, told = len(histories[: given.compared]), f", {failed} failed" if failed else ""
+    print(f"serial_program: {found} passed, {conflicts} of them with a conflict, the program was asked {asked_too}{told}")
     return 1 if failed else 0
 
 
