@@ -33,7 +33,7 @@ from iproto import (
     request,
     tuples_reply,
 )
-from program import GREETING, PROGRAM, TRACE, all_pass, environment, expect, is_built
+from program import GREETING, PROGRAM, TRACE, environment, expect, run_checks
 from steps import expect_bytes
 
 SECONDS = 60
@@ -395,12 +395,8 @@ def name_of(requests, kills):
 
 
 def main():
-    # The build is proved first, and may take far longer than the rounds.
-    if not is_built():
-        print("FAILED  the program is not built")
-        return 1
     rounds = [(name_of(requests, kills), check_round, rows, requests, kills) for rows, requests, kills in ROUNDS]
-    return 0 if all_pass("kill_program", rounds, SECONDS, SCRATCH) else 1
+    return run_checks("kill_program", rounds, SECONDS, SCRATCH)
 
 
 if __name__ == "__main__":

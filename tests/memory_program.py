@@ -19,12 +19,12 @@ import tempfile
 from pathlib import Path
 
 from iproto import GREETING_BYTES, SEED, Reader, input_unit, packets_in, read_reply, request
-from program import PROGRAM, TRACE, all_pass, environment, expect, is_built
+from program import PROGRAM, TRACE, environment, expect, run_checks
+from steps import INDEXES, TEST, index_row
 
 SECONDS = 60
 SCRATCH = Path(tempfile.mkdtemp(prefix="vurandy-"))
 OUT_OF_MEMORY, STATUS_NO_MEMORY = 2, 6
-TEST = 512
 
 # Lets the allocation of this number fail, and counts all of them.
 SOURCE = r"""
@@ -74,9 +74,11 @@ def control(name, stream=1, connection=1):
 
 # The tuple of a text that has no place in a short key or a short tuple.
 LONG = "x" * 100
+# The row of a second index, which is unique.
+INDEX = index_row(TEST, 1, "name", [[1, "string"]])
 # Two transactions that write, beside one that is rolled back and a reader that a commit overlaps.
 ASKED = (
-    statement("INSERT", 0, space=288, tuple=[TEST, 1, "name", "tree", {"unique": True}, [[1, "string"]]]),
+    statement("INSERT", 0, space=INDEXES, tuple=INDEX),
     statement("REPLACE", 0, tuple=[1, "one", 1]),
     control("BEGIN"),
     statement("REPLACE", tuple=[2, LONG, 2]),
@@ -95,7 +97,6 @@ ASKED = (
     statement("REPLACE", 0, tuple=[4, LONG * 2, 4]),
     control("COMMIT", 2),
 )
-INDEX = [TEST, 1, "name", "tree", {"unique": True}, [[1, "string"]]]
 ONE, ONE_MORE, TWO, THREE = [1, "one", 1], [1, "one", 2], [2, LONG, 2], [3, "three", 3]
 FOUR, FIVE = [4, LONG * 2, 4], [5, "five", 5]
 # The replies: the number of a refusal, or tuples; None is OK without any.
@@ -257,11 +258,17 @@ def count_of(requests):
         return run.end()[2]
 
 
+def failures():
+    """The checks: one for each allocation that the requests make."""
+    first, last = count_of(()), count_of(ASKED)
+    assert first < last, f"allocations: {first} before, {last} in all"
+    yield "no allocation fails", check_failing, None
+    for number in range(first + 1, last + 1):
+        yield f"allocation {number} of {first + 1} to {last} fails", check_failing, number
+    yield "failures are seen", check_seen
+
+
 def main():
-    # The build is proved first, and may take far longer than the checks.
-    if not is_built():
-        print("FAILED  the program is not built")
-        return 1
     compiler = shutil.which("cc") or shutil.which("gcc")
     if compiler is None:
         print("memory_program: skipped, there is no C compiler")
@@ -269,12 +276,7 @@ def main():
     source = SCRATCH / "failing.c"
     source.write_text(SOURCE)
     subprocess.run([compiler, "-O1", "-shared", "-fPIC", "-o", SCRATCH / "failing.so", source], check=True)
-    first, last = count_of(()), count_of(ASKED)
-    assert first < last, f"allocations: {first} before, {last} in all"
-    checks = [("no allocation fails", check_failing, None)]
-    checks += [(f"allocation {number} of {first + 1} to {last} fails", check_failing, number) for number in range(first + 1, last + 1)]
-    checks += [("failures are seen", check_seen)]
-    return 0 if all_pass("memory_program", checks, SECONDS, SCRATCH) else 1
+    return run_checks("memory_program", failures(), SECONDS, SCRATCH)
 
 
 if __name__ == "__main__":

@@ -28,7 +28,7 @@ from iproto import (
     request,
     tuples_reply,
 )
-from program import GREETING, Listening, all_pass, exchange, expect, is_built, receive
+from program import GREETING, Listening, exchange, expect, receive, run_checks
 from steps import DUPLICATE, INDEX_ROWS, INDEXES, SHOWN_INDEXES, SHOWN_SPACES, SPACE_ROWS, TEST, index_row
 
 SECONDS = 60
@@ -157,10 +157,6 @@ def listening(check, *given):
 
 
 def main():
-    # The build is proved first, and may take far longer than the checks.
-    if not is_built():
-        print("FAILED  the program is not built")
-        return 1
     checks = [
         ("the greeting is read", greeting_is_read),
         ("packets are answered", listening, packets_are_answered),
@@ -171,7 +167,7 @@ def main():
         checks.append(("netbox.lua runs", listening, script_runs, tarantool))
     else:
         print("skipped: tarantool isn't on the path")
-    return 0 if all_pass("netbox_program", checks, SECONDS) else 1
+    return run_checks("netbox_program", checks, SECONDS)
 
 
 if __name__ == "__main__":

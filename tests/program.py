@@ -197,6 +197,15 @@ def out_of_time(*_):
     raise OutOfTime
 
 
+def run_checks(script, checks, seconds, scratch=None):
+    """Makes these checks of the built program, as `all_pass` does. Returns the script's exit status."""
+    # The build is proved first, and may take far longer than the checks.
+    if not is_built():
+        print("FAILED  the program is not built")
+        return 1
+    return 0 if all_pass(script, checks, seconds, scratch) else 1
+
+
 def all_pass(script, checks, seconds, scratch=None):
     """Makes the checks, each a name, a function and what it is given, and prints how many passed.
 

@@ -11,7 +11,7 @@ from itertools import combinations
 from pathlib import Path
 
 import schema_cases
-from program import ROOT, all_pass, expect, is_built
+from program import ROOT, expect, run_checks
 from refusal_cases import (
     EACH,
     EACH_OF_OTHER_NODE,
@@ -138,13 +138,5 @@ CHECKS = (
 )
 
 
-def main():
-    # The build is proved first, and may take far longer than the checks.
-    if not is_built():
-        print("FAILED  the program is not built")
-        return 1
-    return 0 if all_pass("refusal_program", CHECKS, SECONDS) else 1
-
-
 if __name__ == "__main__":
-    sys.exit(main())
+    sys.exit(run_checks("refusal_program", CHECKS, SECONDS))

@@ -26,7 +26,7 @@ from iproto import (
     request,
     tuples_reply,
 )
-from program import GREETING, all_pass, is_built, output_of
+from program import GREETING, output_of, run_checks
 from schema_cases import BY_NAME, FIRST, OWN, PRIMARY
 from steps import (
     ALL_OF_CONNECTION,
@@ -829,13 +829,5 @@ CHECKS = (
 )
 
 
-def main():
-    # The build is proved first, and may take far longer than the checks.
-    if not is_built():
-        print("FAILED  the program is not built")
-        return 1
-    return 0 if all_pass("streams_program", CHECKS, SECONDS, SCRATCH) else 1
-
-
 if __name__ == "__main__":
-    sys.exit(main())
+    sys.exit(run_checks("streams_program", CHECKS, SECONDS, SCRATCH))

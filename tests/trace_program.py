@@ -22,7 +22,7 @@ from dataclasses import dataclass
 from pathlib import Path
 
 from iproto import GREETING_BYTES, SEED, contents, input_unit, ok_reply, output_unit, request, tuples_reply
-from program import EXAMPLE, GREETING, ROOT, TRACE, all_pass, environment, expect, is_built
+from program import EXAMPLE, GREETING, ROOT, TRACE, environment, expect, run_checks
 from steps import END, transaction
 
 # strace is given the program itself, and not the script that builds it.
@@ -446,15 +446,11 @@ def can_trace():
 
 
 def main():
-    # The build is proved first, and may take far longer than the checks.
-    if not is_built():
-        print("FAILED  the program is not built")
-        return 1
     is_traced = can_trace()
     if not is_traced:
         print(f"trace_program: strace isn't installed or may not trace, so {len(TRACED)} checks aren't made")
     checks = [(check.__name__.replace("_", " "), check) for check in (PLAIN + TRACED if is_traced else PLAIN)]
-    return 0 if all_pass("trace_program", checks, SECONDS, SCRATCH) else 1
+    return run_checks("trace_program", checks, SECONDS, SCRATCH)
 
 
 if __name__ == "__main__":

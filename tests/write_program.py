@@ -11,7 +11,7 @@ from pathlib import Path
 import schema_cases
 from iproto import Spelled, Wide
 from operation_cases import SHAPES, UPDATES, UPDATES_FROM_ONE, UPSERTS
-from program import all_pass, is_built
+from program import run_checks
 from steps import (
     DUPLICATE,
     FLOAT,
@@ -409,13 +409,5 @@ CHECKS = (
 )
 
 
-def main():
-    # The build is proved first, and may take far longer than the checks.
-    if not is_built():
-        print("FAILED  the program is not built")
-        return 1
-    return 0 if all_pass("write_program", CHECKS, SECONDS, SCRATCH) else 1
-
-
 if __name__ == "__main__":
-    sys.exit(main())
+    sys.exit(run_checks("write_program", CHECKS, SECONDS, SCRATCH))
