@@ -1,10 +1,9 @@
 -- What a request is told, and what an engine has then.
 use Rattle.std.proofs.Common.{◌≡◌, inl, inr, ℕ, ◌+◌, Bool, true, false, not, List, [], ◌∷◌, ◌++◌, length, Option, Some, None, Result, refl, sym, ap, ◌∙◌, subst, append-nil, arith}
 use Rattle.std.specs.Prelude.{nat_le, nat_lt, slice_get, slice_index, ◌==◌, if◌then◌else◌}
-use Rattle.mx_base.specs.Keys.{stream_key}
 use Rattle.mx_base.specs.declared.ids.TxnName.{TxnName}
 use Rattle.mx_base.specs.declared.refusal.Refusal.{Refusal}
-use Rattle.mx_base.specs.declared.refusal.Refusal.TheVariants.{AllOfConnectionOpen, AllTransactionsOpen, Conflict, IllegalValue}
+use Rattle.mx_base.specs.declared.refusal.Refusal.TheVariants.{AllOfConnectionOpen, AllTransactionsOpen, Conflict}
 use Rattle.mx_request.specs.declared.request.Request.{Request}
 use Rattle.mx_request.specs.declared.request.Request.TheVariants as request
 use Rattle.mx_request.specs.Spelling.{type_number}
@@ -20,9 +19,9 @@ use Rattle.mx_model.specs.declared.reply.Reply.TheVariants.{Empty, Refused}
 use Rattle.mx_model.specs.Alone.{AllStandAlone, StandsAlone}
 use Rattle.mx_model.specs.Bases.{writable_node}
 use Rattle.mx_model.specs.Overlaps.{Active, Doomed, Standing, Transaction, View}
-use Rattle.mx_model.specs.Streams.{Ends, Opens, Outcome, Streams, begins_beside, commit_with, commits, commits_rows, commits_standing, ends_told, in_stream, is_name, max_transactions, max_transactions_of_connection, of_connection, open_after, outcome_of, standing_now, streams_after, told_alone, transaction_named, without_named}
+use Rattle.mx_model.specs.Streams.{Ends, Opens, Outcome, Streams, begins_beside, commit_with, commits, commits_rows, commits_standing, ends_told, is_name, max_transactions, max_transactions_of_connection, of_connection, open_after, outcome_of, standing_now, streams_after, told_alone, transaction_named, without_named}
 use Rattle.mx_model.proofs.AloneNames.{named_has}
-use Rattle.mx_model.proofs.SlowStreamLaws.{commits_active, commits_all, commits_doomed, commits_view, some_row_where, with_stream, without_stream}
+use Rattle.mx_model.proofs.SlowStreamLaws.{commits_active, commits_all, commits_doomed, commits_view, some_row_where, with_stream}
 use Rattle.mx_engine.specs.declared.engine.Engine.{Engine}
 use Rattle.mx_transactions.specs.declared.work.Work.{Work}
 use Rattle.mx_transactions.specs.Open.{HaveOwnSlots, HasStanding, HoldsOpen, Open, SlotHas, newest_state, slot_named}
@@ -107,13 +106,6 @@ begins_told old new streams name reply result has only stream tells told =
     subst (λ (o : Outcome). TellsOutcome old new streams name o reply) (sym (with_stream streams name begun stream))
     (tells_bare old new streams name begun reply none (told ∙ tells.told)
     (has_beside old new streams (open_after streams.journal name begun.becomes streams.transactions) has only holds) only.pending only.schema)
-
--- BEGIN, COMMIT and ROLLBACK without a stream
-pub streamless : (engine : Engine) (streams : Streams) (name : TxnName) (outcome : Outcome) (reply : Reply) → HasStreams engine streams → name.stream.0 ≡ 0
-    → reply ≡ Refused (IllegalValue stream_key) → TellsOutcome engine engine streams name (in_stream name outcome) reply
-streamless engine streams name outcome reply has none told =
-    stays_told engine engine streams name (in_stream name outcome) reply (Refused (IllegalValue stream_key)) has refl refl
-    (without_stream streams name outcome (ap (λ m. m == 0) none)) told
 
 -- ---- ROLLBACK
 
@@ -210,13 +202,6 @@ module _ (streams : Streams) (all : Open) (name : TxnName) (slot : ℕ) (stream 
   doomed_commits by finds =
       commits_found (txn.Aborted by) finds
       ∙ commits_doomed streams finds.transaction (sym (doomed_by streams all.kept finds.transaction finds.has (standing_now streams false finds.transaction) by finds.keeps finds.state))
-
--- where none is open under the name
-pub none_commits : (engine : Engine) (streams : Streams) (name : TxnName) → HasStreams engine streams → (name.stream.0 == 0) ≡ false → transaction_named name streams.transactions ≡ None
-    → TellsOutcome engine engine streams name (outcome_of streams name request.Commit) Empty
-none_commits engine streams name has stream none =
-    stays_told engine engine streams name (outcome_of streams name request.Commit) Empty Empty has refl refl
-    (with_stream streams name (commits streams (transaction_named name streams.transactions)) stream ∙ ap (commits streams) none) refl
 
 -- what was found of a slot is what it has
 pub same_work : (works : List Work) (slot : ℕ) (one other : Work) → slice_get works slot ≡ Some one → slice_get works slot ≡ Some other → one ≡ other

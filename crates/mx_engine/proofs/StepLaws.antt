@@ -67,10 +67,6 @@ module _ (streams : Streams) (one : Transaction) (statement : Statement) where
   abbrev pub answer_read : Answer
   answer_read = answer_alone streams.base.ids (state_read streams one) statement (statements_in one.steps)
 
-  pub schema_outcome : (is_write && describes_schema statement.space) ≡ true → states_in streams one statement ≡ told_alone (Refused (Unsupported SchemaInTransaction))
-  schema_outcome test =
-      ap (λ b. if b then told_alone (Refused (Unsupported SchemaInTransaction)) else states_standing streams statement answer_read (standing_now streams is_write one)) test
-
   outcome_by : (is_write && describes_schema statement.space) ≡ false → (stands : Standing) → standing_now streams false one ≡ stands
       → states_in streams one statement ≡ states_standing streams statement answer_read (standing_after_step is_write stands)
   outcome_by test stands is =
@@ -277,13 +273,6 @@ module _ (old new : Engine) (streams : Streams) (name : TxnName) where
       pending = same.pending;
       schema = same.schema;
     }
-
--- nothing becomes of the transaction
-pub tells_alone : (engine : Engine) (streams : Streams) (name : TxnName) (outcome : Outcome) (answer reply : Reply) → HasStreams engine streams → outcome ≡ told_alone answer
-    → reply ≡ answer → TellsOutcome engine engine streams name outcome reply
-tells_alone engine streams name outcome answer reply has is told =
-    tells_none engine engine streams name outcome (told_alone answer) reply is refl told
-    (with_open engine engine.open) has
 
 -- ---- how it stands after a statement
 

@@ -81,13 +81,6 @@ module _ (engine : Engine) (streams : Streams) (name : TxnName) (space : SpaceId
   by_node : Bool → Answer
   by_node mine = if not mine then refusal_alone (ReadOnly (record { 0 = writable_node })) else answer_of judged
 
-  pub write_read_only : (engine.ids.me == writable_node) ≡ false
-      → TellsOrLacks engine engine streams name (states_alone streams statement) (Refused (ReadOnly (record { 0 = writable_node })))
-  unfolding by_node
-  write_read_only other =
-      let is : answer ≡ by_node false = ap by_node (ap (λ ids. ids.me == writable_node) (sym has.ids) ∙ other) in
-      inl (stays_told engine engine streams name (states_alone streams statement) _ (Refused (ReadOnly (record { 0 = writable_node }))) has refl refl (unwritten (by_node false) is refl) refl)
-
   module _ (me : streams.base.ids.me ≡ writable_node) where
     answered : answer ≡ answer_of judged
     unfolding by_node

@@ -21,7 +21,7 @@ use Rattle.mx_model.proofs.EachLaws.{each_kept, each_like}
 use Rattle.mx_transactions.specs.declared.names.Named.{Named}
 use Rattle.mx_transactions.specs.declared.work.Work.{Work}
 use Rattle.mx_transactions.specs.Open.{HaveOwnSlots, HasSlot, WritesNothing, IsOther, AreInSlots, IsVacant, Open, SlotHas, slot_named}
-use Rattle.mx_transactions.specs.OpenSteps.{ChangesTo, StaysAt}
+use Rattle.mx_transactions.specs.OpenSteps.{IsTrimmed, ChangesTo, StaysAt}
 use Rattle.mx_transactions.proofs.OpenLaws.{found_live, found_other, same_slot}
 
 -- what every live name has, where one slot's state changes and it has another
@@ -142,6 +142,23 @@ pub record Trims (old new : Open) : Type 0 where
   pub oldest : Option ℕ
   pub is : IsOldestView new.slots oldest
   pub kept : (commits : ℕ) → kept_at commits new.kept ≡ needed_from oldest commits (kept_at commits old.kept)
+
+-- trimming once more would take nothing
+needed_again : (oldest : Option ℕ) (commits : ℕ) (kept : Option memory.State) → needed_from oldest commits kept ≡ needed_from oldest commits (needed_from oldest commits kept)
+needed_again None commits kept = refl
+needed_again (Some oldest) commits kept = by_test (nat_le oldest commits)
+  where
+    by_test : (b : Bool) → (if b then kept else None) ≡ (if b then (if b then kept else None) else None)
+    by_test true = refl
+    by_test false = refl
+
+pub is_trimmed : (before : ℕ → Option memory.State) (new : Open) (oldest : Option ℕ) → IsOldestView new.slots oldest
+    → ((commits : ℕ) → kept_at commits new.kept ≡ needed_from oldest commits (before commits)) → IsTrimmed new
+is_trimmed before new oldest is kept = record {
+  oldest = oldest;
+  is = is;
+  none = λ commits. kept commits ∙ needed_again oldest commits (before commits) ∙ ap (needed_from oldest commits) (sym (kept commits));
+}
 
 pub trimmed_views : (old new : Open) → Trims old new → (slot place : ℕ) → get new.slots slot ≡ Some (txn.View place) → IsSome (kept_at place old.kept) → IsSome (kept_at place new.kept)
 trimmed_views old new trims slot place view some =

@@ -4,13 +4,13 @@ use Rattle.std.specs.FinMap.{get}
 use Rattle.std.specs.List.{list_any}
 use Rattle.std.specs.Option.{option_map}
 use Rattle.mx_space.specs.declared.state.State as memory
-use Rattle.mx_space.specs.KeptStates.{kept_at}
+use Rattle.mx_space.specs.KeptStates.{kept_at, needed_from}
 use Rattle.mx_tracker.specs.declared.read.Read as noted
 use Rattle.mx_tracker.specs.declared.touched.Touched as coded
 use Rattle.mx_tracker.specs.Marks.{is_marked}
 use Rattle.mx_tracker.specs.Overlaps.{is_overlapped, lies_in_read}
 use Rattle.mx_tracker.specs.Tracks.{noted_reads}
-use Rattle.mx_txn.specs.Slots.{max_open}
+use Rattle.mx_txn.specs.Slots.{IsOldestView, max_open}
 use Rattle.mx_model.specs.Overlaps.{Transaction, is_some_row}
 use Rattle.mx_base.specs.declared.ids.TxnName.{TxnName}
 use Rattle.mx_base.specs.declared.refusal.Refusal.{Refusal}
@@ -83,6 +83,12 @@ pub record ChangesTo (old new : Open) (slot : ℕ) (now : SlotHas) : Type 0 wher
 abbrev pub ComesTo : (old new : Open) → (slot : ℕ) → SlotHas → State → Run → Type 0
 ComesTo old new slot has before run =
     (now : SlotHas) × (now.state ≡ has.state) × HasRun before run now.work now.reads × ChangesTo old new slot now
+
+-- no state is kept from before the oldest one that a view reads, and none where there is no view
+pub record IsTrimmed (all : Open) : Type 0 where
+  pub oldest : Option ℕ
+  pub is : IsOldestView all.slots oldest
+  pub none : (commits : ℕ) → kept_at commits all.kept ≡ needed_from oldest commits (kept_at commits all.kept)
 
 -- ---- commits
 

@@ -27,7 +27,7 @@ ghost use Rattle.mx_model.specs.Streams.{Streams, begins_beside, is_name, stream
 ghost use Rattle.mx_transactions.specs.Open.{HasRun, HasSlot, HaveOwnSlots, HoldsOpen, SlotHas, WritesNothing, slot_named};
 ghost use Rattle.mx_txn.specs.declared.state.TxnState.TheVariants.{Aborted, Active, View};
 ghost use Rattle.mx_transactions.specs.declared.work.Work.{Work};
-ghost use Rattle.mx_transactions.specs.OpenSteps.{ChangesTo, ComesTo, FindsOpen, KeepsMore, Moves, MovesSlot, StandsOn, StaysAt, TellsOpen, ViewsAreKept, beside, gets_view, has_rows, is_beside, is_reader};
+ghost use Rattle.mx_transactions.specs.OpenSteps.{ChangesTo, ComesTo, FindsOpen, IsTrimmed, KeepsMore, Moves, MovesSlot, StandsOn, StaysAt, TellsOpen, ViewsAreKept, beside, gets_view, has_rows, is_beside, is_reader};
 
 use crate::names::{Named, OpenNames};
 use crate::work::Work;
@@ -154,6 +154,7 @@ impl OpenTransactions {
         requires { slot_named name self.old.names ≡ Some slot }
         ensures left { (streams : Streams) → HoldsOpen streams self.old → HoldsOpen (beside streams (without_named name streams.transactions)) self.new }
         ensures names { self.new.names ≡ filter (λ named. not (is_name named.name name)) self.old.names }
+        ensures trimmed { IsTrimmed self.new }
     {
         self.slots.end(slot);
         clear(self.alloc, &mut self.tracker, &mut self.works, slot);
@@ -208,7 +209,8 @@ impl OpenTransactions {
     /// Dooms a slot's transaction, with which a commit conflicts.
     pub fn doom(&mut self, slot: Slot, by: u64)
         requires { IsLive self.old.slots slot }
-        ensures { (now : SlotHas) × (now.state ≡ Some (Aborted by)) × ChangesTo self.old self.new slot now }
+        ensures dooms { (now : SlotHas) × (now.state ≡ Some (Aborted by)) × ChangesTo self.old self.new slot now }
+        ensures trimmed { IsTrimmed self.new }
     {
         self.slots.abort(slot, by);
         clear(self.alloc, &mut self.tracker, &mut self.works, slot);
@@ -308,7 +310,8 @@ impl OpenTransactions {
     /// a view of the state before it, or to its doom where it has written, or where the commit changes a space
     /// or an index.
     pub fn move_overlapped(&mut self, marks: &MarkSet, is_schema: bool, commits: u64)
-        ensures { Moves self.old self.new marks.now is_schema commits }
+        ensures moves { Moves self.old self.new marks.now is_schema commits }
+        ensures trimmed { IsTrimmed self.new }
     {
         let mut from = 0;
         while let Some(slot) = self.slots.next_live(from) {

@@ -71,5 +71,5 @@ returns-clause-answers c = λ streams one row others stand is counts rows_are me
       wrote = ap (λ (w : Work). w.rows) work ∙ is.run.written.rows;
       transactions = work_moved streams name slot one old.open c.prepare.new.self reserved.open c.remove-work.new.self c.move_overlapped.new.self c.in_ok-marks.marks keys old.commits reserved.commits
           stand is.is_open.alone has.commits reserves.commits spells are found.same found.ready holds c.in_ok-prepared.ensures.same (removed.left streams) removed.gone removed.reads removed.others removed.kept
-          c.move_overlapped.ensures removed.whole;
+          c.move_overlapped.ensures.moves removed.whole;
     })

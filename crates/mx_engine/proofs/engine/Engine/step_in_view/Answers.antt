@@ -20,4 +20,4 @@ returns-in-Write-clause-answers c = λ streams name one all is view plain.
     inl (tells_dooming c.args.self.now streams name c.args.slot one is c.args.at view (statement_view c.args.statement.now) plain
     (ap (λ s. writes (statement_view s).operation) c.in-Write.is) _
     (with_open c.args.self.now c.doom.new.self)
-    c.args.at c.doom.ensures.0 c.doom.ensures.1 c.doom.ensures.2)
+    c.args.at c.doom.ensures.dooms.0 c.doom.ensures.dooms.1 c.doom.ensures.dooms.2)

@@ -2,7 +2,7 @@ use Rattle.std.proofs.Common.{rules, ◌<◌, refl, sym, subst}
 use Rattle.mx_txn.specs.declared.state.TxnState.TheVariants.{Aborted}
 use Rattle.mx_txn.specs.Slots.{IsLive, max_open}
 use Rattle.mx_transactions.specs.Open.{Open}
-use Rattle.mx_transactions.proofs.TableLaws.{doomed_slot, doomed_table, keeps_trimmed}
+use Rattle.mx_transactions.proofs.TableLaws.{doomed_slot, doomed_table, keeps_trimmed, is_trimmed}
 use Rattle.mx_transactions.proofs.open.OpenTransactions.doom.Goals as goal
 
 pub invariant_of-self : goal.invariant_of-self
@@ -14,8 +14,8 @@ invariant_of-self c =
       keeps = keeps_trimmed _ _ (record { oldest = c.oldest_view.result; is = c.oldest_view.ensures; kept = c.trim.ensures });
     })
 
-pub returns : goal.returns
-returns c =
+pub returns-clause-dooms : goal.returns-clause-dooms
+returns-clause-dooms c =
     let within : c.args.slot < max_open = search rules in
     rw (← c.self.view_is) (doomed_slot _ _ c.args.slot (Aborted c.args.by) c.self.invariant within refl (record {
       slots = c.abort.ensures;
@@ -23,3 +23,6 @@ returns c =
       work = c.clear.ensures.work;
       keeps = keeps_trimmed _ _ (record { oldest = c.oldest_view.result; is = c.oldest_view.ensures; kept = c.trim.ensures });
     }))
+
+pub returns-clause-trimmed : goal.returns-clause-trimmed
+returns-clause-trimmed c = is_trimmed _ _ c.oldest_view.result c.oldest_view.ensures c.trim.ensures

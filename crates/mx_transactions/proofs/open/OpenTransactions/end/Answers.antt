@@ -3,7 +3,7 @@ use Rattle.mx_txn.specs.Slots.{max_open}
 use Rattle.mx_transactions.specs.Open.{HoldsOpen, Open, slot_named}
 use Rattle.mx_transactions.proofs.EndLaws.{ended_open}
 use Rattle.mx_transactions.proofs.OpenLaws.{found_live}
-use Rattle.mx_transactions.proofs.TableLaws.{ended_table, keeps_trimmed}
+use Rattle.mx_transactions.proofs.TableLaws.{ended_table, keeps_trimmed, is_trimmed}
 use Rattle.mx_transactions.proofs.open.OpenTransactions.end.Goals as goal
 
 pub end-requires : goal.end-requires
@@ -31,3 +31,6 @@ returns-clause-left c = λ streams holds.
       work = c.clear.ensures.work;
       keeps = keeps_trimmed _ _ (record { oldest = c.oldest_view.result; is = c.oldest_view.ensures; kept = c.trim.ensures });
     }) (subst (HoldsOpen streams) (sym c.self.view_is) holds)
+
+pub returns-clause-trimmed : goal.returns-clause-trimmed
+returns-clause-trimmed c = is_trimmed _ _ c.oldest_view.result c.oldest_view.ensures c.trim.ensures

@@ -4,6 +4,7 @@ use Rattle.mx_space.specs.KeptStates.{kept_at, needed_from}
 use Rattle.mx_tracker.specs.Marks.{is_marked}
 use Rattle.mx_txn.specs.Slots.{max_open}
 use Rattle.mx_transactions.specs.Open.{HasSlot, Open, SlotHas}
+use Rattle.mx_transactions.proofs.TableLaws.{is_trimmed}
 use Rattle.mx_transactions.proofs.MoveLaws.{MovesTo, moves_all, kept_table, one_moved}
 use Rattle.mx_transactions.proofs.open.OpenTransactions.move_overlapped.Goals as goal
 
@@ -28,8 +29,8 @@ loop-slot-preserved c =
 pub invariant_of-self : goal.invariant_of-self
 invariant_of-self c = kept_table _ c.trim.new.self c.self-2.invariant
 
-pub returns : goal.returns
-returns c =
+pub returns-clause-moves : goal.returns-clause-moves
+returns-clause-moves c =
     let vacant = rw c.in_default.is at c.next_live.ensures in
     moves_all c.args.marks.now c.args.is_schema c.args.commits c.args.self.now c.loop-slot.self _ c.loop-slot.from c.loop-slot.invariant.below
     (λ slot later. ap (λ (o : Open). get o.slots slot) (sym c.self.view_is) ∙ vacant slot later)
@@ -39,3 +40,6 @@ returns c =
       is = c.oldest_view.ensures;
       kept = λ commits. c.trim.ensures commits ∙ ap (λ (o : Open). needed_from c.oldest_view.result commits (kept_at commits o.kept)) c.self-2.view_is;
     })
+
+pub returns-clause-trimmed : goal.returns-clause-trimmed
+returns-clause-trimmed c = is_trimmed _ _ c.oldest_view.result c.oldest_view.ensures c.trim.ensures
