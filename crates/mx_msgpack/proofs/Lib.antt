@@ -34,3 +34,4 @@ pub mod LookupLaws
 pub mod InnerSteps
 pub mod InnerLaws
 pub mod PassLaws
+pub mod OrderLaws

@@ -73,7 +73,13 @@ impl Ord for Bytes {
 
     ghost matches_eq = { texts_ties };
 
+    #[inline]
     fn cmp(&self, other: &Bytes) -> Ordering {
+        if let Storage::Short(one) = &self.storage {
+            if let Storage::Short(two) = &other.storage {
+                return one.compare(two);
+            }
+        }
         self.as_slice().cmp(other.as_slice())
     }
 }
@@ -90,6 +96,7 @@ impl Hash for Bytes {
 
 impl Bytes {
     /// No bytes.
+    #[inline]
     pub fn new(alloc: Global) -> Bytes
         ensures { result ≡ [] }
     {
@@ -108,6 +115,7 @@ impl Bytes {
     }
 
     /// A copy of the bytes.
+    #[inline]
     pub fn from_slice(alloc: Global, bytes: &[u8]) -> Result<Bytes, AllocError>
         ensures { IfOk result (λ copy. copy ≡ bytes.now) }
     {
