@@ -7,12 +7,13 @@ use Rattle.std.specs.declared.cmp.Ordering.TheVariants.{Less, Equal, Greater}
 use Rattle.std.specs.Cmp.{nat_cmp_is}
 use Rattle.std.specs.Cmp.Lexicographic.{slice_cmp}
 use Rattle.std.specs.Int.{byte_at, bytes_high_first}
-use Rattle.std.proofs.Math.Nat.{mod-lt, mod-eq_of_lt, mul-le-mul_right, add-mul, one-le-pow}
-use Rattle.std.proofs.lemmas.Cmp.{ranked, int_ranked}
+use Rattle.std.proofs.Math.Nat.{mod-lt, mod-eq_of_lt, one-le-pow}
+use Rattle.std.proofs.lemmas.Cmp.{int_ranked}
 use Rattle.std.proofs.lemmas.Int.{ints}
 use Rattle.byteorder.specs.Endian.{big_bytes}
 use Rattle.byteorder.specs.Numbers.{big_from-cons, big_from-bytes}
 use Rattle.mx_msgpack.specs.Writing.{Fits64}
+use Rattle.mx_msgpack.proofs.OrderLaws.{then_assoc, digits_order}
 use Rattle.mx_key.specs.Keys.{Key, KeyPart, Boolean, Integer, Text, Binary, IsFit, AreFit, part_cmp, key_cmp, is_prefix, is_key_prefix}
 use Rattle.mx_key.specs.Comparable.{number_above_least, content_bytes, part_bytes, comparable_of}
 
@@ -22,11 +23,6 @@ use Rattle.mx_key.specs.Comparable.{number_above_least, content_bytes, part_byte
 pub record Codes (one other : List ℕ) (o : Ordering) : Type 0 where
   pub order : (xs ys : List ℕ) → slice_cmp nat_cmp (one ++ xs) (other ++ ys) ≡ ordering_then o (slice_cmp nat_cmp xs ys)
   pub prefix : (xs ys : List ℕ) → is_prefix nat_cmp (one ++ xs) (other ++ ys) ≡ (is_eq o && is_prefix nat_cmp xs ys)
-
-then_assoc : (a b c : Ordering) → ordering_then a (ordering_then b c) ≡ ordering_then (ordering_then a b) c
-then_assoc Less b c = refl
-then_assoc Equal b c = refl
-then_assoc Greater b c = refl
 
 and_then : (a b : Ordering) (c : Bool) → (is_eq a && (is_eq b && c)) ≡ (is_eq (ordering_then a b) && c)
 and_then Less b c = refl
@@ -57,28 +53,6 @@ codes_above a b one other e = record {
 }
 
 -- ---- numbers of a fixed width
-
--- the highest digit decides, else the rest
-digits_order : (base a b r s : ℕ) → r < base → s < base → ordering_then (nat_cmp a b) (nat_cmp r s) ≡ nat_cmp (a * base + r) (b * base + s)
-digits_order base a b r s low low' = nat_cmp_is _ _ _ (by_digit (nat_cmp a b) (ranked a b (nat_cmp a b) refl))
-  where
-    by_rest : a ≡ b → (o : Ordering) → MatchOrdering o (r < s) (r ≡ s) (s < r)
-        → MatchOrdering o (a * base + r < b * base + s) (a * base + r ≡ b * base + s) (b * base + s < a * base + r)
-    by_rest same Less e = rw same (omega arith)
-    by_rest same Equal e = rw same (omega arith)
-    by_rest same Greater e = rw same (omega arith)
-
-    by_digit : (o : Ordering) → MatchOrdering o (a < b) (a ≡ b) (b < a)
-        → MatchOrdering (ordering_then o (nat_cmp r s)) (a * base + r < b * base + s) (a * base + r ≡ b * base + s) (b * base + s < a * base + r)
-    by_digit Less e =
-        let top : (a + 1) * base ≤ b * base = mul-le-mul_right base (omega arith) in
-        let parts : (a + 1) * base ≡ a * base + 1 * base = add-mul a 1 base in
-        omega arith
-    by_digit Equal e = by_rest e (nat_cmp r s) (ranked r s (nat_cmp r s) refl)
-    by_digit Greater e =
-        let top : (b + 1) * base ≤ a * base = mul-le-mul_right base (omega arith) in
-        let parts : (b + 1) * base ≡ b * base + 1 * base = add-mul b 1 base in
-        omega arith
 
 -- a number by its highest byte and the rest
 highest_byte : (n x : ℕ) → byte_at n x * 256 ^ n + x % 256 ^ n ≡ x % 256 ^ suc n

@@ -37,22 +37,26 @@ impl Edge {
         }
     }
 
-    fn is_within_low(&self, bytes: &[u8]) -> bool
-        ensures { result ≡ is_within_low self.now bytes.now }
+    /// Whether comparable bytes lie in a range with this low end, as far as that says.
+    #[inline]
+    pub fn is_within_low(&self, key: &Bytes) -> bool
+        ensures { result ≡ is_within_low self.now key.now }
     {
         match self {
-            Edge::Inclusive(end) => !bytes.cmp(end.as_slice()).is_lt(),
-            Edge::Exclusive(end) => bytes.cmp(end.as_slice()).is_gt(),
+            Edge::Inclusive(end) => !key.cmp(end).is_lt(),
+            Edge::Exclusive(end) => key.cmp(end).is_gt(),
             Edge::Open => true,
         }
     }
 
-    fn is_within_high(&self, bytes: &[u8]) -> bool
-        ensures { result ≡ is_within_high self.now bytes.now }
+    /// Whether comparable bytes lie in a range with this high end, as far as that says.
+    #[inline]
+    pub fn is_within_high(&self, key: &Bytes) -> bool
+        ensures { result ≡ is_within_high self.now key.now }
     {
         match self {
-            Edge::Inclusive(end) => !bytes.cmp(end.as_slice()).is_gt(),
-            Edge::Exclusive(end) => bytes.cmp(end.as_slice()).is_lt(),
+            Edge::Inclusive(end) => !key.cmp(end).is_gt(),
+            Edge::Exclusive(end) => key.cmp(end).is_lt(),
             Edge::Open => true,
         }
     }
@@ -74,10 +78,11 @@ impl KeyRange {
     }
 
     /// Whether these comparable bytes lie in the range.
-    pub fn holds(&self, bytes: &[u8]) -> bool
-        ensures { result ≡ holds self.now bytes.now }
+    #[inline]
+    pub fn holds(&self, key: &Bytes) -> bool
+        ensures { result ≡ holds self.now key.now }
     {
-        self.low.is_within_low(bytes) && self.high.is_within_high(bytes)
+        self.low.is_within_low(key) && self.high.is_within_high(key)
     }
 
     /// Ends the range with a key of these comparable bytes: at its low end where the scan is downward,

@@ -249,7 +249,7 @@ pub(crate) fn gather(
             return Ok(tuples);
         };
         rest = others;
-        if !range.holds(one.key.as_slice()) {
+        if !range.holds(&one.key) {
             continue;
         }
         if offset > 0 {

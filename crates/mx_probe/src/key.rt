@@ -166,7 +166,7 @@ fn held_in(arguments: &mut Arguments<'_>, range: &KeyRange) -> Result<String, Al
     let mut held = String::new(alloc);
     for text in arguments.others() {
         let key = key_in(arguments, text)?;
-        held.push_str(mark(range.holds(key.as_slice())))?;
+        held.push_str(mark(range.holds(&key)))?;
     }
     Ok(held)
 }

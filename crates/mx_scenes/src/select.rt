@@ -228,7 +228,7 @@ fn keys_in(alloc: Global, range: &KeyRange) -> Result<Bytes, AllocError> {
 pub(crate) fn holds(alloc: Global, range: &KeyRange, part: Value) -> Result<bool, AllocError> {
     let mut key = Values::new(alloc);
     key.push(part)?;
-    Ok(range.holds(comparable(alloc, &key)?.as_slice()))
+    Ok(range.holds(&comparable(alloc, &key)?))
 }
 
 /// Compares what a state picks with what is expected.

@@ -205,7 +205,7 @@ fn last_found<'a>(kept: &'a [Keyed], range: &KeyRange, pick: &Pick<'_>) -> Optio
             return last;
         };
         rest = others;
-        if !range.holds(one.key.as_slice()) {
+        if !range.holds(&one.key) {
             continue;
         }
         if offset > 0 {

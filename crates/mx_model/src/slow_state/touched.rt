@@ -82,7 +82,7 @@ impl TouchedKeys {
 fn touches(key: &TouchedKey, read: &ReadRange) -> bool
     ensures { result ≡ touches key.now read.now }
 {
-    key.space == read.space && key.index == read.index && read.range.holds(key.key.as_slice())
+    key.space == read.space && key.index == read.index && read.range.holds(&key.key)
 }
 
 impl SlowState {
