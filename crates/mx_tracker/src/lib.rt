@@ -2,8 +2,6 @@
 #![tactic(auto)]
 
 mod mark_set;
-mod noted_read;
-mod notes;
 mod read;
 mod touched;
 mod tracker;

@@ -6,7 +6,6 @@ ghost use Rattle.mx_tracker.specs.Overlaps.{is_overlapped};
 ghost use Rattle.mx_tracker.specs.Tracks.{noted_reads, ChangesReads, AreEmptyFrom};
 
 use crate::mark_set::{MarkSet, SLOTS};
-use crate::notes::Notes;
 use crate::read::Reads;
 use crate::touched::TouchedKeys;
 use std::alloc::{AllocError, Global};
@@ -16,7 +15,7 @@ use std::marker::Model;
 #[derive(Debug, Drop)]
 pub struct Tracker {
     alloc: Global,
-    notes: Vec<Notes>,
+    notes: Vec<Reads>,
     // Each slot from this number on has no notes.
     used: usize,
 }
@@ -38,7 +37,7 @@ impl Tracker {
     {
         let mut notes = Vec::with_capacity(alloc, SLOTS)?;
         for _ in 0..SLOTS {
-            notes.push_reserved(Notes::new(alloc));
+            notes.push_reserved(Reads::new(alloc));
         }
         Ok(Tracker {
             alloc,
@@ -56,8 +55,20 @@ impl Tracker {
         ensures ok { OnOk result (ChangesReads self.old self.new slot (noted_reads self.old slot ++ reads.now)) }
         ensures err { OnErr result (self.new ≡ self.old) }
     {
+        self.take(slot, reads.copy(self.alloc)?)
+    }
+
+    /// As `note`, without copies.
+    ///
+    /// # Errors
+    /// Out of memory; nothing is noted.
+    pub fn take(&mut self, slot: u32, reads: Reads) -> Result<(), AllocError>
+        requires { slot < slots }
+        ensures ok { OnOk result (ChangesReads self.old self.new slot (noted_reads self.old slot ++ reads)) }
+        ensures err { OnErr result (self.new ≡ self.old) }
+    {
         let slot = slot as usize;
-        self.notes[slot].extend(self.alloc, reads.as_slice())?;
+        self.notes[slot].extend(reads)?;
         self.used = self.used.max(slot + 1);
         Ok(())
     }
@@ -86,7 +97,7 @@ impl Tracker {
         requires { slot < slots }
         ensures { ChangesReads self.old self.new slot [] }
     {
-        self.notes[slot as usize] = Notes::new(self.alloc);
+        self.notes[slot as usize] = Reads::new(self.alloc);
         self.used = used_below(self.notes.as_slice(), self.used);
     }
 
@@ -102,7 +113,7 @@ impl Tracker {
 }
 
 /// The least number, at most `used`, from which on no slot has notes.
-fn used_below(notes: &[Notes], mut used: usize) -> usize
+fn used_below(notes: &[Reads], mut used: usize) -> usize
     requires within { used ≤ length notes.now }
     requires empty { AreEmptyFrom notes.now used }
     ensures less { result ≤ used }
