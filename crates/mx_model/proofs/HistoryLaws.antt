@@ -9,7 +9,6 @@ use Rattle.mx_request.specs.declared.request.Ask.TheVariants as ask
 use Rattle.mx_request.specs.declared.request.Request.{Request}
 use Rattle.mx_row.specs.declared.tx.Tx.{Tx}
 use Rattle.mx_row.specs.Clocks.{clock_after}
-use Rattle.mx_row.proofs.ClockLaws.{clock_after-append}
 use Rattle.mx_model.specs.declared.reply.Reply.{Reply}
 use Rattle.mx_model.specs.declared.reply.Reply.TheVariants.{Refused}
 use Rattle.mx_model.specs.Bases.{Base, is_out_of_memory}
@@ -19,7 +18,6 @@ use Rattle.mx_model.specs.StreamHistories.{Disconnected, IsLegalStreams, Request
 use Rattle.mx_model.specs.Streams.{IsTold, Streams, commit_with, outcome_of, streams_after, streams_left}
 use Rattle.mx_model.specs.Transactions.{state_after}
 use Rattle.mx_model.proofs.DemandedReplies.{demanded_memory}
-use Rattle.mx_model.proofs.JournalLaws.{state_after-append}
 use Rattle.mx_model.proofs.StreamLaws.{base_stays}
 
 -- one ask more is one entry more
@@ -139,25 +137,6 @@ taken_within base (Left connection ∷ earlier) = taken_within base earlier
 taken_within base (Took transactions upto ∷ earlier) = omega arith
 taken_within base (Confirmed upto ∷ earlier) = taken_within base earlier
 taken_within base (Looked ∷ earlier) = taken_within base earlier
-
--- after an ask the state, the vclock and the transactions to be written have what it committed
-pub state_of-asked : (base : Base) (name : TxnName) (asked : Ask) (reply : Reply) (history : History)
-    → state_of base (Asked name asked reply ∷ history) ≡ state_after (state_of base history) (commits_of (ledger_of base history) name asked reply)
-state_of-asked base name asked reply history =
-    let commits = commits_of (ledger_of base history) name asked reply in
-    state_of_journal base (Asked name asked reply ∷ history)
-    ∙ ap (state_after base.state) (journal_of-asked base name asked reply history)
-    ∙ state_after-append base.state (journal_of base history) commits
-    ∙ ap (λ state. state_after state commits) (sym (state_of_journal base history))
-
-pub clock_of-asked : (base : Base) (name : TxnName) (asked : Ask) (reply : Reply) (history : History)
-    → clock_of base (Asked name asked reply ∷ history) ≡ clock_after (clock_of base history) (commits_of (ledger_of base history) name asked reply)
-clock_of-asked base name asked reply history =
-    let commits = commits_of (ledger_of base history) name asked reply in
-    clock_of_journal base (Asked name asked reply ∷ history)
-    ∙ ap (clock_after base.clock) (journal_of-asked base name asked reply history)
-    ∙ clock_after-append base.clock (journal_of base history) commits
-    ∙ ap (λ clock. clock_after clock commits) (sym (clock_of_journal base history))
 
 -- the transactions that no take has
 abbrev pub untaken : Ledger → List Tx

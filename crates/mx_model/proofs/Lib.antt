@@ -90,3 +90,4 @@ pub mod SerializableLaws
 pub mod RunTouchLaws
 pub mod RunSchemaLaws
 mod TxsLaws
+pub mod BecomesLaws

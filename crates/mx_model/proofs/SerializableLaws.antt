@@ -17,7 +17,7 @@ use Rattle.mx_model.specs.Streams.{Outcome, Streams, commit_with, outcome_of, st
 use Rattle.mx_model.specs.statements.Answer.{Answer, refusal_after}
 use Rattle.mx_model.specs.statements.Statement.{Statement}
 use Rattle.mx_model.proofs.HistoryLaws.{streams_legal, streams_of_history}
-use Rattle.mx_model.proofs.SlowStreamLaws.{told_statement}
+use Rattle.mx_model.proofs.AskedStatements.{told_statement}
 use Rattle.mx_model.proofs.StreamCounts.{history_counted, told_demanded}
 use Rattle.mx_model.proofs.StreamLaws.{history_ran}
 

@@ -423,25 +423,6 @@ names_space asked statement found states is = subst (λ o. MatchOption o (writes
     by_request (request.Subscribe instance set clock) states = absurd cc
     by_request (request.Ack clock) states = absurd cc
 
--- a statement is told what it states
-pub told_statement : (streams : Streams) (name : TxnName) (asked : Request) (statement : Statement) → statement_of asked ≡ Some statement
-    → outcome_of streams name asked ≡ states streams (transaction_named name streams.transactions) statement
-told_statement streams name (request.Select space index limit offset iterator key) statement is = ap (tells_statement streams name (request.Select space index limit offset iterator key)) is
-told_statement streams name (request.Insert space tuple) statement is = ap (tells_statement streams name (request.Insert space tuple)) is
-told_statement streams name (request.Replace space tuple) statement is = ap (tells_statement streams name (request.Replace space tuple)) is
-told_statement streams name (request.Update space index base key operations) statement is = ap (tells_statement streams name (request.Update space index base key operations)) is
-told_statement streams name (request.Delete space index key) statement is = ap (tells_statement streams name (request.Delete space index key)) is
-told_statement streams name (request.Upsert space base tuple operations) statement is = ap (tells_statement streams name (request.Upsert space base tuple operations)) is
-told_statement streams name request.Nop statement is = absurd cc
-told_statement streams name request.Ping statement is = absurd cc
-told_statement streams name request.Begin statement is = absurd cc
-told_statement streams name request.Commit statement is = absurd cc
-told_statement streams name request.Rollback statement is = absurd cc
-told_statement streams name request.Id statement is = absurd cc
-told_statement streams name (request.Join instance) statement is = absurd cc
-told_statement streams name (request.Subscribe instance set clock) statement is = absurd cc
-told_statement streams name (request.Ack clock) statement is = absurd cc
-
 -- the limits leave the reads
 pub limited_reads : (rows : List Row) (answer : Answer) → (within_limits rows answer answer.row).reads ≡ answer.reads
 limited_reads rows answer = by_row answer.row

@@ -39,6 +39,18 @@ impl Debug for Bytes {
     }
 }
 
+impl Clone for Bytes {
+    ghost is_clone = { λ bytes copy. copy ≡ bytes };
+
+    fn clone(&self) -> Result<Bytes, AllocError> {
+        let storage = match &self.storage {
+            Storage::Short(short) => Storage::Short(short.copy()),
+            Storage::Long(items) => Storage::Long(items.as_slice().to_vec(*items.allocator())?),
+        };
+        Ok(Bytes { storage })
+    }
+}
+
 impl PartialEq for Bytes {
     ghost eq = { pointwise nat_eq };
 
@@ -143,6 +155,7 @@ impl Bytes {
     }
 
     /// Makes room for so many further bytes, which are then added without growing again.
+    #[inline]
     pub fn reserve(&mut self, additional: usize) -> Result<(), AllocError>
         ensures { self.new ≡ self.old }
     {

@@ -46,6 +46,17 @@ impl ShortBytes {
     }
 
     #[inline]
+    pub(crate) fn copy(&self) -> ShortBytes
+        ensures { result ≡ self.now }
+    {
+        ShortBytes {
+            alloc: self.alloc,
+            len: self.len,
+            items: self.items,
+        }
+    }
+
+    #[inline]
     pub(crate) fn as_slice(&self) -> &[u8]
         ensures { result.now ≡ self.now }
     {

@@ -10,19 +10,13 @@ use mx_msgpack::Bytes;
 use std::alloc::{AllocError, Global};
 use std::collections::BTreeMap;
 
+/// A copy of entries, node by node.
 pub(crate) fn copy_of_entries(
-    alloc: Global,
     entries: &BTreeMap<Bytes, Bytes>,
 ) -> Result<BTreeMap<Bytes, Bytes>, AllocError>
     ensures { IfOk result (λ copy. copy.entries ≡ entries.now.entries) }
 {
-    let mut copy = BTreeMap::new(alloc);
-    for (key, value) in entries {
-        let key = copy_of(alloc, key)?;
-        let value = copy_of(alloc, value)?;
-        set_entry(&mut copy, key, value)?;
-    }
-    Ok(copy)
+    entries.clone()
 }
 
 /// Puts a value under its key, in place of one that is there.
@@ -45,7 +39,7 @@ pub(crate) fn copy_of_indexes(
 {
     let mut copies = Vec::with_capacity(alloc, indexes.len())?;
     for index in indexes {
-        copies.push_reserved(index.copy(alloc)?);
+        copies.push_reserved(index.copy()?);
     }
     Ok(copies)
 }

@@ -50,8 +50,7 @@ impl KeptStates {
         self.states.get(&commits)
     }
 
-    /// Drops the states that no view reads: those before the oldest one that a view reads, and all where there
-    /// is no view.
+    /// Drops the states before the oldest one that a view reads, and all where there is no view.
     pub fn trim(&mut self, oldest: Option<u64>)
         ensures { (commits : ℕ) → kept_at commits self.new ≡ needed_from oldest commits (kept_at commits self.old) }
     {
@@ -70,6 +69,14 @@ impl KeptStates {
             }
             self.states.pop_first();
         }
+    }
+
+    /// Drops the state after so many commits, where it is kept.
+    pub fn remove(&mut self, commits: u64)
+        ensures gone { kept_at commits self.new ≡ None }
+        ensures others { (other : ℕ) → other ≢ commits → kept_at other self.new ≡ kept_at other self.old }
+    {
+        self.states.remove(&commits);
     }
 
     /// How many states are kept.

@@ -79,7 +79,7 @@ impl Space {
     {
         Ok(Space {
             schema: self.schema.copy(alloc)?,
-            tuples: copy_of_entries(alloc, &self.tuples)?,
+            tuples: copy_of_entries(&self.tuples)?,
             indexes: copy_of_indexes(alloc, self.indexes.as_slice())?,
         })
     }

@@ -36,11 +36,11 @@ impl TreeIndex {
         }
     }
 
-    pub(crate) fn copy(&self, alloc: Global) -> Result<TreeIndex, AllocError>
+    pub(crate) fn copy(&self) -> Result<TreeIndex, AllocError>
         ensures { IfOk result (λ copy. copy ≡ self.now) }
     {
         Ok(TreeIndex {
-            entries: copy_of_entries(alloc, &self.entries)?,
+            entries: copy_of_entries(&self.entries)?,
         })
     }
 }

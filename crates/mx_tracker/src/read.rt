@@ -91,6 +91,7 @@ impl Reads {
     ///
     /// # Errors
     /// Out of memory; the reads are as they were.
+    #[inline]
     pub fn push(&mut self, read: Read) -> Result<(), AllocError>
         ensures { MatchResult result (λ _. self.new ≡ self.old ++ read ∷ []) (λ _. self.new ≡ self.old) }
     {
@@ -130,13 +131,6 @@ impl Reads {
         ensures { result ≡ is_overlapped keys.now self.now }
     {
         self.items.iter().any(|read| read.is_touched(keys))
-    }
-
-    /// Drops all reads, and keeps their room.
-    pub fn clear(&mut self)
-        ensures { self.new ≡ [] }
-    {
-        self.items.clear();
     }
 
     /// The reads in order.

@@ -57,13 +57,6 @@ impl TouchedKeys {
         self.items.truncate(len);
     }
 
-    /// Drops all keys, and keeps their room.
-    pub fn clear(&mut self)
-        ensures { self.new ≡ [] }
-    {
-        self.items.clear();
-    }
-
     /// The keys in order.
     pub fn as_slice(&self) -> &[Touched]
         ensures { result.now ≡ self.now }

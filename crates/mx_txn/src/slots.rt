@@ -1,12 +1,12 @@
 //! The slots of open transactions, which take no memory once they are made.
 
-ghost use Rattle.std.specs.Prelude.{◌≡◌, ◌<◌, ◌≤◌, IfOk, OnOk, IfErr};
+ghost use Rattle.std.specs.Prelude.{◌≡◌, ◌<◌, ◌≤◌, ℕ, IfOk, OnOk, IfErr, MatchBool};
 ghost use Rattle.std.specs.FinMap as finite;
-ghost use Rattle.mx_txn.specs.Slots.{IsLive, IsNextLive, IsOldestView};
+ghost use Rattle.mx_txn.specs.Slots.{HasView, IsLive, IsNextLive, IsOldestView};
 
 use crate::scans::{first_vacant, oldest_after, used_below};
 use crate::slot::{MAX_OPEN, Slot};
-use crate::state::TxnState;
+use crate::state::{TxnState, is_view};
 use std::alloc::{AllocError, Global};
 use std::marker::Model;
 
@@ -134,6 +134,18 @@ impl Slots {
         ensures { IsOldestView self.now result }
     {
         self.oldest
+    }
+
+    /// Whether a transaction reads the state after this commit.
+    pub fn has_view(&self, at: u64) -> bool
+        ensures { MatchBool result ((slot : ℕ) × HasView self.now slot at) ((slot : ℕ) → ¬ HasView self.now slot at) }
+    {
+        for number in 0..self.used {
+            if is_view(self.states[number as usize], at) {
+                return true;
+            }
+        }
+        false
     }
 
     /// How many transactions are open.

@@ -1,6 +1,6 @@
 //! The state of an open transaction.
 
-ghost use Rattle.std.specs.Prelude.{◌≡◌};
+ghost use Rattle.std.specs.Prelude.{◌≡◌, ◌≢◌, Some, MatchBool};
 ghost use Rattle.mx_txn.specs.Views.{view_in};
 
 /// What an open transaction reads, by the numbers of commits.
@@ -21,5 +21,15 @@ pub(crate) fn view_in(state: Option<TxnState>) -> Option<u64>
     match state {
         Some(TxnState::View { at }) => Some(at),
         _ => None,
+    }
+}
+
+/// Whether the transaction of a slot reads the state after this commit.
+pub(crate) fn is_view(state: Option<TxnState>, at: u64) -> bool
+    ensures { MatchBool result (state ≡ Some (TxnState.View at)) (state ≢ Some (TxnState.View at)) }
+{
+    match state {
+        Some(TxnState::View { at: place }) => place == at,
+        _ => false,
     }
 }

@@ -36,7 +36,7 @@ pub use notes::Notes;
 pub use operations::{update_tuple, upsert_tuple};
 pub use scope::Scope;
 pub use touched::touch_stood;
-pub use writable::{Writer, primary_name, write_refusal};
+pub use writable::{Writer, describes_schema, primary_name, write_refusal};
 pub use write::{
     DELETE, INSERT, REPLACE, UPDATE, UPSERT, Write, write_in, write_of, write_of_request,
 };

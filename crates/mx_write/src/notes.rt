@@ -1,7 +1,7 @@
 //! Notes of what statements read.
 
 ghost use Rattle.std.specs.Prelude.{◌≡◌, [], ◌∷◌, None, Some, OnOk, IfOk, pos};
-ghost use Rattle.std.specs.Option.{option_copied, option_map};
+ghost use Rattle.std.specs.Option.{option_copied};
 ghost use Rattle.mx_key.specs.Comparable.{comparable_of, edges_of};
 ghost use Rattle.mx_key.specs.Keys.{Key, AreFit, Integer};
 ghost use Rattle.mx_key.specs.Ranges.{AreFitEnds, Range, prefix_range};
@@ -57,13 +57,12 @@ impl Notes {
         self.reads.as_ref()
     }
 
-    /// Drops the reads, and keeps their room.
-    pub fn clear(&mut self)
-        ensures { self.new ≡ option_map (λ _. []) self.old }
+    /// The reads; `None` where they aren't noted.
+    #[inline]
+    pub fn into_reads(self) -> Option<Reads>
+        ensures { result ≡ self }
     {
-        if let Some(reads) = &mut self.reads {
-            reads.clear();
-        }
+        self.reads
     }
 
     /// Notes a read of all keys of an index that begin with the key of these comparable bytes.
@@ -119,6 +118,7 @@ impl Notes {
     }
 }
 
+#[inline]
 fn push(
     reads: &mut Reads,
     space: SpaceId,
@@ -138,6 +138,7 @@ fn push(
 }
 
 /// The keys that begin with the key of these comparable bytes.
+#[inline]
 fn prefix_range(alloc: Global, key: &[u8]) -> Result<KeyRange, AllocError>
     ensures { (asked : Key) → key.now ≡ comparable_of asked → IfOk result (λ range. range ≡ edges_of (prefix_range asked)) }
 {

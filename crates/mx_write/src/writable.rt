@@ -26,6 +26,13 @@ pub enum Writer {
     Journal,
 }
 
+/// Whether the rows of a space describe spaces or indexes.
+pub fn describes_schema(space: SpaceId) -> bool
+    ensures { result ≡ spec.describes_schema space.0 }
+{
+    space.0 == SPACE_ROWS || space.0 == INDEX_ROWS
+}
+
 /// Why a write of this type can't be made in a space, of the row that this array names: its tuple or its
 /// primary key, and none where it is named by another index.
 pub fn write_refusal(

@@ -4,7 +4,6 @@ ghost use Rattle.std.specs.Prelude.{◌≡◌, ◌≤◌, ◌+◌, ◌++◌, ◌
 ghost use Rattle.std.specs.List.{list_any};
 ghost use Rattle.mx_request.specs.declared.request.Request.TheVariants as request;
 ghost use Rattle.mx_row.specs.declared.row.Row.{Row};
-ghost use Rattle.mx_write.specs.Writable.{describes_schema};
 ghost use Rattle.mx_vclock.specs.Vclocks.{max_lsn};
 ghost use Rattle.mx_model.specs.Bases.{writable_node};
 ghost use Rattle.mx_model.specs.RunAlone.{Run};
@@ -19,10 +18,10 @@ use crate::slow::run::SlowRun;
 use crate::slow::standing::SlowStanding;
 use crate::slow::transactions::place_of;
 use crate::slow::{Slow, SlowCommit};
-use mx_base::{Refusal, ReplicaId, SpaceId, TxnName};
+use mx_base::{Refusal, ReplicaId, TxnName};
 use mx_row::Row;
-use mx_schema::{INDEX_ROWS, SPACE_ROWS};
 use mx_vclock::MAX_LSN;
+use mx_write::describes_schema;
 use std::alloc::AllocError;
 
 impl Slow {
@@ -118,11 +117,4 @@ fn has_schema_row(rows: &[Row]) -> bool
     ensures { result ≡ list_any is_schema_row rows.now }
 {
     rows.iter().any(|row| describes_schema(row.space))
-}
-
-/// Whether the rows of this space describe spaces or indexes.
-pub(crate) fn describes_schema(space: SpaceId) -> bool
-    ensures { result ≡ describes_schema space.0 }
-{
-    space.0 == SPACE_ROWS || space.0 == INDEX_ROWS
 }

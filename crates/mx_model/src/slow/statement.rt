@@ -13,14 +13,13 @@ ghost use Rattle.mx_model.specs.statements.Statement.{Statement, statement_of};
 use crate::node::is_write;
 use crate::reply::Reply;
 use crate::slow::Slow;
-use crate::slow::commit::describes_schema;
 use crate::slow::run::{SlowRun, statement_answer, statement_reads};
 use crate::slow::standing::SlowStanding;
 use crate::slow::transactions::{SlowStep, SlowTransaction, copy_statement, place_of};
 use crate::slow_state::{SlowAnswer, SlowWrite};
 use mx_base::{Refusal, TxnName, Unsupported};
 use mx_request::Request;
-use mx_write::write_of_request;
+use mx_write::{describes_schema, write_of_request};
 use std::alloc::AllocError;
 
 /// A statement of a transaction, and what it is told.

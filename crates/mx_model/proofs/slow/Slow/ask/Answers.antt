@@ -3,7 +3,7 @@ use Rattle.std.specs.Prelude.{MatchResult}
 use Rattle.mx_model.specs.Slow.{IsSlow, Tells}
 use Rattle.mx_model.specs.Streams.{Outcome}
 use Rattle.mx_model.specs.statements.Statement.{statement_of}
-use Rattle.mx_model.proofs.SlowStreamLaws.{told_statement}
+use Rattle.mx_model.proofs.AskedStatements.{told_statement}
 use Rattle.mx_model.proofs.slow.Slow.ask.Goals as goal
 
 pub returns-in-Select : goal.returns-in-Select
