@@ -91,3 +91,4 @@ pub mod RunTouchLaws
 pub mod RunSchemaLaws
 mod TxsLaws
 pub mod BecomesLaws
+pub mod OwnCommitLaws

@@ -18,6 +18,7 @@ use Rattle.mx_model.specs.statements.Answer.{Answer, refusal_after}
 use Rattle.mx_model.specs.statements.Statement.{Statement}
 use Rattle.mx_model.proofs.HistoryLaws.{streams_legal, streams_of_history}
 use Rattle.mx_model.proofs.AskedStatements.{told_statement}
+use Rattle.mx_model.proofs.OwnCommitLaws.{all_commit}
 use Rattle.mx_model.proofs.StreamCounts.{history_counted, told_demanded}
 use Rattle.mx_model.proofs.StreamLaws.{history_ran}
 
@@ -69,6 +70,7 @@ is_serializable base history legal = record {
   ended = subst (λ (streams : Streams). AllByRecursion (RanAlone base streams.journal) (ended_in base (streams_in history))) same (history_ran base (streams_in history) streamed).1;
   still_open = subst AllStandAlone same (history_ran base (streams_in history) streamed).0;
   by_themselves = all_ran base (streams_in history) streamed;
+  commits = all_commit base (streams_in history);
   counted = subst (λ (streams : Streams). begun_in (streams_in history) ≡ length (ended_in base (streams_in history)) + length streams.transactions) same (history_counted base (streams_in history) streamed).1;
   names = subst (λ (streams : Streams). HaveOwnNames streams.transactions) same (history_counted base (streams_in history) streamed).0;
 }

@@ -15,11 +15,11 @@ same_entries [] (copy ∷ copies) each = absurd each
 same_entries (entry ∷ all) [] each = absurd each
 same_entries (entry ∷ all) (copy ∷ copies) (same, each) = λ i. (same.0 i, same.1 i) ∷ same_entries all copies each i
 
-pub where_cloned : {M E : Type 0} {F : E → Type 0} (entries_of : M → List StoredTuple) (all : List StoredTuple) (made : Result M E)
+pub where_cloned : {M E : Type 0} (F : E → Type 0) (entries_of : M → List StoredTuple) (all : List StoredTuple) (made : Result M E)
     → MatchResult made (λ copies. AllZip (λ (entry copy : StoredTuple). (copy.0 ≡ entry.0) × (copy.1 ≡ entry.1)) all (entries_of copies)) F
     → IfOk made (λ copies. entries_of copies ≡ all)
-where_cloned entries_of all (Ok copies) each = same_entries all (entries_of copies) each
-where_cloned entries_of all (Err fault) each = tt
+where_cloned F entries_of all (Ok copies) each = same_entries all (entries_of copies) each
+where_cloned F entries_of all (Err fault) each = tt
 
 -- ---- spaces
 

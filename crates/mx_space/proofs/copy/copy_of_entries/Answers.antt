@@ -2,4 +2,4 @@ use Rattle.mx_space.proofs.CopyLaws.{where_cloned}
 use Rattle.mx_space.proofs.copy.copy_of_entries.Goals as goal
 
 pub returns : goal.returns
-returns c = where_cloned (λ map. map.entries) c.args.entries.now.entries c.clone.result c.clone.ensures.cases
+returns c = where_cloned _ (λ map. map.entries) c.args.entries.now.entries c.clone.result c.clone.ensures.cases
