@@ -14,26 +14,36 @@ Copies: a COMMIT of 1 row and a REPLACE among 1,000 tuples and among 100,000, wi
 ratio near 1 says that nothing of the state is copied. Then a commit that overlaps a reader, for which the state is
 copied: what it costs more than one beside the reader, with the release of the copy.
 
+Kept: the most resident bytes of a run in which one reader stays in its view while others come, are overlapped by a
+commit and go. A state is to be kept no longer than some view reads it.
+
 At last REPLACE and SELECT with no transaction open, as `requests.py` measures them.
 """
 
 import argparse
+import os
+import subprocess
 import sys
+import tempfile
 from itertools import chain
 
 from requests import (
     ADD_ONE,
     KEYS,
     MORE,
+    PROGRAM,
+    SEED,
     STEP,
     TUPLES,
     TYPES_ASKED,
     check_tuples,
     cost_among,
+    environment,
     filling,
     instructions,
     is_built,
     measure,
+    new_folder,
     replace,
     select,
     setting,
@@ -56,6 +66,8 @@ REQUESTS = 200
 WRITTEN, READ = KEYS // 2, 10
 # How many copies of the state a run makes.
 COPIES = 2
+# How many readers come and go beside one that stays, and among how many tuples.
+PASSING, KEPT_AMONG = (0, 1, 100), 10_000
 # The input that sets the keys.
 SET = (WRITER, [replace(key, key, 0) for key in range(KEYS)])
 
@@ -217,6 +229,34 @@ def measure_copies(sizes):
         print(f"  a copied tuple: {(costs[-1] - costs[0]) / (many - few):,.1f}")
 
 
+# ---- kept states
+
+
+def most_resident(given):
+    """The most resident bytes of a run on this input."""
+    with new_folder() as folder, tempfile.TemporaryFile() as file:
+        file.write(given)
+        file.seek(0)
+        process = subprocess.Popen(
+            [PROGRAM, "trace", "DIR"], stdin=file, stdout=subprocess.DEVNULL, cwd=folder, env=environment(SEED)
+        )
+        _, status, usage = os.wait4(process.pid, 0)
+    if status != 0:
+        sys.exit(f"the run ended with status {status}")
+    return usage.ru_maxrss * 1024
+
+
+def measure_kept():
+    """Prints the most resident bytes beside a reader that stays, while so many others come and go."""
+    staying = [control("BEGIN", 0), select(0, Wide(0, 4), stream=STREAM)]
+    parts = [(WRITER, filling(KEPT_AMONG)), (READERS, staying), (WRITER, [replace(0, Wide(0, 4), 1)])]
+    print(f"the most resident bytes among {KEPT_AMONG:,} tuples, where a reader stays in its view and others pass:")
+    for passing in PASSING:
+        others = joined(beside_reader(at, 0) for at in range(passing))
+        taken = most_resident(b"".join(units(asked, connection) for connection, asked in (*parts, (WRITER, others))))
+        print(f"  {passing:>6,} pass: {taken:,}", flush=True)
+
+
 # ---- no transaction
 
 
@@ -229,7 +269,7 @@ def measure_requests(count):
 
 def main():
     parser = argparse.ArgumentParser(description=__doc__, formatter_class=argparse.RawDescriptionHelpFormatter)
-    parts = ("statements", "commits", "copies", "requests")
+    parts = ("statements", "commits", "copies", "kept", "requests")
     parser.add_argument("--part", choices=parts, action="append", help="only this part")
     parser.add_argument("--tuples", type=int, nargs="+", default=TUPLES, help="numbers of tuples among which is copied")
     options = parser.parse_args()
@@ -243,6 +283,8 @@ def main():
             measure_commits()
         elif part == "copies":
             measure_copies(options.tuples)
+        elif part == "kept":
+            measure_kept()
         else:
             measure_requests(TRANSACTIONS)
 

@@ -389,6 +389,22 @@ def rows_are_found_again():
     expect_journals(folder, journals)
 
 
+# ---- the order of keys
+
+
+def texts_are_in_order():
+    # Around the lengths by which keys are kept and compared: with zeros at their ends, and where one begins another.
+    texts = {"a" * size for size in range(42)}
+    texts |= {"a" * size + end for size in (0, 5, 6, 7, 8, 13, 14, 15, 16, 28, 29, 30, 31) for end in ("\0", "\0\0", "b", "\u00e9")}
+    rows = sorted([*([text] for text in texts), LEADER], key=lambda row: row[0].encode())
+    gone = sorted(texts)[::2]
+    folder = new_folder()
+    mixed = sorted(texts, key=lambda text: text[::-1])
+    converse([*(insert([text], space=SETTINGS) for text in mixed), select([], *rows, space=SETTINGS)], folder)
+    kept = [row for row in rows if row[0] not in gone]
+    converse([*(delete([text], [[text]], space=SETTINGS) for text in gone), select([], *kept, space=SETTINGS)], folder)
+
+
 def spaces_are_found_again():
     folder = new_folder()
     converse(schema_cases.KEPT, folder)
@@ -406,6 +422,7 @@ CHECKS = (
     ("a row's body may have its length", row_body_may_have_its_length),
     ("rows are found again", rows_are_found_again),
     ("spaces are found again", spaces_are_found_again),
+    ("texts are in order", texts_are_in_order),
 )
 
 

@@ -1,5 +1,5 @@
 -- Comparable bytes are ordered as the keys are, and begin each other where the keys do.
-use Rattle.std.proofs.Common.{◌≡◌, ℕ, zero, suc, ◌+◌, ◌*◌, ◌^◌, ◌<◌, ◌≤◌, ◌%◌, Bool, true, false, List, [], ◌∷◌, ◌++◌, refl, sym, ap, subst, ◌∙◌, arith}
+use Rattle.std.proofs.Common.{◌≡◌, ℕ, zero, suc, ◌+◌, ◌*◌, ◌^◌, ◌<◌, ◌%◌, Bool, true, false, List, [], ◌∷◌, ◌++◌, refl, sym, ap, subst, ◌∙◌, arith}
 use Rattle.std.specs.Prelude.{ℤ, pos, negsuc, ◌<ℤ◌, ◌&&◌}
 use Rattle.std.specs.Ordering.{nat_cmp, int_cmp, ordering_then, is_eq, MatchOrdering}
 use Rattle.std.specs.declared.cmp.Ordering.{Ordering}

@@ -1,4 +1,4 @@
-use Rattle.std.proofs.Common.{◌≡◌, ◌∙◌, drop, sym, arith}
+use Rattle.std.proofs.Common.{◌∙◌, drop, sym, arith}
 use Rattle.byteorder.specs.Numbers.{big_from-take}
 use Rattle.mx_msgpack.proofs.OrderLaws.{where_numbers_differ, where_numbers_are_same, where_nothing_follows}
 use Rattle.mx_msgpack.proofs.short_bytes.compare_ends.Goals as goal

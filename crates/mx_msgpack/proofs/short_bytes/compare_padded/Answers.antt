@@ -1,4 +1,4 @@
-use Rattle.std.proofs.Common.{◌≡◌, ◌∙◌, sym, ap, arith}
+use Rattle.std.proofs.Common.{◌∙◌, sym, ap, arith}
 use Rattle.std.specs.Ordering.{nat_cmp, ordering_then}
 use Rattle.mx_msgpack.specs.Short.{max_short}
 use Rattle.mx_msgpack.proofs.OrderLaws.{padded_order, unequal_decide, where_numbers_differ, where_numbers_are_same}

@@ -1,4 +1,4 @@
-use Rattle.std.proofs.Common.{◌≢◌, None, Some, inl, inr, sym, ap, ◌∙◌, arith}
+use Rattle.std.proofs.Common.{◌≢◌, None, Some, inl, inr, sym, ◌∙◌, arith}
 use Rattle.std.proofs.lemmas.Bool.{cases_lt}
 use Rattle.std.proofs.lemmas.List.{get_or_read}
 use Rattle.mx_txn.specs.declared.state.TxnState.{TxnState}

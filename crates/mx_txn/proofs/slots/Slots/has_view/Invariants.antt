@@ -1,4 +1,4 @@
-use Rattle.std.proofs.Common.{◌≡◌, ◌≢◌, ℕ, ◌<◌, Some}
+use Rattle.std.proofs.Common.{◌≢◌, ℕ, ◌<◌, Some}
 use Rattle.mx_txn.specs.declared.state.TxnState.TheVariants.{View}
 use Rattle.mx_txn.specs.Views.{state_at}
 use Rattle.mx_txn.proofs.slots.Slots.has_view.Given as goal
