@@ -16,7 +16,7 @@ use Rattle.mx_model.specs.declared.reply.Reply.TheVariants.{Empty, Refused}
 use Rattle.mx_model.specs.Bases.{writable_node}
 use Rattle.mx_model.specs.Overlaps.{Active, Doomed, Standing, Transaction, TransactionStep, View, standing, statements_in}
 use Rattle.mx_model.specs.RunAlone.{answer_alone, writes}
-use Rattle.mx_model.specs.StreamHistories.{Disconnected, Requested, StreamEntry, lacked_memory, streams_with}
+use Rattle.mx_model.specs.StreamHistories.{Disconnected, Requested, lacked_memory, streams_with}
 use Rattle.mx_model.specs.Streams.{Becomes, Ends, Goes, Opens, Outcome, Stays, Streams, begins_beside, commits, commits_rows, commits_standing, ends_told, in_stream, is_name, max_transactions, max_transactions_of_connection, of_connection, open_after, outcome_of, state_read, states, states_standing, streams_after, tells_statement, told_alone, transaction_named, transaction_with}
 use Rattle.mx_model.specs.statements.Answer.{Answer}
 use Rattle.mx_model.specs.statements.Statement.{Statement, statement_of}

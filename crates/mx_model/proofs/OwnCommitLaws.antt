@@ -12,12 +12,11 @@ use Rattle.mx_row.specs.declared.row.Row.{Row}
 use Rattle.mx_row.specs.Clocks.{clock_after}
 use Rattle.mx_vclock.specs.Vclocks.{max_lsn}
 use Rattle.mx_write.specs.Writable.{describes_schema}
-use Rattle.mx_model.specs.declared.reply.Reply.{Reply}
 use Rattle.mx_model.specs.declared.reply.Reply.TheVariants.{Empty, Refused}
 use Rattle.mx_model.specs.Bases.{Base, with_lsn, writable_node}
 use Rattle.mx_model.specs.Overlaps.{Active, Doomed, Standing, Transaction, View, standing, statements_in}
 use Rattle.mx_model.specs.RunAlone.{answer_alone, writes}
-use Rattle.mx_model.specs.Serializability.{AllCommitTheirOwn, EntryCommitsItsOwn, StatesByItself, answer_by_itself}
+use Rattle.mx_model.specs.Serializability.{AllCommitTheirOwn, EntryCommitsItsOwn, answer_by_itself}
 use Rattle.mx_model.specs.StreamHistories.{Disconnected, EndedTransaction, Requested, StreamEntry, StreamHistory, ended_as, ended_where, ends_now, is_commit, lacked_memory, streams_of}
 use Rattle.mx_model.specs.Streams.{Ends, Opens, Outcome, Streams, begins_beside, commit_with, commits, commits_rows, commits_standing, ends_told, in_stream, max_transactions, max_transactions_of_connection, of_connection, outcome_of, state_read, states, states_alone, states_alone_by, states_standing, streams_after, tells_statement, told_alone, transaction_named}
 use Rattle.mx_model.specs.statements.Answer.{Answer, refusal_after}
@@ -116,31 +115,32 @@ outcome_due streams name request.Commit = in_stream_due streams name request.Com
 outcome_due streams name request.Rollback = in_stream_due streams name request.Rollback _ (inl refl)
 outcome_due streams name other = tells_due streams name other (statement_of other) refl
 
+module _ (streams : Streams) (name : TxnName) (asked : Request) where
+  abbrev told : Outcome
+  told = outcome_of streams name asked
+
+  -- what a request makes of the journal, which counts as not asked where it lacked memory
+  abbrev Made : (lacked : Bool) → List Row → Type 0
+  Made lacked rows =
+      ((if lacked then streams else streams_after streams name told).journal ≡ streams.journal ++ commit_with streams rows)
+      × ((rows ≡ [])
+      ⊎ ((ended : EndedTransaction) × ((if lacked then [] else ended_as streams name (is_commit asked) told) ≡ ended ∷ []) × (ended.rows ≡ rows))
+      ⊎ ((statement : Statement) × ((statement_of asked ≡ Some statement) × (transaction_named name streams.transactions ≡ None))
+      × (option_to_list (answer_by_itself streams statement).row ≡ rows)))
+
+  made_due : RowsDue streams name asked told → Made false told.rows
+  made_due (inl none) = (refl, inl none)
+  made_due (inr (inl (ends, one, present))) =
+      (refl, inr (inl (ends_now streams (is_commit asked) told.reply told.rows one, (λ i. ended_where streams (is_commit asked) told (ends i) (present i)), refl)))
+  made_due (inr (inr own)) = (refl, inr (inr own))
+
+  made_where : (lacked : Bool) → (rows : List Row) × Made lacked rows
+  made_where true = ([], (sym (append-nil streams.journal), inl refl))
+  made_where false = (told.rows, made_due (outcome_due streams name asked))
+
 entry_commits : (streams : Streams) (entry : StreamEntry) → EntryCommitsItsOwn streams entry
 entry_commits streams (Disconnected connection) = ([], sym (append-nil streams.journal), inl refl)
-entry_commits streams (Requested name asked reply) = by_test (lacked_memory asked reply)
-  where
-    outcome : Outcome
-    outcome = outcome_of streams name asked
-
-    -- what an entry makes, which may not have been asked
-    abbrev Made : (b : Bool) → List Row → Type 0
-    Made b rows =
-        ((if b then streams else streams_after streams name outcome).journal ≡ streams.journal ++ commit_with streams rows)
-        × ((rows ≡ [])
-        ⊎ ((ended : EndedTransaction) × ((if b then [] else ended_as streams name (is_commit asked) outcome) ≡ ended ∷ []) × (ended.rows ≡ rows))
-        ⊎ ((statement : Statement) × ((statement_of asked ≡ Some statement) × (transaction_named name streams.transactions ≡ None))
-        × (option_to_list (answer_by_itself streams statement).row ≡ rows)))
-
-    by_due : RowsDue streams name asked outcome → Made false outcome.rows
-    by_due (inl none) = (refl, inl none)
-    by_due (inr (inl (ends, one, present))) =
-        (refl, inr (inl (ends_now streams (is_commit asked) outcome.reply outcome.rows one, (λ i. ended_where streams (is_commit asked) outcome (ends i) (present i)), refl)))
-    by_due (inr (inr own)) = (refl, inr (inr own))
-
-    by_test : (b : Bool) → (rows : List Row) × Made b rows
-    by_test true = ([], sym (append-nil streams.journal), inl refl)
-    by_test false = (outcome.rows, by_due (outcome_due streams name asked))
+entry_commits streams (Requested name asked reply) = let (rows, grows) = made_where streams name asked (lacked_memory asked reply) in (rows, grows.0, grows.1)
 
 pub all_commit : (base : Base) (history : StreamHistory) → AllCommitTheirOwn base history
 all_commit base [] = tt

@@ -36,7 +36,7 @@ use Rattle.mx_model.specs.Slow.{IsSlow, KeepCommits, KeepsCommit, KeepsTransacti
 use Rattle.mx_model.specs.SlowReads.{HasRead, reads_view}
 use Rattle.mx_model.specs.SlowState.{IsSlowState}
 use Rattle.mx_model.specs.SlowTouches.{AreFitReads, meet}
-use Rattle.mx_model.specs.Streams.{Ends, Opens, Outcome, Stays, Streams, begins_beside, commit_with, commits_rows, commits_standing, ends_told, goes_on_with, in_stream, max_transactions, max_transactions_of_connection, of_connection, open_after, outcome_of, standing_now, state_read, states, states_alone, states_alone_by, states_in, states_standing, streams_after, tells_statement, told_alone, transaction_named, with_step, without_named}
+use Rattle.mx_model.specs.Streams.{Ends, Opens, Outcome, Stays, Streams, begins_beside, commit_with, commits_rows, commits_standing, ends_told, goes_on_with, in_stream, max_transactions, max_transactions_of_connection, of_connection, open_after, standing_now, state_read, states, states_alone, states_alone_by, states_in, states_standing, streams_after, told_alone, transaction_named, with_step, without_named}
 use Rattle.mx_model.specs.Touches.{rows_meet}
 use Rattle.mx_model.specs.Transactions.{is_schema_row, state_after}
 use Rattle.mx_model.specs.statements.Answer.{Answer, refusal_after, refusal_alone}
