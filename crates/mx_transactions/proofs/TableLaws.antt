@@ -8,6 +8,7 @@ use Rattle.std.specs.List.{AllByRecursion, filter}
 use Rattle.std.specs.Ordering.{nat_cmp}
 use Rattle.mx_base.specs.declared.ids.TxnName.{TxnName}
 use Rattle.mx_model.specs.Streams.{is_name}
+use Rattle.mx_space.specs.declared.kept_states.KeptStates.{KeptStates}
 use Rattle.mx_space.specs.declared.state.State as memory
 use Rattle.mx_space.specs.KeptStates.{kept_at, needed_from}
 use Rattle.mx_tracker.specs.declared.read.Read as noted
@@ -21,7 +22,7 @@ use Rattle.mx_model.proofs.EachLaws.{each_kept, each_like}
 use Rattle.mx_transactions.specs.declared.names.Named.{Named}
 use Rattle.mx_transactions.specs.declared.work.Work.{Work}
 use Rattle.mx_transactions.specs.Open.{HaveOwnSlots, HasSlot, WritesNothing, IsOther, AreInSlots, IsVacant, Open, SlotHas, slot_named}
-use Rattle.mx_transactions.specs.OpenSteps.{IsTrimmed, ChangesTo, StaysAt}
+use Rattle.mx_transactions.specs.OpenSteps.{ChangesTo, DropsUnread, IsTrimmed, StaysAt}
 use Rattle.mx_transactions.proofs.OpenLaws.{found_live, found_other, same_slot}
 
 -- what every live name has, where one slot's state changes and it has another
@@ -174,6 +175,54 @@ pub record KeepsViews (old new : Open) : Type 0 where
 
 pub keeps_trimmed : (old new : Open) → Trims old new → KeepsViews old new
 keeps_trimmed old new trims = record { views = trimmed_views old new trims; states = trimmed_states old new trims }
+
+-- the same where the state of one that left its view is dropped too, if no other reads it
+module _ (old new : Open) (trimmed : KeptStates) (oldest : Option ℕ) (is : IsOldestView new.slots oldest)
+    (trims : (commits : ℕ) → kept_at commits trimmed ≡ needed_from oldest commits (kept_at commits old.kept)) (drops : DropsUnread new.slots trimmed new.kept) where
+  abbrev between : Open
+  between = record new { kept = trimmed }
+
+  trims_first : Trims old between
+  trims_first = record { oldest = oldest; is = is; kept = trims }
+
+  views_read : (other place : ℕ) → get new.slots other ≡ Some (txn.View place) → IsSome (kept_at place old.kept) → IsSome (kept_at place new.kept)
+  views_read other place view some = by_drop (drops place)
+    where
+      by_drop : (kept_at place new.kept ≡ kept_at place trimmed) ⊎ ((kept_at place new.kept ≡ None) × ((slot : ℕ) → get new.slots slot ≢ Some (txn.View place))) → IsSome (kept_at place new.kept)
+      by_drop (inl same) = subst IsSome (sym same) (trimmed_views old between trims_first other place view some)
+      by_drop (inr (none, unread)) = absurd (unread other view)
+
+  states_read : (commits : ℕ) (one : memory.State) → kept_at commits new.kept ≡ Some one → kept_at commits old.kept ≡ Some one
+  states_read commits one kept = by_drop (drops commits)
+    where
+      some_is_none : (state : memory.State) → Some state ≢ None
+      some_is_none state same = absurd cc
+
+      by_drop : (kept_at commits new.kept ≡ kept_at commits trimmed) ⊎ ((kept_at commits new.kept ≡ None) × ((slot : ℕ) → get new.slots slot ≢ Some (txn.View commits)))
+          → kept_at commits old.kept ≡ Some one
+      by_drop (inl same) = trimmed_states old between trims_first commits one (sym same ∙ kept)
+      by_drop (inr (none, unread)) = absurd (some_is_none one (sym kept ∙ none))
+
+  pub keeps_read : KeepsViews old new
+  keeps_read = record { views = views_read; states = states_read }
+
+pub is_trimmed_read : (new : Open) (before trimmed : KeptStates) (oldest : Option ℕ) → IsOldestView new.slots oldest
+    → ((commits : ℕ) → kept_at commits trimmed ≡ needed_from oldest commits (kept_at commits before)) → DropsUnread new.slots trimmed new.kept → IsTrimmed new
+is_trimmed_read new before trimmed oldest is trims drops = record { oldest = oldest; is = is; none = λ commits. by_drop commits (drops commits) }
+  where
+    nothing_needed : (first : Option ℕ) (commits : ℕ) → ◌≡◌ {A = Option memory.State} (needed_from first commits None) None
+    nothing_needed None commits = refl
+    nothing_needed (Some first) commits = by_test (nat_le first commits)
+      where
+        by_test : (b : Bool) → ◌≡◌ {A = Option memory.State} (if b then None else None) None
+        by_test true = refl
+        by_test false = refl
+
+    by_drop : (commits : ℕ) → (kept_at commits new.kept ≡ kept_at commits trimmed) ⊎ ((kept_at commits new.kept ≡ None) × ((slot : ℕ) → get new.slots slot ≢ Some (txn.View commits)))
+        → kept_at commits new.kept ≡ needed_from oldest commits (kept_at commits new.kept)
+    by_drop commits (inl same) =
+        same ∙ trims commits ∙ needed_again oldest commits (kept_at commits before) ∙ ap (needed_from oldest commits) (sym (same ∙ trims commits))
+    by_drop commits (inr (none, unread)) = none ∙ sym (ap (needed_from oldest commits) none ∙ nothing_needed oldest commits)
 
 pub keeps_same : (old new : Open) → new.kept ≡ old.kept → KeepsViews old new
 keeps_same old new same = record {

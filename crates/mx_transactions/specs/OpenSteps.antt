@@ -1,8 +1,9 @@
 -- What the calls on open transactions find and make of them.
-use Rattle.std.specs.Prelude.{◌≡◌, ◌≢◌, ℕ, Bool, true, false, not, ◌&&◌, ◌||◌, ◌<◌, ◌==◌, List, [], ◌∷◌, length, take, Option, Some, None, Result, Ok, Err, IsSome, MatchOption, slice_get, if◌then◌else◌}
+use Rattle.std.specs.Prelude.{◌≡◌, ◌≢◌, ◌⊎◌, ℕ, Bool, true, false, not, ◌&&◌, ◌||◌, ◌<◌, ◌==◌, List, [], ◌∷◌, length, take, Option, Some, None, Result, Ok, Err, IsSome, MatchOption, slice_get, if◌then◌else◌}
 use Rattle.std.specs.FinMap.{get}
 use Rattle.std.specs.List.{list_any}
 use Rattle.std.specs.Option.{option_map}
+use Rattle.mx_space.specs.declared.kept_states.KeptStates.{KeptStates}
 use Rattle.mx_space.specs.declared.state.State as memory
 use Rattle.mx_space.specs.KeptStates.{kept_at, needed_from}
 use Rattle.mx_tracker.specs.declared.read.Read as noted
@@ -10,7 +11,7 @@ use Rattle.mx_tracker.specs.declared.touched.Touched as coded
 use Rattle.mx_tracker.specs.Marks.{is_marked}
 use Rattle.mx_tracker.specs.Overlaps.{is_overlapped, lies_in_read}
 use Rattle.mx_tracker.specs.Tracks.{noted_reads}
-use Rattle.mx_txn.specs.Slots.{IsOldestView, max_open}
+use Rattle.mx_txn.specs.Slots.{IsOldestView, Txns, max_open}
 use Rattle.mx_model.specs.Overlaps.{Transaction, is_some_row}
 use Rattle.mx_base.specs.declared.ids.TxnName.{TxnName}
 use Rattle.mx_base.specs.declared.refusal.Refusal.{Refusal}
@@ -89,6 +90,16 @@ pub record IsTrimmed (all : Open) : Type 0 where
   pub oldest : Option ℕ
   pub is : IsOldestView all.slots oldest
   pub none : (commits : ℕ) → kept_at commits all.kept ≡ needed_from oldest commits (kept_at commits all.kept)
+
+-- of the states that are kept only such were dropped as no view reads
+abbrev pub DropsUnread : Txns → (old new : KeptStates) → Type 0
+DropsUnread slots old new =
+    (commits : ℕ) → (kept_at commits new ≡ kept_at commits old) ⊎ ((kept_at commits new ≡ None) × ((slot : ℕ) → get slots slot ≢ Some (txn.View commits)))
+
+-- the state that a slot's transaction read isn't kept where no view reads it now
+abbrev pub KeepsNoUnread : (old new : Open) → (slot : ℕ) → Type 0
+KeepsNoUnread old new slot =
+    (at : ℕ) → get old.slots slot ≡ Some (txn.View at) → ((other : ℕ) → get new.slots other ≢ Some (txn.View at)) → kept_at at new.kept ≡ None
 
 -- ---- commits
 

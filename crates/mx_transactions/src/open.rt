@@ -27,7 +27,7 @@ ghost use Rattle.mx_model.specs.Streams.{Streams, begins_beside, is_name, stream
 ghost use Rattle.mx_transactions.specs.Open.{HasRun, HasSlot, HaveOwnSlots, HoldsOpen, SlotHas, WritesNothing, slot_named};
 ghost use Rattle.mx_txn.specs.declared.state.TxnState.TheVariants.{Aborted, Active, View};
 ghost use Rattle.mx_transactions.specs.declared.work.Work.{Work};
-ghost use Rattle.mx_transactions.specs.OpenSteps.{ChangesTo, ComesTo, FindsOpen, IsTrimmed, KeepsMore, Moves, MovesSlot, StandsOn, StaysAt, TellsOpen, ViewsAreKept, beside, gets_view, has_rows, is_beside, is_reader};
+ghost use Rattle.mx_transactions.specs.OpenSteps.{ChangesTo, ComesTo, DropsUnread, FindsOpen, IsTrimmed, KeepsMore, KeepsNoUnread, Moves, MovesSlot, StandsOn, StaysAt, TellsOpen, ViewsAreKept, beside, gets_view, has_rows, is_beside, is_reader};
 
 use crate::names::{Named, OpenNames};
 use crate::work::Work;
@@ -148,18 +148,21 @@ impl OpenTransactions {
         work
     }
 
-    /// Ends the transaction that is open under a name, in this slot, and drops the states before the oldest
-    /// one that a view reads then.
+    /// Ends the transaction that is open under a name, in this slot, and drops the state that it read, unless
+    /// another one reads it, and all before the oldest one that a view reads then.
     pub fn end(&mut self, name: TxnName, slot: Slot)
         requires { slot_named name self.old.names ≡ Some slot }
         ensures left { (streams : Streams) → HoldsOpen streams self.old → HoldsOpen (beside streams (without_named name streams.transactions)) self.new }
         ensures names { self.new.names ≡ filter (λ named. not (is_name named.name name)) self.old.names }
         ensures trimmed { IsTrimmed self.new }
+        ensures unread { KeepsNoUnread self.old self.new slot }
     {
+        let left = self.slots.state(slot);
         self.slots.end(slot);
         clear(self.alloc, &mut self.tracker, &mut self.works, slot);
         self.names.remove(name);
         self.kept.trim(self.slots.oldest_view());
+        remove_unread(&mut self.kept, &self.slots, left);
     }
 
     /// Ends those of a connection.
@@ -176,6 +179,13 @@ impl OpenTransactions {
         ensures { IsTrue result ↔ (self.now.names ≡ []) }
     {
         self.names.is_empty()
+    }
+
+    /// Whether one is open, and no other.
+    pub fn has_one(&self) -> bool
+        ensures { IsTrue result ↔ (length self.now.names ≡ 1) }
+    {
+        self.names.len() == 1
     }
 
     // ---- one slot
@@ -198,12 +208,12 @@ impl OpenTransactions {
     ///
     /// # Errors
     /// Out of memory. Nothing is noted then.
-    pub fn note(&mut self, slot: Slot, reads: &Reads) -> Result<(), AllocError>
+    pub fn note(&mut self, slot: Slot, reads: Reads) -> Result<(), AllocError>
         requires live { IsLive self.old.slots slot }
-        ensures ok { (has : SlotHas) → HasSlot self.old slot has → OnOk result (ChangesTo self.old self.new slot (record has { reads = has.reads ++ reads.now })) }
+        ensures ok { (has : SlotHas) → HasSlot self.old slot has → OnOk result (ChangesTo self.old self.new slot (record has { reads = has.reads ++ reads })) }
         ensures err { OnErr result (self.new ≡ self.old) }
     {
-        self.tracker.note(slot.number(), reads)
+        self.tracker.take(slot.number(), reads)
     }
 
     /// Dooms a slot's transaction, with which a commit conflicts.
@@ -211,10 +221,13 @@ impl OpenTransactions {
         requires { IsLive self.old.slots slot }
         ensures dooms { (now : SlotHas) × (now.state ≡ Some (Aborted by)) × ChangesTo self.old self.new slot now }
         ensures trimmed { IsTrimmed self.new }
+        ensures unread { KeepsNoUnread self.old self.new slot }
     {
+        let left = self.slots.state(slot);
         self.slots.abort(slot, by);
         clear(self.alloc, &mut self.tracker, &mut self.works, slot);
         self.kept.trim(self.slots.oldest_view());
+        remove_unread(&mut self.kept, &self.slots, left);
     }
 
     /// Adds a write to a slot's active transaction: what it has read, its row of this size, and its change.
@@ -225,7 +238,7 @@ impl OpenTransactions {
         &mut self,
         state: &State,
         slot: Slot,
-        reads: &Reads,
+        reads: Reads,
         space: SpaceId,
         row: Row,
         size: usize,
@@ -233,14 +246,14 @@ impl OpenTransactions {
     ) -> Result<(), AllocError>
         requires live { IsLive self.old.slots slot }
         ensures { (before : plain.State) (run : Run) (answer : Answer) (write : statement.Write) (to : spec.Made) (has : SlotHas) → Holds state.now before → StandsOn before run
-            → HasSlot self.old slot has → HasRun before run has.work has.reads → AllZip SpellsRead reads.now answer.reads → describes_schema space.0 ≡ false
+            → HasSlot self.old slot has → HasRun before run has.work has.reads → AllZip SpellsRead reads answer.reads → describes_schema space.0 ≡ false
             → (judged_write Client run.state space.0 write).outcome ≡ Ok to → MakesWrite run.state space.0 write made to → to.row ≡ Some row → size ≡ saturated (plain_row_size row)
             → answer.row ≡ to.row → answer.change ≡ to.change → MatchResult result
             (λ _. ComesTo self.old self.new slot has before (run_with run answer))
             (λ _. ComesTo self.old self.new slot has before run) }
     {
         let before = self.tracker.len(slot.number());
-        self.tracker.note(slot.number(), reads)?;
+        self.tracker.take(slot.number(), reads)?;
         let work = &mut self.works[slot.number() as usize];
         match work.add(self.alloc, state, space, row, size, made) {
             Ok(()) => Ok(()),
@@ -412,6 +425,20 @@ fn clear(alloc: Global, tracker: &mut Tracker, works: &mut Vec<Work>, slot: Slot
 {
     tracker.forget(slot.number());
     works[slot.number() as usize] = Work::new(alloc);
+}
+
+/// Drops the state that a transaction read, where it had a view, unless another one reads it.
+fn remove_unread(kept: &mut KeptStates, slots: &Slots, left: TxnState)
+    ensures drops { DropsUnread slots.now kept.old kept.new }
+    ensures unread { (at : ℕ) → left ≡ View at → ((slot : ℕ) → get slots.now slot ≢ Some (View at)) → kept_at at kept.new ≡ None }
+{
+    let TxnState::View { at } = left else {
+        return;
+    };
+    if slots.has_view(at) {
+        return;
+    }
+    kept.remove(at);
 }
 
 /// Works without writes, one for each slot.

@@ -1,8 +1,9 @@
-use Rattle.std.proofs.Common.{rules, ◌<◌, refl, sym, subst}
+use Rattle.std.proofs.Common.{rules, ◌<◌, refl, sym, ◌∙◌, subst}
 use Rattle.mx_txn.specs.declared.state.TxnState.TheVariants.{Aborted}
 use Rattle.mx_txn.specs.Slots.{IsLive, max_open}
 use Rattle.mx_transactions.specs.Open.{Open}
-use Rattle.mx_transactions.proofs.TableLaws.{doomed_slot, doomed_table, keeps_trimmed, is_trimmed}
+use Rattle.mx_transactions.proofs.MoveLaws.{some_same}
+use Rattle.mx_transactions.proofs.TableLaws.{doomed_slot, doomed_table, keeps_read, is_trimmed_read}
 use Rattle.mx_transactions.proofs.open.OpenTransactions.doom.Goals as goal
 
 pub invariant_of-self : goal.invariant_of-self
@@ -11,7 +12,7 @@ invariant_of-self c =
       slots = c.abort.ensures;
       tracks = c.clear.ensures.reads;
       work = c.clear.ensures.work;
-      keeps = keeps_trimmed _ _ (record { oldest = c.oldest_view.result; is = c.oldest_view.ensures; kept = c.trim.ensures });
+      keeps = keeps_read _ _ c.trim.new.self c.oldest_view.result c.oldest_view.ensures c.trim.ensures c.remove_unread.ensures.drops;
     })
 
 pub returns-clause-dooms : goal.returns-clause-dooms
@@ -21,8 +22,13 @@ returns-clause-dooms c =
       slots = c.abort.ensures;
       tracks = c.clear.ensures.reads;
       work = c.clear.ensures.work;
-      keeps = keeps_trimmed _ _ (record { oldest = c.oldest_view.result; is = c.oldest_view.ensures; kept = c.trim.ensures });
+      keeps = keeps_read _ _ c.trim.new.self c.oldest_view.result c.oldest_view.ensures c.trim.ensures c.remove_unread.ensures.drops;
     }))
 
 pub returns-clause-trimmed : goal.returns-clause-trimmed
-returns-clause-trimmed c = is_trimmed _ _ c.oldest_view.result c.oldest_view.ensures c.trim.ensures
+returns-clause-trimmed c = is_trimmed_read _ c.self.inside.kept c.trim.new.self c.oldest_view.result c.oldest_view.ensures c.trim.ensures c.remove_unread.ensures.drops
+
+pub returns-clause-unread : goal.returns-clause-unread
+returns-clause-unread c = λ at view none.
+    let here = rw (sym c.self.view_is) at view in
+    c.remove_unread.ensures.unread at (some_same (sym c.state-left.ensures ∙ here)) none

@@ -1,10 +1,16 @@
-use Rattle.std.proofs.Common.{rules, ◌≡◌, ◌<◌, Some, sym, subst}
+use Rattle.std.proofs.Common.{rules, ◌≡◌, ◌<◌, Some, sym, ◌∙◌, subst}
 use Rattle.mx_txn.specs.Slots.{max_open}
 use Rattle.mx_transactions.specs.Open.{HoldsOpen, Open, slot_named}
 use Rattle.mx_transactions.proofs.EndLaws.{ended_open}
 use Rattle.mx_transactions.proofs.OpenLaws.{found_live}
-use Rattle.mx_transactions.proofs.TableLaws.{ended_table, keeps_trimmed, is_trimmed}
+use Rattle.mx_transactions.proofs.MoveLaws.{some_same}
+use Rattle.mx_transactions.proofs.TableLaws.{ended_table, keeps_read, is_trimmed_read}
 use Rattle.mx_transactions.proofs.open.OpenTransactions.end.Goals as goal
+
+pub state-left-requires : goal.state-left-requires
+state-left-requires c =
+    found_live c.self.inside.slots c.args.name c.self.inside.names c.self.invariant.live c.args.slot
+    (subst (λ (all : Open). slot_named c.args.name all.names ≡ Some c.args.slot) (sym c.self.view_is) c.requires)
 
 pub end-requires : goal.end-requires
 end-requires c =
@@ -19,7 +25,7 @@ invariant_of-self c =
       slots = c.end.ensures;
       tracks = c.clear.ensures.reads;
       work = c.clear.ensures.work;
-      keeps = keeps_trimmed _ _ (record { oldest = c.oldest_view.result; is = c.oldest_view.ensures; kept = c.trim.ensures });
+      keeps = keeps_read _ _ c.trim.new.self c.oldest_view.result c.oldest_view.ensures c.trim.ensures c.remove_unread.ensures.drops;
     })
 
 pub returns-clause-left : goal.returns-clause-left
@@ -29,8 +35,13 @@ returns-clause-left c = λ streams holds.
       slots = c.end.ensures;
       tracks = c.clear.ensures.reads;
       work = c.clear.ensures.work;
-      keeps = keeps_trimmed _ _ (record { oldest = c.oldest_view.result; is = c.oldest_view.ensures; kept = c.trim.ensures });
+      keeps = keeps_read _ _ c.trim.new.self c.oldest_view.result c.oldest_view.ensures c.trim.ensures c.remove_unread.ensures.drops;
     }) (subst (HoldsOpen streams) (sym c.self.view_is) holds)
 
 pub returns-clause-trimmed : goal.returns-clause-trimmed
-returns-clause-trimmed c = is_trimmed _ _ c.oldest_view.result c.oldest_view.ensures c.trim.ensures
+returns-clause-trimmed c = is_trimmed_read _ c.self.inside.kept c.trim.new.self c.oldest_view.result c.oldest_view.ensures c.trim.ensures c.remove_unread.ensures.drops
+
+pub returns-clause-unread : goal.returns-clause-unread
+returns-clause-unread c = λ at view none.
+    let here = rw (sym c.self.view_is) at view in
+    c.remove_unread.ensures.unread at (some_same (sym c.state-left.ensures ∙ here)) none

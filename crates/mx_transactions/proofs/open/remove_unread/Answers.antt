@@ -1,0 +1,1 @@
+use Rattle.mx_transactions.proofs.open.remove_unread.Goals as goal
