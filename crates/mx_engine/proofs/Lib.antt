@@ -6,3 +6,4 @@ pub mod StatementLaws
 pub mod StepLaws
 pub mod ViewLaws
 pub mod WriteLaws
+pub mod OthersLaws

@@ -27,7 +27,7 @@ use Rattle.mx_model.proofs.DemandedReplies.{demanded_memory}
 use Rattle.mx_model.proofs.HistoryLaws.{base_of_ledger, commits_of, steps_of_ledger, streams_legal, streams_of_history, untaken-asked, journal_of-asked}
 use Rattle.mx_model.proofs.StreamNumbers.{all_in_streams}
 use Rattle.mx_model.proofs.StreamLaws.{history_ran}
-use Rattle.mx_model.proofs.SlowStreamLaws.{told_statement}
+use Rattle.mx_model.proofs.AskedStatements.{told_statement}
 use Rattle.mx_engine.specs.declared.engine.Engine.{Engine}
 use Rattle.mx_transactions.specs.Open.{HoldsOpen, Open}
 use Rattle.mx_engine.specs.Standing.{EngineStandsFor, HasStreams, Matches}

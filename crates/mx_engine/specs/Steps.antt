@@ -163,6 +163,12 @@ pub record Prepares (old new : Engine) (streams : Streams) (row : Row) (found : 
   pub marks : MatchOption found (new.open.names ≡ [])
       (λ made. (keys : List coded.Touched) × SpellsRows (newest_state streams) (row ∷ []) keys × AreMarks new.open made keys × ViewsAreKept new.open made old.commits None × (length new.open.works ≡ max_open))
 
+-- the other open transactions that the writes of one overlap are marked, and ready for its commit; there may be no other
+pub record ReadiesOthers (old new : Engine) (streams : Streams) (one : Transaction) (slot : ℕ) (found : Option (List Bool)) : Type 0 where
+  pub transactions : HoldsOpen streams new.open
+  pub marks : MatchOption found (length old.open.names ≡ 1)
+      (λ made. (keys : List coded.Touched) × SpellsRows (newest_state streams) (newest_run streams one).rows keys × AreMarks old.open made keys × ViewsAreKept new.open made old.commits (Some slot))
+
 -- the commit of a row
 abbrev pub transaction_of : (lsn : ℕ) → Row → Tx
 transaction_of lsn row = record { replica = record { 0 = writable_node }; first = record { 0 = lsn }; rows = row ∷ [] }

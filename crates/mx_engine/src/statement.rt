@@ -14,9 +14,9 @@ ghost use Rattle.mx_engine.specs.StatementViews.{AreKeysArrays, statement_view};
 use mx_base::{IndexId, SpaceId};
 use mx_model::iterator_of;
 use mx_request::{Request, RequestRef};
-use mx_schema::{INDEX_ROWS, SPACE_ROWS, array_or_empty};
+use mx_schema::array_or_empty;
 use mx_space::Pick;
-use mx_write::{Write, write_in, write_of_request};
+use mx_write::{Write, describes_schema, write_in, write_of_request};
 
 /// A SELECT.
 #[derive(Clone, Copy, Debug)]
@@ -60,13 +60,6 @@ impl StatementRef<'_> {
             StatementRef::Write { space, .. } => describes_schema(*space),
         }
     }
-}
-
-/// Whether the rows of a space describe spaces or indexes.
-pub(crate) fn describes_schema(space: SpaceId) -> bool
-    ensures { result ≡ describes_schema space.0 }
-{
-    space.0 == SPACE_ROWS || space.0 == INDEX_ROWS
 }
 
 /// The statement that a request in place is; `None` where it is none.

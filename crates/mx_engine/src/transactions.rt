@@ -2,6 +2,7 @@
 
 ghost use Rattle.std.specs.Prelude.{◌≡◌, ◌==◌, ◌≤◌, ◌+◌, ◌∷◌, ℕ, List, length, IfOk, MatchOption, MatchResult, nat_lt, slice_index, true, false, Some};
 ghost use Rattle.std.specs.List.{AllZip};
+ghost use Rattle.std.specs.Option.{option_map};
 ghost use Rattle.mx_base.specs.Keys.{stream_key};
 ghost use Rattle.mx_base.specs.declared.refusal.Refusal.TheVariants.{IllegalValue};
 ghost use Rattle.mx_request.specs.declared.request.Request.TheVariants as request;
@@ -19,9 +20,9 @@ ghost use Rattle.mx_model.specs.Overlaps.{Transaction};
 ghost use Rattle.mx_model.specs.RunTouches.{stood_under};
 ghost use Rattle.mx_model.specs.Streams.{Ends, Streams, commits_rows};
 ghost use Rattle.mx_transactions.specs.Open.{HaveOwnSlots, SpellsKey, in_order, newest_state, slot_named};
-ghost use Rattle.mx_transactions.specs.OpenSteps.{AreMarks, FindsIn, SpellsRows};
+ghost use Rattle.mx_transactions.specs.OpenSteps.{AreMarks, FindsIn, KeepsMore, Moves, SpellsRows};
 ghost use Rattle.mx_engine.specs.Standing.{HasStreams};
-ghost use Rattle.mx_engine.specs.Steps.{AnswersRequest, CountsStep, IsActiveIn, Keeps, Reserves, SameNode, TellsOutcome, TellsOrLacks, newest_run};
+ghost use Rattle.mx_engine.specs.Steps.{AnswersRequest, CountsStep, IsActiveIn, Keeps, ReadiesOthers, Reserves, SameButOpen, SameNode, TellsOutcome, TellsOrLacks, newest_run};
 ghost use Rattle.mx_engine.specs.Views.{reply_of};
 
 use crate::answer::Answered;
@@ -31,7 +32,7 @@ use mx_model::WRITABLE_NODE;
 use mx_row::{Rows, Tx};
 use mx_space::{Prepared, State};
 use mx_tracker::{MarkSet, TouchedKeys};
-use mx_transactions::ChangedKey;
+use mx_transactions::{ChangedKey, OpenTransactions};
 use mx_txn::{Slot, TxnState};
 use mx_vclock::MAX_LSN;
 use mx_write::touch_stood;
@@ -161,17 +162,38 @@ impl Engine {
             (λ _. Keeps self.old self.new streams) }
         ensures keeps { SameNode self.old self.new }
     {
-        let marks = self.marks_of_work(slot)?;
-        self.open
-            .prepare(&self.state, self.commits, &marks, Some(slot))?;
+        let marks = self.ready_others(slot)?;
         let prepared = self.reserve(slot, last + 1 - rows as u64)?;
         self.state.install(prepared);
         let work = self.open.remove(name, slot);
         self.pending.fill_last(work.rows);
         self.clock.set(WRITABLE_NODE, last);
-        self.open.move_overlapped(&marks, false, self.commits);
+        move_others(&mut self.open, &marks, false, self.commits);
         self.commits = self.commits.saturating_add(1);
         Ok(())
+    }
+
+    /// Which slots the writes of an active transaction overlap, where another one is open; the state that those
+    /// will read is kept then.
+    ///
+    /// # Errors
+    /// Out of memory. Nothing is kept then.
+    fn ready_others(&mut self, slot: Slot) -> Result<Option<Box<MarkSet>>, AllocError>
+        ensures readies { (streams : Streams) (name : TxnName) (one : Transaction) → AllStandAlone streams → IsActiveIn self.old streams name slot one → MatchResult result
+            (λ marks. ReadiesOthers self.old self.new streams one slot (option_map (λ b. b.value) marks))
+            (λ _. Keeps self.old self.new streams) }
+        ensures more { KeepsMore self.old.open self.new.open }
+        ensures keeps { SameButOpen self.old self.new }
+    {
+        if self.open.has_one() {
+            return Ok(None);
+        }
+        let marks = self.marks_of_work(slot)?;
+        // In a box, as those of a write by itself.
+        let marks = Box::new(self.alloc, marks)?;
+        self.open
+            .prepare(&self.state, self.commits, &*marks, Some(slot))?;
+        Ok(Some(marks))
     }
 
     /// Takes the memory for what an active transaction has written: in the state, and a place behind the commits
@@ -211,6 +233,22 @@ impl Engine {
         let mut marks = self.open.overlapped(&work.puts);
         marks.add(&self.open.overlapped(&stood));
         Ok(marks)
+    }
+}
+
+/// Moves the open transactions that a commit overlaps, where there are marks.
+pub(crate) fn move_others(
+    open: &mut OpenTransactions,
+    marks: &Option<Box<MarkSet>>,
+    is_schema: bool,
+    commits: u64,
+)
+    ensures { MatchOption (option_map (λ b. b.value) marks.now)
+        (open.new ≡ open.old)
+        (λ made. Moves open.old open.new made is_schema commits) }
+{
+    if let Some(marks) = marks {
+        open.move_overlapped(marks, is_schema, commits);
     }
 }
 

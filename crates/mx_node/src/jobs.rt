@@ -163,6 +163,8 @@ fn reply_next(
 }
 
 /// Lets the engine answer a job, and writes the packet of its reply in place of the one before.
+// A call, so that bytes that end no packet don't pay for the room that answers need.
+#[inline(never)]
 fn reply(
     alloc: Global,
     engine: &mut Engine,

@@ -158,7 +158,7 @@ impl Engine {
             &wanted.pick(),
             found,
         );
-        self.note(slot, &notes, result)
+        self.note(slot, notes, result)
     }
 
     fn write_active(
@@ -178,7 +178,7 @@ impl Engine {
             let writable = ReplicaId(WRITABLE_NODE);
             return self.note(
                 slot,
-                &Notes::on(self.alloc),
+                Notes::on(self.alloc),
                 Err(Refusal::ReadOnly { writable }),
             );
         }
@@ -190,12 +190,12 @@ impl Engine {
             space,
         };
         match scope.judge(write, &mut notes) {
-            Ok(Some(made)) => self.put_active(slot, space, write, made, &notes, found),
+            Ok(Some(made)) => self.put_active(slot, space, write, made, notes, found),
             Ok(None) => {
                 found.clear();
-                self.note(slot, &notes, Ok(Answered::Tuples))
+                self.note(slot, notes, Ok(Answered::Tuples))
             }
-            Err(refusal) => self.note(slot, &notes, Err(refusal)),
+            Err(refusal) => self.note(slot, notes, Err(refusal)),
         }
     }
 
@@ -207,12 +207,12 @@ impl Engine {
         space: SpaceId,
         write: &Write<'_>,
         made: Made,
-        notes: &Notes,
+        notes: Notes,
         found: &mut Tuples,
     ) -> Result<Answered, Refusal>
         requires live { IsLive self.old.open.slots slot }
         ensures answers { (streams : Streams) (name : TxnName) (one : Transaction) → AllStandAlone streams → IsActiveIn self.old streams name slot one → IsDataStatement (write_in_space space write.now)
-            → self.old.ids.me ≡ writable_node → IsMadeIn streams one space write.now made notes.now
+            → self.old.ids.me ≡ writable_node → IsMadeIn streams one space write.now made notes
             → TellsOrLacks self.old self.new streams name (states_in streams one (write_in_space space write.now)) (reply_of result found.new) }
         ensures keeps { SameNode self.old self.new }
     {
@@ -232,12 +232,12 @@ impl Engine {
         space: SpaceId,
         write: &Write<'_>,
         made: Made,
-        notes: &Notes,
+        notes: Notes,
         shown: &mut Tuples,
     ) -> Result<(), AllocError>
         requires live { IsLive self.old.open.slots slot }
         ensures adds { (streams : Streams) (name : TxnName) (one : Transaction) → AllStandAlone streams → IsActiveIn self.old streams name slot one → IsDataStatement (write_in_space space write.now)
-            → self.old.ids.me ≡ writable_node → IsMadeIn streams one space write.now made notes.now → has_room (newest_run streams one).rows (row_made space write.now made) ≡ true → MatchResult result
+            → self.old.ids.me ≡ writable_node → IsMadeIn streams one space write.now made notes → has_room (newest_run streams one).rows (row_made space write.now made) ≡ true → MatchResult result
             (λ _. TellsOutcome self.old self.new streams name (states_in streams one (write_in_space space write.now)) (reply.Tuples shown.new))
             (λ _. Keeps self.old self.new streams) }
         ensures keeps { SameNode self.old self.new }
@@ -246,7 +246,7 @@ impl Engine {
         let size = size_of(&row);
         let row = Row::from_ref(self.alloc, &row)?;
         show(&made.effect, shown)?;
-        let Some(reads) = notes.as_reads() else {
+        let Some(reads) = notes.into_reads() else {
             return Err(AllocError);
         };
         match self
@@ -276,19 +276,19 @@ impl Engine {
     fn note(
         &mut self,
         slot: Slot,
-        notes: &Notes,
+        notes: Notes,
         answered: Result<Answered, Refusal>,
     ) -> Result<Answered, Refusal>
         requires live { IsLive self.old.open.slots slot }
         ensures answers { (streams : Streams) (name : TxnName) (one : Transaction) (statement : Statement) (found : List (List ℕ)) → AllStandAlone streams → IsActiveIn self.old streams name slot one
-            → IsDataStatement statement → AnswersAlone streams one statement found answered notes.now
+            → IsDataStatement statement → AnswersAlone streams one statement found answered notes
             → TellsOrLacks self.old self.new streams name (states_in streams one statement) (reply_of result found) }
         ensures keeps { SameNode self.old self.new }
     {
         if lacks_memory(&answered) {
             return answered;
         }
-        let Some(reads) = notes.as_reads() else {
+        let Some(reads) = notes.into_reads() else {
             return Err(Refusal::OutOfMemory);
         };
         match self.open.note(slot, reads) {

@@ -20,14 +20,14 @@ ghost use Rattle.mx_engine.specs.Views.{reply_of};
 
 use crate::answer::Answered;
 use crate::engine::Engine;
-use crate::statement::describes_schema;
+use crate::transactions::move_others;
 use mx_base::{Lsn, Refusal, ReplicaId, SpaceId};
 use mx_model::{WRITABLE_NODE, next_lsn};
 use mx_msgpack::Tuples;
 use mx_row::{RowRef, Tx};
 use mx_space::StateView;
 use mx_tracker::{MarkSet, TouchedKeys};
-use mx_write::{Effect, Made, Notes, Scope, Write, Writer, row_of};
+use mx_write::{Effect, Made, Notes, Scope, Write, Writer, describes_schema, row_of};
 use std::alloc::{AllocError, Global};
 
 impl Engine {
@@ -156,10 +156,12 @@ impl Engine {
         ensures keeps { SameNode self.old self.new }
     {
         self.schema = version_after(self.schema, space);
-        if let Some(marks) = marks {
-            self.open
-                .move_overlapped(marks, describes_schema(space), self.commits);
-        }
+        move_others(
+            &mut self.open,
+            marks,
+            describes_schema(space),
+            self.commits,
+        );
         self.commits = self.commits.saturating_add(1);
     }
 

@@ -26,10 +26,10 @@ returns-in-Ok-clause-adds c = λ streams name one all active plain me made room.
     let judged = its_judged streams one c.args.space.0 write in
     let is = answer_made streams one c.args.space.0 write takes made.to made.judged (row_made c.args.space c.args.write.now c.args.made) made.makes.row room in
     let row = c.in_ok-row.ensures ∙ c.row_of-row.ensures ∙ ap (λ key. row_with c.args.space.0 write key) c.as_slice.ensures in
-    let spelled = noted_all c.in-Some.reads.now judged.reads (subst (λ noted. AddsReads (Some []) noted judged.reads) (sym c.in-Some.ensures) made.notes) in
+    let spelled = noted_all c.in-Some.reads judged.reads (subst (λ noted. AddsReads (Some []) noted judged.reads) (sym c.in-Some.ensures) made.notes) in
     let now = c.in-Ok.ensures (newest_state streams) (newest_run streams one) (newest_answer streams one statement) write made.to active.is_open.kept active.is_open.has.holds
     (newest_stands c.args.self.now streams name c.args.slot one all active) active.is_open.is active.run
-    (subst (λ reads. AllZip SpellsRead c.in-Some.reads.now reads) (sym (ap (λ (a : Answer). a.reads) is)) spelled) plain.0 made.judged made.makes
+    (subst (λ reads. AllZip SpellsRead c.in-Some.reads reads) (sym (ap (λ (a : Answer). a.reads) is)) spelled) plain.0 made.judged made.makes
     (made.makes.row ∙ ap (λ r. Some r) (sym row)) (c.size_of-size.ensures ∙ ap (λ r. saturated (row_size r)) (sym c.in_ok-row.ensures))
     (ap (λ (a : Answer). a.row) is) (ap (λ (a : Answer). a.change) is) in
     tells_active c.args.self.now _ streams name c.args.slot one active
@@ -45,10 +45,10 @@ returns-in-Err-clause-adds c = λ streams name one all active plain me made room
     let judged = its_judged streams one c.args.space.0 write in
     let is = answer_made streams one c.args.space.0 write takes made.to made.judged (row_made c.args.space c.args.write.now c.args.made) made.makes.row room in
     let row = c.in_ok-row.ensures ∙ c.row_of-row.ensures ∙ ap (λ key. row_with c.args.space.0 write key) c.as_slice.ensures in
-    let spelled = noted_all c.in-Some.reads.now judged.reads (subst (λ noted. AddsReads (Some []) noted judged.reads) (sym c.in-Some.ensures) made.notes) in
+    let spelled = noted_all c.in-Some.reads judged.reads (subst (λ noted. AddsReads (Some []) noted judged.reads) (sym c.in-Some.ensures) made.notes) in
     let now = c.in-Err.ensures (newest_state streams) (newest_run streams one) (newest_answer streams one statement) write made.to active.is_open.kept active.is_open.has.holds
     (newest_stands c.args.self.now streams name c.args.slot one all active) active.is_open.is active.run
-    (subst (λ reads. AllZip SpellsRead c.in-Some.reads.now reads) (sym (ap (λ (a : Answer). a.reads) is)) spelled) plain.0 made.judged made.makes
+    (subst (λ reads. AllZip SpellsRead c.in-Some.reads reads) (sym (ap (λ (a : Answer). a.reads) is)) spelled) plain.0 made.judged made.makes
     (made.makes.row ∙ ap (λ r. Some r) (sym row)) (c.size_of-size.ensures ∙ ap (λ r. saturated (row_size r)) (sym c.in_ok-row.ensures))
     (ap (λ (a : Answer). a.row) is) (ap (λ (a : Answer). a.change) is) in
     keeps_active c.args.self.now _ streams name c.args.slot one active

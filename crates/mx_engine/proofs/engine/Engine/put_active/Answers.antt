@@ -24,7 +24,7 @@ returns-then-not-has_room-clause-answers c = λ streams name one all active plai
     let judged = its_judged streams one c.args.space.0 (write_view c.args.write.now) in
     let statement = write_in_space c.args.space c.args.write.now in
     c.note.ensures.answers streams name one statement c.args.found.now all active plain
-    (alone_by streams one c.args.found.now (Err TransactionTooLong) c.args.notes.now statement (refusal_after judged.reads TransactionTooLong)
+    (alone_by streams one c.args.found.now (Err TransactionTooLong) c.args.notes statement (refusal_after judged.reads TransactionTooLong)
     (answer_full streams one c.args.space.0 (write_view c.args.write.now) takes made.to made.judged (row_made c.args.space c.args.write.now c.args.made) made.makes.row full) refl refl refl made.notes)
 
 pub returns-in-Ok-clause-answers : goal.returns-in-Ok-clause-answers

@@ -24,7 +24,7 @@ pub returns-then-not-is_writable-clause-answers : goal.returns-then-not-is_writa
 returns-then-not-is_writable-clause-answers c = λ streams name one all active plain.
     let refuses = ap (λ (i : Ids). i.me == writable_node) (sym active.is_open.has.ids) ∙ sym c.if-not-is_writable.ensures in
     let written = write_in_space c.args.space c.args.write.now in
-    c.note-then-not-is_writable.ensures.answers streams name one written c.args.found.now all active plain
+    c.note.ensures.answers streams name one written c.args.found.now all active plain
     (alone_by streams one c.args.found.now (Err (ReadOnly (record { 0 = writable_node }))) c.on.result written (refusal_alone (ReadOnly (record { 0 = writable_node })))
     (answer_read_only streams one c.args.space.0 (write_view c.args.write.now) refuses) refl refl refl
     (subst (λ n. AddsReads (Some []) n []) (sym c.on.ensures) (adds_nothing (Some []))))
@@ -60,8 +60,8 @@ returns-in-Ok-None-clause-answers c = λ streams name one all active plain.
     (subst (λ old. AddsReads old c.judge.new.notes judged.reads) c.on-notes.ensures
     (noted_ok c.in-Ok-None.field-0 c.on-notes.result c.judge.new.notes judged.reads (c.in-Ok-None.ensures.notes before (sees_state before _ shown plain.0)))))
 
-pub returns-clause-answers : goal.returns-clause-answers
-returns-clause-answers c = λ streams name one all active plain.
+pub returns-in-Err-clause-answers : goal.returns-in-Err-clause-answers
+returns-in-Err-clause-answers c = λ streams name one all active plain.
     let before = (newest_run streams one).state in
     let shown = c.view_of.ensures streams name one active all in
     let takes = ap (λ (i : Ids). i.me == writable_node) (sym active.is_open.has.ids) ∙ sym c.if-not-is_writable.ensures in
