@@ -32,7 +32,7 @@ only_one_left (first ∷ []) name slot one named = by (is_name first.name name) 
 pub others_moved : (streams : Streams) (name : TxnName) (slot : ℕ) (one : Transaction) (start ready reserved third fourth : Open) (found : Option (List Bool)) (commits now : ℕ)
     → AllStandAlone streams → StandsAlone streams.base.ids streams.base.state streams.journal one → commits ≡ length streams.journal → now ≡ commits
     → MatchOption found (length start.names ≡ 1)
-      (λ made. (keys : List coded.Touched) × SpellsRows (newest_state streams) (newest_run streams one).rows keys × AreMarks start made keys × ViewsAreKept ready made commits (Some slot))
+    (λ made. (keys : List coded.Touched) × SpellsRows (newest_state streams) (newest_run streams one).rows keys × AreMarks start made keys × ViewsAreKept ready made commits (Some slot))
     → slot_named name start.names ≡ Some slot → KeepsMore start ready → HoldsOpen streams ready → reserved ≡ ready
     → (HoldsOpen streams reserved → HoldsOpen (beside streams (without_named name streams.transactions)) third)
     → third.names ≡ filter (λ named. not (is_name named.name name)) reserved.names → get third.slots slot ≡ None → noted_reads third.tracks slot ≡ []

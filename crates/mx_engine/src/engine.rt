@@ -281,6 +281,7 @@ impl Engine {
     }
 
     /// Answers a request of this type that is no statement.
+    #[inline(never)]
     fn other(&mut self, name: TxnName, kind: u8) -> Result<Answered, Refusal>
         ensures answers { (streams : Streams) (asked : Request) (found : List (List ℕ)) → HasStreams self.old streams → AllStandAlone streams → CountsStep self.old → kind ≡ type_number asked → statement_of asked ≡ None
             → AnswersRequest self.old self.new streams name asked (reply_of result found) }

@@ -178,6 +178,7 @@ impl Engine {
     ///
     /// # Errors
     /// Out of memory. Nothing is kept then.
+    #[inline(never)]
     fn ready_others(&mut self, slot: Slot) -> Result<Option<Box<MarkSet>>, AllocError>
         ensures readies { (streams : Streams) (name : TxnName) (one : Transaction) → AllStandAlone streams → IsActiveIn self.old streams name slot one → MatchResult result
             (λ marks. ReadiesOthers self.old self.new streams one slot (option_map (λ b. b.value) marks))

@@ -85,15 +85,23 @@ impl Ord for Bytes {
 
     ghost matches_eq = { texts_ties };
 
-    #[inline]
+    #[inline(always)]
     fn cmp(&self, other: &Bytes) -> Ordering {
         if let Storage::Short(one) = &self.storage {
             if let Storage::Short(two) = &other.storage {
                 return one.compare(two);
             }
         }
-        self.as_slice().cmp(other.as_slice())
+        compare_slices(self.as_slice(), other.as_slice())
     }
+}
+
+// A call, so that the loops that search a tree of short keys stay short.
+#[inline(never)]
+fn compare_slices(one: &[u8], two: &[u8]) -> Ordering
+    ensures { result ≡ slice_cmp nat_cmp one.now two.now }
+{
+    one.cmp(two)
 }
 
 impl Hash for Bytes {
@@ -183,11 +191,24 @@ impl Bytes {
             Storage::Short(short) => {
                 if short.has_room(bytes.len()) {
                     short.extend_from_slice(bytes);
-                } else {
-                    let mut items = short.to_vec(bytes.len())?;
-                    items.extend_from_slice(bytes)?;
-                    self.storage = Storage::Long(items);
+                    return Ok(());
                 }
+            }
+            Storage::Long(items) => return items.extend_from_slice(bytes),
+        }
+        self.lengthen(bytes)
+    }
+
+    /// As `extend_from_slice`, where the bytes may find no room in place.
+    #[inline(never)]
+    fn lengthen(&mut self, bytes: &[u8]) -> Result<(), AllocError>
+        ensures { MatchResult result (λ _. self.new ≡ self.old ++ bytes.now) (λ _. self.new ≡ self.old) }
+    {
+        match &mut self.storage {
+            Storage::Short(short) => {
+                let mut items = short.to_vec(bytes.len())?;
+                items.extend_from_slice(bytes)?;
+                self.storage = Storage::Long(items);
                 Ok(())
             }
             Storage::Long(items) => items.extend_from_slice(bytes),

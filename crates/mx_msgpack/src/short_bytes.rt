@@ -107,7 +107,7 @@ impl ShortBytes {
     }
 
     /// By the first byte that differs; a proper prefix comes first.
-    #[inline]
+    #[inline(always)]
     pub(crate) fn compare(&self, other: &ShortBytes) -> Ordering
         ensures { result ≡ slice_cmp nat_cmp self.now other.now }
     {
@@ -124,9 +124,9 @@ impl ShortBytes {
     }
 }
 
-/// The order of the first bytes of two rows, behind which zeros stand. So they are compared eight at a time, and
-/// their numbers last.
-#[inline]
+/// The order of the first bytes of two rows, behind which zeros stand: eight at a time, and at last how many there
+/// are.
+#[inline(always)]
 fn compare_padded(
     left: &[u8; MAX_SHORT],
     left_len: u8,
@@ -148,7 +148,7 @@ fn compare_padded(
     compare_ends(left, right).then(left_len.cmp(&right_len))
 }
 
-// What few keys need is kept out of the loops that search a tree.
+// A call too, which few keys need.
 #[inline(never)]
 fn compare_ends(left: &[u8; MAX_SHORT], right: &[u8; MAX_SHORT]) -> Ordering
     ensures { result ≡ slice_cmp nat_cmp (drop 16 left.now) (drop 16 right.now) }
@@ -161,7 +161,7 @@ fn compare_ends(left: &[u8; MAX_SHORT], right: &[u8; MAX_SHORT]) -> Ordering
 }
 
 /// Eight bytes as one number.
-#[inline]
+#[inline(always)]
 fn word_at(items: &[u8; MAX_SHORT], start: usize) -> u64
     requires { start + 8 ≤ max_short }
     ensures { result ≡ big_number 8 (drop start items.now) }
@@ -169,7 +169,7 @@ fn word_at(items: &[u8; MAX_SHORT], start: usize) -> u64
     BigEndian::read_u64(&items[start..])
 }
 
-#[inline]
+#[inline(always)]
 fn order_of_unequal(one: u64, two: u64) -> Ordering
     requires { one ≢ two }
     ensures { result ≡ nat_cmp one two }

@@ -35,7 +35,8 @@ pub enum AskRef<'a> {
     Refused(Refusal),
 }
 
-#[inline]
+// A call, so that bytes that end no packet don't pay for the room that reading one needs.
+#[inline(never)]
 pub(crate) fn job_in(connection: ConnId, packet: &[u8]) -> JobRef<'_>
     ensures { (job_view result, result.ends) ≡ job_in connection.0 packet.now }
 {

@@ -11,6 +11,9 @@ use mx_msgpack::Bytes;
 use std::alloc::{AllocError, Global};
 use std::marker::Model;
 
+/// For how many reads a slot keeps room without a transaction.
+const KEPT_ROOM: usize = 64;
+
 /// A range of an index's keys that was read; the ends are comparable bytes.
 #[derive(Debug, Drop)]
 pub struct Read {
@@ -124,6 +127,17 @@ impl Reads {
         ensures { self.new ≡ take len self.old }
     {
         self.items.truncate(len);
+    }
+
+    /// Drops all reads. The room of a few is kept, so that a slot's next transaction takes no memory for them.
+    pub(crate) fn clear(&mut self, alloc: Global)
+        ensures { self.new ≡ [] }
+    {
+        if self.items.capacity() <= KEPT_ROOM {
+            self.items.clear();
+        } else {
+            self.items = Vec::new(alloc);
+        }
     }
 
     /// Whether one of these keys lies in one of the reads.

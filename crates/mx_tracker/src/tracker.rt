@@ -97,7 +97,7 @@ impl Tracker {
         requires { slot < slots }
         ensures { ChangesReads self.old self.new slot [] }
     {
-        self.notes[slot as usize] = Reads::new(self.alloc);
+        self.notes[slot as usize].clear(self.alloc);
         self.used = used_below(self.notes.as_slice(), self.used);
     }
 

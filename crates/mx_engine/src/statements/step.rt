@@ -42,6 +42,7 @@ use std::alloc::AllocError;
 
 impl Engine {
     /// Answers a statement of the transaction of a slot, which is in this state.
+    #[inline(never)]
     pub(crate) fn step(
         &mut self,
         slot: Slot,

@@ -1,6 +1,6 @@
 //! The writes: INSERT, REPLACE, UPDATE, DELETE and UPSERT.
 
-ghost use Rattle.std.specs.Prelude.{◌≡◌, ◌+◌, ◌%◌, ◌^◌, ◌∷◌, [], IfOk, OnOk, MatchResult, if◌then◌else◌};
+ghost use Rattle.std.specs.Prelude.{◌≡◌, ◌+◌, ◌%◌, ◌^◌, ◌∷◌, [], Some, IfOk, OnOk, MatchResult, if◌then◌else◌};
 ghost use Rattle.std.specs.Option.{option_copied, option_map};
 ghost use Rattle.mx_base.specs.declared.ids.TxnName.{TxnName};
 ghost use Rattle.mx_row.specs.Views.{row_value};
@@ -156,12 +156,7 @@ impl Engine {
         ensures keeps { SameNode self.old self.new }
     {
         self.schema = version_after(self.schema, space);
-        move_others(
-            &mut self.open,
-            marks,
-            describes_schema(space),
-            self.commits,
-        );
+        move_others(&mut self.open, marks, describes_schema(space), self.commits);
         self.commits = self.commits.saturating_add(1);
     }
 
@@ -179,13 +174,25 @@ impl Engine {
         if self.open.is_empty() {
             return Ok(None);
         }
+        Ok(Some(self.marks_beside(space, made)?))
+    }
+
+    /// As `marks_of`, where a transaction is open. A call, so that a write beside none doesn't pay for the room
+    /// that a thousand marks take; and they are in a box, since moving them costs as much as a small commit.
+    #[inline(never)]
+    fn marks_beside(&mut self, space: SpaceId, made: &Made) -> Result<Box<MarkSet>, AllocError>
+        ensures marks { (streams : Streams) (write : place.Write) → IsWriteOf self.old streams space write made.now → MatchResult result
+            (λ marks. Prepares self.old self.new streams (row_made space write made.now) (Some marks.value))
+            (λ _. Keeps self.old self.new streams) }
+        ensures keeps { SameNode self.old self.new }
+        ensures clock { self.new.clock ≡ self.old.clock }
+    {
         let mut keys = TouchedKeys::new(self.alloc);
         made.touch(self.alloc, StateView::of(&self.state), space, &mut keys)?;
         let marks = self.open.overlapped(&keys);
-        // In a box, since moving a thousand marks costs as much as a small commit where none is open.
         let marks = Box::new(self.alloc, marks)?;
         self.open.prepare(&self.state, self.commits, &*marks, None)?;
-        Ok(Some(marks))
+        Ok(marks)
     }
 }
 
