@@ -12,14 +12,19 @@ pub const SLOTS: usize = 1024;
 #[derive(Debug, Drop)]
 pub struct MarkSet {
     marks: [bool; SLOTS],
+    // No slot from this number on is marked.
+    used: usize,
 }
 
 impl Model for MarkSet {
     ghost use Rattle.std.specs.Prelude.{Bool, List};
+    ghost use Rattle.mx_tracker.specs.Marks.{AreMarkedBelow};
 
     ghost Value = { List Bool };
 
     ghost view = { λ m. m.marks };
+
+    ghost invariant = { λ m. AreMarkedBelow m.marks m.used };
 }
 
 impl MarkSet {
@@ -29,6 +34,7 @@ impl MarkSet {
     {
         MarkSet {
             marks: [false; SLOTS],
+            used: 0,
         }
     }
 
@@ -44,11 +50,12 @@ impl MarkSet {
     pub fn add(&mut self, other: &MarkSet)
         ensures { (slot : ℕ) → slot < slots → is_marked self.new slot ≡ (is_marked self.old slot || is_marked other.now slot) }
     {
-        for slot in 0..SLOTS {
+        for slot in 0..other.used {
             if other.marks[slot] {
                 self.marks[slot] = true;
             }
         }
+        self.used = self.used.max(other.used);
     }
 
     /// Marks a slot, or takes its mark away.
@@ -58,5 +65,6 @@ impl MarkSet {
         ensures others { (other : ℕ) → other ≢ slot → is_marked self.new other ≡ is_marked self.old other }
     {
         self.marks[slot] = mark;
+        self.used = self.used.max(slot + 1);
     }
 }
