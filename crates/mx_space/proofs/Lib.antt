@@ -8,7 +8,6 @@ pub mod CopyLaws
 pub mod EntriesLaws
 pub mod FirstLaws
 pub mod HeldLaws
-pub mod HoldLaws
 pub mod HolderLaws
 pub mod IndexScanLaws
 pub mod IndexedLaws
@@ -29,6 +28,7 @@ pub mod OwnSchemaLaws
 pub mod PartLaws
 pub mod PickLaws
 pub mod PlaceLaws
+pub mod PutBackLaws
 pub mod ReadFitLaws
 pub mod ReadiedLaws
 pub mod ReserveLaws

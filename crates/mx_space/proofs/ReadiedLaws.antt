@@ -1,6 +1,6 @@
 -- A space's content where a change is made ready, and where it is made.
 use Rattle.std.proofs.Common.{◌≡◌, ◌<◌, ℕ, Bool, true, false, List, [], ◌∷◌, length, Option, Some, None, Ok, inl, inr, refl, sym, ap, ◌∙◌, subst, arith}
-use Rattle.std.specs.Prelude.{◌==◌, IfSome, if◌then◌else◌}
+use Rattle.std.specs.Prelude.{◌==◌, IfSome, if◌then◌else◌, is_some, not}
 use Rattle.std.specs.BTreeMap.{is_at}
 use Rattle.std.specs.Cmp.Lexicographic.{slice_cmp}
 use Rattle.std.specs.FinMap.{FinMap, entries, get, insert, remove}
@@ -21,18 +21,20 @@ use Rattle.mx_schema.proofs.StateLaws.{stands_after, stands_left}
 use Rattle.mx_schema.proofs.TakenLaws.{each_found, stores_left}
 use Rattle.mx_space.specs.declared.change.Change.{Change}
 use Rattle.mx_space.specs.declared.prepared.Step.{Step}
+use Rattle.mx_space.specs.declared.prepared.TupleStep.{TupleStep}
+use Rattle.mx_space.specs.declared.prepared.TupleStep.TheVariants.{Removal, Insertion, Replacement}
 use Rattle.mx_space.specs.Built.{AreLong}
 use Rattle.mx_space.specs.Changes.{AddsEntry, PutsByNumber, RemovesByNumber, all_without, with_added, without_key}
 use Rattle.mx_space.specs.Entries.{IndexEntry}
 use Rattle.mx_space.specs.Kept.{StoresEntries, kept_entries}
 use Rattle.mx_space.specs.KeptKeys.{kept_key}
 use Rattle.mx_space.specs.Reserved.{Coming, Content, Edits, EditsAll, IsFree, StoresComing, StoresComingByNumber, StoresReserved}
-use Rattle.mx_space.specs.Reserved.{all_added, coming_entries, content_installed, content_readied, removed_keys, tuples_with, with_held, with_place, with_places, with_set}
+use Rattle.mx_space.specs.Reserved.{all_added, coming_entries, coming_tuples, content_installed, content_readied, is_removal, removed_keys, tuples_with, with_removal}
 use Rattle.mx_space.proofs.BytesLaws.{one_by_bytes, stores_added, stores_less}
-use Rattle.mx_space.proofs.ComingLaws.{AreComingLong, entries_left, entries_put, entry_found, place_filled, places_left, places_put}
+use Rattle.mx_space.proofs.ComingLaws.{AreComingLong, coming_left, coming_put, entries_left, entries_put, entry_found}
 use Rattle.mx_space.proofs.EntriesLaws.{entry_is_new, entry_there, without_entry}
-use Rattle.mx_space.proofs.HoldLaws.{held_stored, place_there, set_stored}
 use Rattle.mx_space.proofs.KeyMapLaws.{left_apart, put_again, put_behind, untied}
+use Rattle.mx_space.proofs.PutBackLaws.{put_stored}
 use Rattle.mx_space.proofs.SpaceLaws.{none_removed}
 
 -- the primary index has no entries, whatever the tuples are and the changes to come
@@ -195,32 +197,32 @@ put_long primary key (Some tuple) keyed = key_length primary.key (tuple_of tuple
 
 module _ (schema : Option Schema) (content : Content) (tuples : Tuples) (coming : List Coming) (primary : IndexDef) (there : index_with 0 content.0.indexes ≡ Some primary)
     (key : Key) (tuple : Option (List ℕ)) (fit : AreFit key) (free : IsFree key coming) (are : AreComingLong (length primary.key) coming)
-    (keyed : IfSome tuple (λ t. key_in primary.key t ≡ Ok key)) (step : Step) (key_is : step.change.key ≡ comparable_of key) (tuple_is : step.change.tuple ≡ tuple)
+    (keyed : IfSome tuple (λ t. key_in primary.key t ≡ Ok key)) (step : Step) (key_is : step.key ≡ comparable_of key) (removes : is_removal step.tuple ≡ not (is_some tuple))
     (edits : EditsAll key tuple (get tuples key) content.0.indexes step.edits.items) where
   space_long : StandByPrimary content.0 tuples → AreLong (length primary.key) tuples
   space_long stands = stand_whole primary.key (entries tuples) (subst (λ (o : Option IndexDef). IfSome o (λ def. StandByKey def.key tuples)) there stands)
 
   -- its change is made ready
-  pub readied_stores : StoresReserved schema content tuples coming → StoresReserved schema (content_readied step content) tuples ((key, tuple) ∷ coming)
+  pub readied_stores : StoresReserved schema content tuples coming → StoresReserved schema (content_readied tuple step content) tuples ((key, tuple) ∷ coming)
   readied_stores stores = record {
     is = stores.is;
-    keeps = subst (λ t. StoresTuples (with_held t step.change.key content.1) (with_place (key, tuple) (with_places tuples coming))) (sym tuple_is)
-        (held_stored content.1 (with_places tuples coming) key tuple step.change.key stores.keeps fit key_is);
+    keeps = put_stored content.1 (coming_tuples tuples coming) key tuple step.key stores.keeps fit key_is;
     stands = stores.stands;
     indexes = subst (λ b. AllZip (StoresComing tuples ((key, tuple) ∷ coming)) content.0.indexes (all_added b step.edits.items content.2)) (sym key_is)
         (ready_in_all tuples (length primary.key) (space_long stores.stands) key coming free are tuple (get tuples key) (put_long primary key tuple keyed) refl
         content.0.indexes content.2 step.edits.items primary there stores.indexes edits);
   }
 
-  kept_after : (tuple : Option (List ℕ)) → StoresTuples content.1 (with_places tuples ((key, tuple) ∷ coming))
-      → StoresTuples (with_set tuple step.change.key content.1) (with_places (tuples_with tuples (key, tuple)) coming)
-  kept_after None keeps =
-      subst (StoresTuples (with_set None step.change.key content.1)) (sym (places_left tuples key coming free))
-      (stores_left key content.1 (remove_entry (is_at (slice_cmp nat_cmp step.change.key)) content.1) (with_places tuples coming) step.change.key fit key_is refl keeps)
-  kept_after (Some tuple) keeps =
-      let all = with_places tuples coming in
-      subst (StoresTuples (with_set (Some tuple) step.change.key content.1)) (place_filled all key tuple ∙ sym (places_put tuples key tuple coming free))
-      (set_stored key fit tuple content.1 (with_place (key, Some tuple) all) step.change.key keeps key_is (place_there all key tuple))
+  kept_after : (tuple : Option (List ℕ)) (made : TupleStep) → is_removal made ≡ not (is_some tuple) → StoresTuples content.1 (coming_tuples tuples ((key, tuple) ∷ coming))
+      → StoresTuples (with_removal made step.key content.1) (coming_tuples (tuples_with tuples (key, tuple)) coming)
+  kept_after None Removal removes keeps =
+      subst (StoresTuples (with_removal Removal step.key content.1)) (sym (coming_left tuples key coming free))
+      (stores_left key content.1 (remove_entry (is_at (slice_cmp nat_cmp step.key)) content.1) (coming_tuples tuples coming) step.key fit key_is refl keeps)
+  kept_after None Insertion removes keeps = absurd cc
+  kept_after None (Replacement old) removes keeps = absurd cc
+  kept_after (Some tuple) Removal removes keeps = absurd cc
+  kept_after (Some tuple) Insertion removes keeps = subst (StoresTuples content.1) (sym (coming_put tuples key tuple coming free)) keeps
+  kept_after (Some tuple) (Replacement old) removes keeps = subst (StoresTuples content.1) (sym (coming_put tuples key tuple coming free)) keeps
 
   stand_then : (tuple : Option (List ℕ)) → IfSome tuple (λ t. key_in primary.key t ≡ Ok key) → StandByPrimary content.0 tuples → StandByPrimary content.0 (tuples_with tuples (key, tuple))
   stand_then None keyed stands = stands_left content.0 tuples key stands
@@ -231,7 +233,7 @@ module _ (schema : Option Schema) (content : Content) (tuples : Tuples) (coming 
   pub installed_stores : StoresReserved schema content tuples ((key, tuple) ∷ coming) → StoresReserved schema (content_installed step content) (tuples_with tuples (key, tuple)) coming
   installed_stores stores = record {
     is = stores.is;
-    keeps = subst (λ t. StoresTuples (with_set t step.change.key content.1) (with_places (tuples_with tuples (key, tuple)) coming)) (sym tuple_is) (kept_after tuple stores.keeps);
+    keeps = kept_after tuple step.tuple removes stores.keeps;
     stands = stand_then tuple keyed stores.stands;
     indexes = made_in_all tuples (length primary.key) (space_long stores.stands) key coming free are tuple (get tuples key) (put_long primary key tuple keyed) refl
         content.0.indexes content.2 step.edits.items primary there stores.indexes edits;

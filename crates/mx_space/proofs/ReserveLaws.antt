@@ -1,6 +1,6 @@
 -- Changes of a state that are made ready, and then made.
 use Rattle.std.proofs.Common.{◌≡◌, ◌≢◌, ℕ, Bool, true, false, cond, List, [], ◌∷◌, ◌++◌, length, Option, Some, None, Result, Ok, Err, refl, sym, ap, ◌∙◌, subst, eqb-true, eq-eqb, append-nil}
-use Rattle.std.specs.Prelude.{◌==◌, IfSome, IfOk, if◌then◌else◌}
+use Rattle.std.specs.Prelude.{◌==◌, IfSome, IfOk, if◌then◌else◌, is_some, not}
 use Rattle.std.specs.FinMap.{get, get-insert, get-remove, insert, remove}
 use Rattle.std.specs.List.{AllByRecursion, AllZip}
 use Rattle.std.specs.Option.{option_map}
@@ -23,11 +23,11 @@ use Rattle.mx_space.specs.declared.tuple_changes.TupleChange.{TupleChange}
 use Rattle.mx_space.specs.Entries.{IndexEntry}
 use Rattle.mx_space.specs.Kept.{StoresByNumber, StoresIndex}
 use Rattle.mx_space.specs.Reserved.{Coming, Content, EditsAll, HoldsReserved, IsFree, StoresComing, StoresComingByNumber, StoresReserved}
-use Rattle.mx_space.specs.Reserved.{all_released, changed_at, content_of, content_under, content_installed, content_readied, tuples_with, with_places}
+use Rattle.mx_space.specs.Reserved.{IsStepOf, all_released, changed_at, coming_tuples, content_of, content_under, content_installed, content_readied, tuples_with}
 use Rattle.mx_space.specs.Reserves.{AreApart, AreReady, PlainChange, IsApart, IsReadied, IsReserved, MayStand, SpellsChange, own_changes, state_with, state_with_all}
 use Rattle.mx_space.specs.Spaces.{space_under}
 use Rattle.mx_space.specs.Stored.{HoldsBy, HoldsSpace, SpacesHold}
-use Rattle.mx_space.proofs.ComingLaws.{AreComingLong, place_found}
+use Rattle.mx_space.proofs.ComingLaws.{AreComingLong, coming_found}
 use Rattle.mx_space.proofs.KeyMapLaws.{untied}
 use Rattle.mx_space.proofs.ReadiedLaws.{installed_stores, put_long, readied_stores}
 
@@ -130,28 +130,34 @@ module _ (schemas : ℕ → Option Schema) (old new : List SpaceEntry) (state : 
   abbrev coming : List Coming
   coming = own_changes id all
 
-  pub ready_more : AreReady schemas old state steps all → SpellsChange step.change plain → MayStand schemas plain → AllByRecursion (IsApart plain) all
-      → ((q : ℕ) → content_under q new ≡ changed_at step.change.space.0 (content_readied step) q (content_under q old))
-      → ((space : Content) (tuples : Tuples) (key : Key) → content_under step.change.space.0 old ≡ Some space → StoresTuples space.1 tuples → AreFit key
-      → step.change.key ≡ comparable_of key → EditsAll key step.change.tuple (get tuples key) space.0.indexes step.edits.items)
+  pub ready_more : (change : TupleChange) → AreReady schemas old state steps all → SpellsChange change plain → IsStepOf change step → MayStand schemas plain → AllByRecursion (IsApart plain) all
+      → ((q : ℕ) → content_under q new ≡ changed_at change.space.0 (content_readied change.tuple step) q (content_under q old))
+      → ((space : Content) (tuples : Tuples) (key : Key) → content_under change.space.0 old ≡ Some space → StoresTuples space.1 tuples → AreFit key
+      → change.key ≡ comparable_of key → EditsAll key change.tuple (get tuples key) space.0.indexes step.edits.items)
       → AreReady schemas new state (step ∷ steps) (plain ∷ all)
-  ready_more ready spells may apart now edits =
+  ready_more change ready spells made may apart now edits =
+      let step_key = made.key ∙ spells.key in
+      let removes = made.removes ∙ ap (λ t. not (is_some t)) spells.tuple in
       let found = content_there (schemas id) may.schema (content_under id old) own coming may.is (ready.holds id) in
       let content = found.0 in
       let free = own_free plain all apart in
       let each : EditsAll plain.key plain.tuple (get own plain.key) content.0.indexes step.edits.items =
-      subst (λ o. EditsAll plain.key plain.tuple o content.0.indexes step.edits.items) (place_found own plain.key coming free)
-      (subst (λ t. EditsAll plain.key t (get (with_places own coming) plain.key) content.0.indexes step.edits.items) spells.tuple
-      (edits content (with_places own coming) plain.key (ap (λ s. content_under s old) spells.space ∙ found.1) found.2.keeps spells.fit spells.key)) in
+      subst (λ o. EditsAll plain.key plain.tuple o content.0.indexes step.edits.items) (coming_found own plain.key coming free)
+      (subst (λ t. EditsAll plain.key t (get (coming_tuples own coming) plain.key) content.0.indexes step.edits.items) spells.tuple
+      (edits content (coming_tuples own coming) plain.key (ap (λ s. content_under s old) spells.space ∙ found.1) found.2.keeps spells.fit spells.key)) in
       let stores = readied_stores (schemas id) content own coming may.primary (ap (λ (s : Schema). index_with 0 s.indexes) found.3 ∙ may.first) plain.key plain.tuple spells.fit free
-      (own_long schemas id may.schema may.primary may.is may.first all ready.stand) may.keyed step spells.key spells.tuple each found.2 in
-      let changes : (q : ℕ) → content_under q new ≡ changed_at id (content_readied step) q (content_under q old) =
-      λ q. now q ∙ ap (λ n. changed_at n (content_readied step) q (content_under q old)) spells.space in
+      (own_long schemas id may.schema may.primary may.is may.first all ready.stand) may.keyed step step_key removes each found.2 in
+      let changes : (q : ℕ) → content_under q new ≡ changed_at id (content_readied plain.tuple step) q (content_under q old) =
+      λ q. now q ∙ ap (λ n. changed_at n (content_readied change.tuple step) q (content_under q old)) spells.space
+      ∙ ap (λ t. changed_at id (content_readied t step) q (content_under q old)) spells.tuple in
       record {
         holds = λ q. holds_now ready changes content found.1 stores q (q == id) refl;
         ready = (
           record {
-            spells = spells;
+            space = made.space ∙ spells.space;
+            key = step_key;
+            fit = spells.fit;
+            removes = removes;
             edits = λ schema is.
                 subst (λ (s : Schema). EditsAll plain.key plain.tuple (get own plain.key) s.indexes step.edits.items)
                 (found.3 ∙ same_some may.schema schema (sym may.is ∙ is)) each;
@@ -162,15 +168,15 @@ module _ (schemas : ℕ → Option Schema) (old new : List SpaceEntry) (state : 
         apart = (apart, ready.apart);
       }
     where
-      holds_now : AreReady schemas old state steps all → ((q : ℕ) → content_under q new ≡ changed_at id (content_readied step) q (content_under q old))
-          → (content : Content) → content_under id old ≡ Some content → StoresReserved (schemas id) (content_readied step content) own ((plain.key, plain.tuple) ∷ coming)
+      holds_now : AreReady schemas old state steps all → ((q : ℕ) → content_under q new ≡ changed_at id (content_readied plain.tuple step) q (content_under q old))
+          → (content : Content) → content_under id old ≡ Some content → StoresReserved (schemas id) (content_readied plain.tuple step content) own ((plain.key, plain.tuple) ∷ coming)
           → (q : ℕ) (b : Bool) → (q == id) ≡ b
           → HoldsReserved (schemas q) (content_under q new) (tuples_in state q) (if b then (plain.key, plain.tuple) ∷ own_changes q all else own_changes q all)
       holds_now ready changes content there stores q true e =
           subst (λ n. HoldsReserved (schemas n) (content_under n new) (tuples_in state n) ((plain.key, plain.tuple) ∷ own_changes n all)) (sym (eqb-true q id e))
-          (subst (λ o. HoldsReserved (schemas id) o own ((plain.key, plain.tuple) ∷ coming)) (sym (changed_here id old new (content_readied step) changes content there)) stores)
+          (subst (λ o. HoldsReserved (schemas id) o own ((plain.key, plain.tuple) ∷ coming)) (sym (changed_here id old new (content_readied plain.tuple step) changes content there)) stores)
       holds_now ready changes content there stores q false e =
-          subst (λ o. HoldsReserved (schemas q) o (tuples_in state q) (own_changes q all)) (sym (same_elsewhere id old new (content_readied step) changes q e)) (ready.holds q)
+          subst (λ o. HoldsReserved (schemas q) o (tuples_in state q) (own_changes q all)) (sym (same_elsewhere id old new (content_readied plain.tuple step) changes q e)) (ready.holds q)
 
 -- ---- a change is made
 
@@ -209,7 +215,10 @@ module _ (schemas : ℕ → Option Schema) (state : State) (plain : PlainChange)
   still_ready (step ∷ steps) [] apart ready = absurd ready
   still_ready (step ∷ steps) (other ∷ all) apart ready = (
     record {
-      spells = ready.0.spells;
+      space = ready.0.space;
+      key = ready.0.key;
+      fit = ready.0.fit;
+      removes = ready.0.removes;
       edits = λ schema is. subst (λ o. EditsAll other.key other.tuple o schema.indexes step.edits.items) (sym (still_found other apart.0)) (ready.0.edits schema is);
     },
     still_ready steps all apart.1 ready.1,
@@ -223,21 +232,21 @@ module _ (schemas : ℕ → Option Schema) (state : State) (plain : PlainChange)
     change = (plain.key, plain.tuple)
 
     pub ready_less : AreReady schemas old state (step ∷ steps) (plain ∷ all)
-        → ((q : ℕ) → content_under q new ≡ changed_at step.change.space.0 (content_installed step) q (content_under q old)) → AreReady schemas new after steps all
+        → ((q : ℕ) → content_under q new ≡ changed_at step.space.0 (content_installed step) q (content_under q old)) → AreReady schemas new after steps all
     ready_less ready now =
         let space = plain.space in
         let may = ready.stand.0 in
-        let spells = ready.ready.0.spells in
+        let readied = ready.ready.0 in
         let others = own_changes space all in
         let holds : HoldsReserved (schemas space) (content_under space old) its (change ∷ others) =
         subst (λ b. HoldsReserved (schemas space) (content_under space old) its (if b then change ∷ others else others)) (eq-eqb space space refl) (ready.holds space) in
         let found = content_there (schemas space) may.schema (content_under space old) its (change ∷ others) may.is holds in
         let content = found.0 in
         let each = subst (λ (s : Schema). EditsAll plain.key plain.tuple (get its plain.key) s.indexes step.edits.items) (sym found.3) (ready.ready.0.edits may.schema may.is) in
-        let stores = installed_stores (schemas space) content its others may.primary (ap (λ (s : Schema). index_with 0 s.indexes) found.3 ∙ may.first) plain.key plain.tuple spells.fit
-        (own_free plain all ready.apart.0) (own_long schemas space may.schema may.primary may.is may.first all ready.stand.1) may.keyed step spells.key spells.tuple each found.2 in
+        let stores = installed_stores (schemas space) content its others may.primary (ap (λ (s : Schema). index_with 0 s.indexes) found.3 ∙ may.first) plain.key plain.tuple readied.fit
+        (own_free plain all ready.apart.0) (own_long schemas space may.schema may.primary may.is may.first all ready.stand.1) may.keyed step readied.key readied.removes each found.2 in
         let changes : (q : ℕ) → content_under q new ≡ changed_at space (content_installed step) q (content_under q old) =
-        λ q. now q ∙ ap (λ n. changed_at n (content_installed step) q (content_under q old)) spells.space in
+        λ q. now q ∙ ap (λ n. changed_at n (content_installed step) q (content_under q old)) readied.space in
         record {
           holds = λ q. holds_now ready changes content found.1 stores q (q == space) refl;
           ready = still_ready steps all ready.apart.0 ready.ready.1;
@@ -271,7 +280,7 @@ LeftReady schemas spaces steps made = (state : State) × (left : List PlainChang
 module _ (schemas : ℕ → Option Schema) (made : State) where
   -- one is made
   pub left_less : (old new : List SpaceEntry) (left steps : List Step) (step : Step) → left ≡ step ∷ steps
-      → ((q : ℕ) → content_under q new ≡ changed_at step.change.space.0 (content_installed step) q (content_under q old)) → LeftReady schemas old left made → LeftReady schemas new steps made
+      → ((q : ℕ) → content_under q new ≡ changed_at step.space.0 (content_installed step) q (content_under q old)) → LeftReady schemas old left made → LeftReady schemas new steps made
   left_less old new left steps step is now (state, all, ready, same) = by_list all (subst (λ s. AreReady schemas old state s all) is ready) same
     where
       by_list : (all : List PlainChange) → AreReady schemas old state (step ∷ steps) all → state_with_all state all ≡ made → LeftReady schemas new steps made

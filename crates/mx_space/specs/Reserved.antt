@@ -1,8 +1,8 @@
 -- Only private functions and proofs need these: memory while changes of it are ready.
-use Rattle.std.specs.Prelude.{◌≡◌, ◌≢◌, ◌⊎◌, ◌<◌, ℕ, Bool, true, false, List, [], ◌∷◌, length, map, Option, Some, None, is_some, ◌==◌, if◌then◌else◌}
-use Rattle.std.specs.BTreeMap.{is_at}
+use Rattle.std.specs.Prelude.{◌≡◌, ◌≢◌, ◌⊎◌, ◌<◌, ℕ, Bool, true, false, not, List, [], ◌∷◌, length, map, Option, Some, None, is_some, ◌==◌, if◌then◌else◌}
+use Rattle.std.specs.BTreeMap.{insert_entry, is_at}
 use Rattle.std.specs.Cmp.Lexicographic.{slice_cmp}
-use Rattle.std.specs.FinMap.{FinMap, get, insert, remove}
+use Rattle.std.specs.FinMap.{FinMap, insert, remove}
 use Rattle.std.specs.List.{AllByRecursion, AllZip}
 use Rattle.std.specs.Map.{remove_entry, set_value}
 use Rattle.std.specs.Option.{option_map}
@@ -14,10 +14,13 @@ use Rattle.mx_schema.specs.State.{Tuples}
 use Rattle.mx_schema.specs.Stored.{StandByPrimary, StoredTuple, StoresNone, StoresTuples}
 use Rattle.mx_space.specs.declared.change.Change.{Change}
 use Rattle.mx_space.specs.declared.prepared.Step.{Step}
+use Rattle.mx_space.specs.declared.prepared.TupleStep.{TupleStep}
+use Rattle.mx_space.specs.declared.prepared.TupleStep.TheVariants.{Removal, Insertion, Replacement}
 use Rattle.mx_space.specs.declared.space.Space.{Space}
 use Rattle.mx_space.specs.declared.spaces.SpaceEntry.{SpaceEntry}
+use Rattle.mx_space.specs.declared.tuple_changes.TupleChange.{TupleChange}
 use Rattle.mx_space.specs.Changes.{IsNoChange, Puts, Removes, all_without, with_added}
-use Rattle.mx_space.specs.Entries.{IndexEntry, with_entry}
+use Rattle.mx_space.specs.Entries.{IndexEntry}
 use Rattle.mx_space.specs.Kept.{StoresEntries, kept_entries}
 use Rattle.mx_space.specs.KeptKeys.{kept_key}
 use Rattle.mx_space.specs.Spaces.{space_under}
@@ -33,6 +36,20 @@ Edits primary None (Some old) def change = (change.added ≡ None) × Removes pr
 -- the same in each index; nothing is said where there is no index beside the primary one
 abbrev pub EditsAll : Key → (tuple old : Option (List ℕ)) → List IndexDef → List Change → Type 0
 EditsAll primary tuple old defs changes = AllZip (Edits primary tuple old) defs changes ⊎ ((changes ≡ []) × (length defs < 2))
+
+-- ---- what a change does to a tuple
+
+-- the tuple will be taken out
+abbrev pub is_removal : TupleStep → Bool
+is_removal Removal = true
+is_removal Insertion = false
+is_removal (Replacement old) = false
+
+-- a step is that of a change
+pub record IsStepOf (change : TupleChange) (step : Step) : Type 0 where
+  pub space : step.space.0 ≡ change.space.0
+  pub key : step.key ≡ change.key
+  pub removes : is_removal step.tuple ≡ not (is_some change.tuple)
 
 -- ---- what memory has, as lists
 
@@ -69,33 +86,36 @@ added_keys changes = map (λ change. change.added) changes
 abbrev pub removed_keys : List Change → List (Option (List ℕ))
 removed_keys changes = map (λ change. change.removed) changes
 
--- tuples with a place for one under this key, where one will be put
-abbrev pub with_held : (tuple : Option (List ℕ)) → (key : List ℕ) → List StoredTuple → List StoredTuple
-with_held None key kept = kept
-with_held (Some tuple) key kept = with_entry key [] kept
+-- tuples with one under this key, where one is put
+abbrev pub with_put : (tuple : Option (List ℕ)) → (key : List ℕ) → List StoredTuple → List StoredTuple
+with_put None key kept = kept
+with_put (Some tuple) key kept = insert_entry (slice_cmp nat_cmp) kept key tuple
 
--- without the place, where it was new
-abbrev pub without_held : (is_new : Bool) → (key : List ℕ) → List StoredTuple → List StoredTuple
-without_held is_new key kept = if is_new then remove_entry (is_at (slice_cmp nat_cmp key)) kept else kept
+-- without the one under this key, where it is to be taken out
+abbrev pub with_removal : TupleStep → (key : List ℕ) → List StoredTuple → List StoredTuple
+with_removal Removal key kept = remove_entry (is_at (slice_cmp nat_cmp key)) kept
+with_removal Insertion key kept = kept
+with_removal (Replacement old) key kept = kept
 
--- with the tuple in its place, or without it
-abbrev pub with_set : (tuple : Option (List ℕ)) → (key : List ℕ) → List StoredTuple → List StoredTuple
-with_set None key kept = remove_entry (is_at (slice_cmp nat_cmp key)) kept
-with_set (Some tuple) key kept = set_value (is_at (slice_cmp nat_cmp key)) kept tuple
+-- as they were before one was put
+abbrev pub put_back : TupleStep → (key : List ℕ) → List StoredTuple → List StoredTuple
+put_back Removal key kept = kept
+put_back Insertion key kept = remove_entry (is_at (slice_cmp nat_cmp key)) kept
+put_back (Replacement old) key kept = set_value (is_at (slice_cmp nat_cmp key)) kept old
 
 -- what is made ready of a change
-abbrev pub content_readied : Step → Content → Content
-content_readied step content = (
+abbrev pub content_readied : (tuple : Option (List ℕ)) → Step → Content → Content
+content_readied tuple step content = (
   content.0,
-  with_held step.change.tuple step.change.key content.1,
-  all_added step.change.key step.edits.items content.2,
+  with_put tuple step.key content.1,
+  all_added step.key step.edits.items content.2,
 )
 
 -- the change is made
 abbrev pub content_installed : Step → Content → Content
 content_installed step content = (
   content.0,
-  with_set step.change.tuple step.change.key content.1,
+  with_removal step.tuple step.key content.1,
   all_without (removed_keys step.edits.items) content.2,
 )
 
@@ -103,14 +123,14 @@ content_installed step content = (
 abbrev pub content_released : Step → Content → Content
 content_released step content = (
   content.0,
-  without_held step.is_new step.change.key content.1,
+  put_back step.tuple step.key content.1,
   all_without (added_keys step.edits.items) content.2,
 )
 
 -- all of it, the last one first
 abbrev pub all_released : (q : ℕ) → List Step → Option Content → Option Content
 all_released q [] content = content
-all_released q (step ∷ earlier) content = all_released q earlier (changed_at step.change.space.0 (content_released step) q content)
+all_released q (step ∷ earlier) content = all_released q earlier (changed_at step.space.0 (content_released step) q content)
 
 -- ---- what memory has, as maps
 
@@ -122,15 +142,15 @@ Coming = Key × Option (List ℕ)
 abbrev pub IsFree : Key → List Coming → Type 0
 IsFree key coming = AllByRecursion (λ (other : Coming). key ≢ other.0) coming
 
--- tuples with a place under a key
-abbrev pub with_place : Coming → Tuples → Tuples
-with_place (key, None) tuples = tuples
-with_place (key, Some tuple) tuples = if is_some (get tuples key) then tuples else insert tuples key []
+-- tuples with one that is put
+abbrev pub with_coming_tuple : Coming → Tuples → Tuples
+with_coming_tuple (key, None) tuples = tuples
+with_coming_tuple (key, Some tuple) tuples = insert tuples key tuple
 
--- a place under each key that will have a tuple
-abbrev pub with_places : Tuples → List Coming → Tuples
-with_places tuples [] = tuples
-with_places tuples (one ∷ coming) = with_place one (with_places tuples coming)
+-- with each one that is put; those to be removed are there still
+abbrev pub coming_tuples : Tuples → List Coming → Tuples
+coming_tuples tuples [] = tuples
+coming_tuples tuples (one ∷ coming) = with_coming_tuple one (coming_tuples tuples coming)
 
 -- an index's entries with that of a tuple that will be put
 abbrev pub with_coming : IndexDef → Coming → FinMap key_cmp Key → FinMap key_cmp Key
@@ -159,7 +179,7 @@ StoresComing tuples coming def kept = StoresComingByNumber (def.id.0 == 0) def t
 -- a space with these tuples, where these changes are ready
 pub record StoresReserved (schema : Option Schema) (content : Content) (tuples : Tuples) (coming : List Coming) : Type 0 where
   pub is : schema ≡ Some content.0
-  pub keeps : StoresTuples content.1 (with_places tuples coming)
+  pub keeps : StoresTuples content.1 (coming_tuples tuples coming)
   pub stands : StandByPrimary content.0 tuples
   pub indexes : AllZip (StoresComing tuples coming) content.0.indexes content.2
 

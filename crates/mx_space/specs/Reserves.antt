@@ -1,5 +1,5 @@
 -- The changes of a commit, and memory that has all that they need.
-use Rattle.std.specs.Prelude.{◌≡◌, ◌≢◌, ℕ, List, [], ◌∷◌, ⊤, Option, Some, None, Ok, IfSome, ◌==◌, if◌then◌else◌}
+use Rattle.std.specs.Prelude.{◌≡◌, ◌≢◌, ℕ, List, [], ◌∷◌, ⊤, Option, Some, None, Ok, IfSome, ◌==◌, if◌then◌else◌, is_some, not}
 use Rattle.std.specs.FinMap.{get}
 use Rattle.std.specs.List.{AllByRecursion, AllZip}
 use Rattle.mx_key.specs.Comparable.{comparable_of}
@@ -12,7 +12,7 @@ use Rattle.mx_space.specs.declared.prepared.Step.{Step}
 use Rattle.mx_space.specs.declared.spaces.SpaceEntry.{SpaceEntry}
 use Rattle.mx_space.specs.declared.state.State as coded
 use Rattle.mx_space.specs.declared.tuple_changes.TupleChange.{TupleChange}
-use Rattle.mx_space.specs.Reserved.{Coming, EditsAll, HoldsReserved, all_released, content_under}
+use Rattle.mx_space.specs.Reserved.{Coming, EditsAll, HoldsReserved, all_released, content_under, is_removal}
 
 -- the tuple that stands afterwards under a primary key of a space, or none
 pub record PlainChange : Type 0 where
@@ -61,12 +61,15 @@ abbrev pub own_changes : (space : ℕ) → List PlainChange → List Coming
 own_changes space [] = []
 own_changes space (change ∷ all) = if space == change.space then (change.key, change.tuple) ∷ own_changes space all else own_changes space all
 
--- a change as it was made ready: what it does to each index
+-- a change as it was made ready: what it does to the tuple and to each index
 pub record IsReadied (schemas : ℕ → Option Schema) (state : State) (step : Step) (plain : PlainChange) : Type 0 where
-  pub spells : SpellsChange step.change plain
+  pub space : step.space.0 ≡ plain.space
+  pub key : step.key ≡ comparable_of plain.key
+  pub fit : AreFit plain.key
+  pub removes : is_removal step.tuple ≡ not (is_some plain.tuple)
   pub edits : (schema : Schema) → schemas plain.space ≡ Some schema → EditsAll plain.key plain.tuple (get (tuples_in state plain.space) plain.key) schema.indexes step.edits.items
 
--- Spaces have the tuples of a state, with an entry more for each tuple to come and a place under each new primary key; the steps say which.
+-- Spaces have the tuples of a state, with those that changes put and an entry more for each of them; the steps say which.
 pub record AreReady (schemas : ℕ → Option Schema) (spaces : List SpaceEntry) (state : State) (steps : List Step) (all : List PlainChange) : Type 0 where
   pub holds : (space : ℕ) → HoldsReserved (schemas space) (content_under space spaces) (tuples_in state space) (own_changes space all)
   pub ready : AllZip (IsReadied schemas state) steps all

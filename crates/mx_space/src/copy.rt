@@ -43,9 +43,3 @@ pub(crate) fn copy_of_indexes(
     }
     Ok(copies)
 }
-
-pub(crate) fn copy_of(alloc: Global, bytes: &Bytes) -> Result<Bytes, AllocError>
-    ensures { IfOk result (λ copy. copy ≡ bytes.now) }
-{
-    Bytes::from_slice(alloc, bytes.as_slice())
-}

@@ -21,7 +21,6 @@ ghost use Rattle.mx_space.specs.OwnCommit.{AreOrdered, changes_in, puts_in, remo
 ghost use Rattle.mx_space.specs.Reserves.{AreApart, MayStand, PlainChange, SpellsChange, state_with_all};
 ghost use Rattle.mx_space.specs.Stored.{HoldsBy};
 
-use crate::copy::copy_of;
 use crate::overlay::OverlaidSpace;
 use crate::space::Space;
 use crate::state::State;
@@ -121,7 +120,7 @@ impl Overlay {
     {
         let mut changes = TupleChanges::new(alloc);
         for (space, over) in &self.spaces {
-            add_changes(alloc, SpaceId(*space), over, &mut changes)?;
+            add_changes(SpaceId(*space), over, &mut changes)?;
         }
         Ok(changes)
     }
@@ -136,7 +135,6 @@ fn first_writes(alloc: Global, stored: &Space) -> Result<OverlaidSpace, AllocErr
 
 /// Adds the changes of one space.
 fn add_changes(
-    alloc: Global,
     space: SpaceId,
     over: &OverlaidSpace,
     changes: &mut TupleChanges,
@@ -144,13 +142,12 @@ fn add_changes(
     ensures adds { OnOk result (changes.new ≡ changes.old ++ changes_in (space.0, over.now)) }
     ensures ordered { OnOk result (AreOrdered over.now) }
 {
-    add_puts(alloc, space, over, changes)?;
-    add_removals(alloc, space, over, changes)?;
+    add_puts(space, over, changes)?;
+    add_removals(space, over, changes)?;
     Ok(())
 }
 
 fn add_puts(
-    alloc: Global,
     space: SpaceId,
     over: &OverlaidSpace,
     changes: &mut TupleChanges,
@@ -161,15 +158,14 @@ fn add_puts(
     for (key, tuple) in over.own().tuples() {
         changes.push(TupleChange {
             space,
-            key: copy_of(alloc, key)?,
-            tuple: Some(copy_of(alloc, tuple)?),
+            key: key.clone()?,
+            tuple: Some(tuple.clone()?),
         })?;
     }
     Ok(())
 }
 
 fn add_removals(
-    alloc: Global,
     space: SpaceId,
     over: &OverlaidSpace,
     changes: &mut TupleChanges,
@@ -183,7 +179,7 @@ fn add_removals(
         }
         changes.push(TupleChange {
             space,
-            key: copy_of(alloc, key)?,
+            key: key.clone()?,
             tuple: None,
         })?;
     }

@@ -1,19 +1,51 @@
 //! Changes whose memory was taken.
 
 ghost use Rattle.std.specs.Prelude.{◌≡◌, List, [], ◌∷◌, OnOk, IfErr, MatchOption};
+ghost use Rattle.mx_space.specs.Reserved.{IsStepOf};
 
 use crate::change::Change;
 use crate::tuple_changes::TupleChange;
+use mx_base::SpaceId;
+use mx_msgpack::Bytes;
 use std::alloc::Global;
 use std::marker::Model;
 
-/// A change that was made ready: what it does to each index, and whether a place is held for its tuple under
-/// a key that had none.
+/// A change that was made ready: what it does to the tuple under a primary key of a space, and to each index.
 #[derive(Drop)]
 pub(crate) struct Step {
-    pub(crate) change: TupleChange,
+    pub(crate) space: SpaceId,
+    pub(crate) key: Bytes,
+    pub(crate) tuple: TupleStep,
     pub(crate) edits: Vec<Change>,
-    pub(crate) is_new: bool,
+}
+
+/// What a change that was made ready does to a tuple. One that is put stands there already.
+#[derive(Drop)]
+pub(crate) enum TupleStep {
+    /// It will be taken out, where it is there.
+    Removal,
+    /// It was put where there was none.
+    Insertion,
+    /// It was put in the place of this one.
+    Replacement(Bytes),
+}
+
+impl Step {
+    /// A change of a space that isn't there.
+    pub(crate) fn without_space(alloc: Global, change: TupleChange) -> Step
+        ensures { IsStepOf change result }
+    {
+        let tuple = match change.tuple {
+            Some(_) => TupleStep::Insertion,
+            None => TupleStep::Removal,
+        };
+        Step {
+            space: change.space,
+            key: change.key,
+            tuple,
+            edits: Vec::new(alloc),
+        }
+    }
 }
 
 /// The changes that `State::reserve` made ready, of which a contract sees the last one first.

@@ -1,17 +1,21 @@
 //! A change of a space in two steps: first all that takes memory, then all that doesn't.
 
-ghost use Rattle.std.specs.Prelude.{◌≡◌, Option, IfOk, OnOk, OnErr};
+ghost use Rattle.std.specs.Prelude.{◌≡◌, Option, IfOk, OnOk, OnErr, is_some, not};
+ghost use Rattle.std.specs.BTreeMap.{is_at};
+ghost use Rattle.std.specs.Cmp.Lexicographic.{slice_cmp};
+ghost use Rattle.std.specs.Map.{set_value};
+ghost use Rattle.std.specs.Ordering.{nat_cmp};
 ghost use Rattle.mx_space.specs.Changes.{all_without, with_added, without_key};
-ghost use Rattle.mx_space.specs.Reserved.{added_keys, all_added, removed_keys, with_held, with_set, without_held};
+ghost use Rattle.mx_space.specs.Reserved.{added_keys, all_added, is_removal, put_back, removed_keys, with_put, with_removal};
 
 use crate::change::{Change, add, take_out};
+use crate::prepared::TupleStep;
 use crate::tree_index::TreeIndex;
-use crate::tuple_changes::TupleChange;
 use mx_msgpack::Bytes;
 use std::alloc::{AllocError, Global};
 use std::collections::BTreeMap;
 
-/// Adds the new entries of a change, and holds a place for its tuple. Returns whether the place is new.
+/// Adds the new entries of a change, and puts its tuple under this key.
 ///
 /// # Errors
 /// Out of memory. Nothing changed then.
@@ -20,17 +24,19 @@ pub(crate) fn reserve_parts(
     tuples: &mut BTreeMap<Bytes, Bytes>,
     indexes: &mut [TreeIndex],
     edits: &[Change],
-    change: &TupleChange,
-) -> Result<bool, AllocError>
-    ensures indexes { OnOk result (indexes.new ≡ all_added change.now.key edits.now indexes.old) }
+    key: &Bytes,
+    tuple: Option<Bytes>,
+) -> Result<TupleStep, AllocError>
+    ensures indexes { OnOk result (indexes.new ≡ all_added key.now edits.now indexes.old) }
     ensures undo { OnOk result (all_without (added_keys edits.now) indexes.new ≡ indexes.old) }
-    ensures tuples { OnOk result (tuples.new.entries ≡ with_held change.now.tuple change.now.key tuples.old.entries) }
-    ensures undo_tuples { IfOk result (λ is_new. without_held is_new change.now.key tuples.new.entries ≡ tuples.old.entries) }
+    ensures tuples { OnOk result (tuples.new.entries ≡ with_put tuple key.now tuples.old.entries) }
+    ensures undo_tuples { IfOk result (λ step. put_back step key.now tuples.new.entries ≡ tuples.old.entries) }
+    ensures removes { IfOk result (λ step. is_removal step ≡ not (is_some tuple)) }
     ensures err { OnErr result ((indexes.new ≡ indexes.old) × (tuples.new.entries ≡ tuples.old.entries)) }
 {
-    add_all(alloc, indexes, edits, change.key.as_slice())?;
-    match hold_place(alloc, tuples, change) {
-        Ok(is_new) => Ok(is_new),
+    add_all(alloc, indexes, edits, key.as_slice())?;
+    match put_tuple(tuples, key, tuple) {
+        Ok(step) => Ok(step),
         Err(AllocError) => {
             remove_added(indexes, edits);
             Err(AllocError)
@@ -89,47 +95,60 @@ fn add_new(
     Ok(())
 }
 
-/// Puts no bytes under the key of a tuple that will be put, unless a tuple stands there. Returns whether it
-/// did.
+/// Puts a tuple under its key. One that is to be removed stays.
 ///
 /// # Errors
 /// Out of memory. Nothing changed then.
-fn hold_place(
-    alloc: Global,
+fn put_tuple(
     tuples: &mut BTreeMap<Bytes, Bytes>,
-    change: &TupleChange,
-) -> Result<bool, AllocError>
-    ensures ok { OnOk result (tuples.new.entries ≡ with_held change.now.tuple change.now.key tuples.old.entries) }
-    ensures undo { IfOk result (λ is_new. without_held is_new change.now.key tuples.new.entries ≡ tuples.old.entries) }
+    key: &Bytes,
+    tuple: Option<Bytes>,
+) -> Result<TupleStep, AllocError>
+    ensures ok { OnOk result (tuples.new.entries ≡ with_put tuple key.now tuples.old.entries) }
+    ensures undo { IfOk result (λ step. put_back step key.now tuples.new.entries ≡ tuples.old.entries) }
+    ensures removes { IfOk result (λ step. is_removal step ≡ not (is_some tuple)) }
     ensures err { OnErr result (tuples.new.entries ≡ tuples.old.entries) }
 {
-    if change.tuple.is_none() || tuples.contains_key(&change.key) {
-        return Ok(false);
+    let Some(tuple) = tuple else {
+        return Ok(TupleStep::Removal);
+    };
+    match tuples.insert(key.clone()?, tuple)? {
+        Some(old) => Ok(TupleStep::Replacement(old)),
+        None => Ok(TupleStep::Insertion),
     }
-    let key = Bytes::from_slice(alloc, change.key.as_slice())?;
-    tuples.insert(key, Bytes::new(alloc))?;
-    Ok(true)
 }
 
-/// Puts a tuple under its key, where a place is held for it, or takes out the one that is there.
-pub(crate) fn set_tuple(tuples: &mut BTreeMap<Bytes, Bytes>, key: &Bytes, tuple: Option<Bytes>)
-    ensures { tuples.new.entries ≡ with_set tuple key.now tuples.old.entries }
+/// Takes the tuple of a removal out.
+pub(crate) fn remove_tuple(tuples: &mut BTreeMap<Bytes, Bytes>, key: &Bytes, step: &TupleStep)
+    ensures { tuples.new.entries ≡ with_removal step.now key.now tuples.old.entries }
 {
-    let Some(tuple) = tuple else {
-        tuples.remove(key);
-        return;
-    };
+    match step {
+        TupleStep::Removal => {
+            tuples.remove(key);
+        }
+        TupleStep::Insertion | TupleStep::Replacement(_) => {}
+    }
+}
+
+/// Puts what stood under the key before the step was made ready there again.
+pub(crate) fn put_back(tuples: &mut BTreeMap<Bytes, Bytes>, key: &Bytes, step: TupleStep)
+    ensures { tuples.new.entries ≡ put_back step key.now tuples.old.entries }
+{
+    match step {
+        TupleStep::Removal => {}
+        TupleStep::Insertion => {
+            tuples.remove(key);
+        }
+        TupleStep::Replacement(old) => set_tuple(tuples, key, old),
+    }
+}
+
+/// Puts a tuple in the place of the one under this key, where there is one.
+fn set_tuple(tuples: &mut BTreeMap<Bytes, Bytes>, key: &Bytes, tuple: Bytes)
+    ensures { tuples.new.entries ≡ set_value (is_at (slice_cmp nat_cmp key.now)) tuples.old.entries tuple }
+{
     if let Some(place) = tuples.get_mut(key) {
         *place = tuple;
-    }
-}
-
-/// Takes out the place that was held for a tuple, where it was new.
-pub(crate) fn free_place(tuples: &mut BTreeMap<Bytes, Bytes>, key: &Bytes, is_new: bool)
-    ensures { tuples.new.entries ≡ without_held is_new key.now tuples.old.entries }
-{
-    if is_new {
-        tuples.remove(key);
     }
 }
 

@@ -58,7 +58,7 @@ fn reserve_one(
     match prepared.push(step) {
         Ok(()) => Ok(()),
         Err(step) => {
-            spaces.release(&step);
+            spaces.release(step);
             Err(AllocError)
         }
     }
@@ -81,6 +81,6 @@ pub(crate) fn release_all(spaces: &mut Spaces, prepared: Prepared)
 {
     let mut left = prepared;
     while let Some(step) = left.pop() {
-        spaces.release(&step);
+        spaces.release(step);
     }
 }

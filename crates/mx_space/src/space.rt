@@ -21,7 +21,7 @@ ghost use Rattle.mx_space.specs.Builds.{build_fault};
 ghost use Rattle.mx_space.specs.Built.{AreLong};
 ghost use Rattle.mx_space.specs.Changes.{Puts, Removes, index_kept};
 ghost use Rattle.mx_space.specs.Kept.{HoldsOneEach, StoresIndexed};
-ghost use Rattle.mx_space.specs.Reserved.{EditsAll, content_of, content_installed, content_readied, content_released};
+ghost use Rattle.mx_space.specs.Reserved.{EditsAll, IsStepOf, content_of, content_installed, content_readied, content_released};
 ghost use Rattle.mx_space.specs.Scans.{SelectsByKey};
 
 use crate::build::{BuildFault, new_entries};
@@ -35,7 +35,7 @@ use crate::places::{
     clear_all, find_index, insert_index, place_behind, remove_index, remove_indexes,
 };
 use crate::prepared::Step;
-use crate::reserve::{free_place, remove_added, remove_replaced, reserve_parts, set_tuple};
+use crate::reserve::{put_back, remove_added, remove_replaced, remove_tuple, reserve_parts};
 use crate::selection::{as_fault, select_entries};
 use crate::tree_index::TreeIndex;
 use crate::tuple_changes::TupleChange;
@@ -260,25 +260,28 @@ impl Space {
     /// # Errors
     /// Out of memory. Nothing changed then.
     pub(crate) fn reserve(&mut self, alloc: Global, change: TupleChange) -> Result<Step, AllocError>
-        ensures change { IfOk result (λ step. step.change ≡ change) }
+        ensures change { IfOk result (IsStepOf change) }
         ensures edits { (all : plain.Tuples) (key : Key) → StoresTuples self.old.tuples.entries all → AreFit key → change.key ≡ comparable_of key
             → IfOk result (λ step. EditsAll key change.tuple (finite.get all key) self.old.schema.indexes step.edits.items) }
-        ensures ok { IfOk result (λ step. content_of self.new ≡ content_readied step (content_of self.old)) }
+        ensures ok { IfOk result (λ step. content_of self.new ≡ content_readied change.tuple step (content_of self.old)) }
         ensures undo { IfOk result (λ step. content_released step (content_of self.new) ≡ content_of self.old) }
         ensures err { OnErr result (content_of self.new ≡ content_of self.old) }
     {
         let edits = self.edits(alloc, &change)?;
-        let is_new = reserve_parts(
+        let TupleChange { space, key, tuple } = change;
+        let tuple = reserve_parts(
             alloc,
             &mut self.tuples,
             self.indexes.as_mut_slice(),
             edits.as_slice(),
-            &change,
+            &key,
+            tuple,
         )?;
         Ok(Step {
-            change,
+            space,
+            key,
+            tuple,
             edits,
-            is_new,
         })
     }
 
@@ -287,16 +290,21 @@ impl Space {
         ensures { content_of self.new ≡ content_installed step (content_of self.old) }
     {
         remove_replaced(self.indexes.as_mut_slice(), step.edits.as_slice());
-        let TupleChange { key, tuple, .. } = step.change;
-        set_tuple(&mut self.tuples, &key, tuple);
+        remove_tuple(&mut self.tuples, &step.key, &step.tuple);
     }
 
     /// Takes back what was made ready of a change.
-    pub(crate) fn release(&mut self, step: &Step)
-        ensures { content_of self.new ≡ content_released step.now (content_of self.old) }
+    pub(crate) fn release(&mut self, step: Step)
+        ensures { content_of self.new ≡ content_released step (content_of self.old) }
     {
-        remove_added(self.indexes.as_mut_slice(), step.edits.as_slice());
-        free_place(&mut self.tuples, &step.change.key, step.is_new);
+        let Step {
+            key,
+            tuple,
+            edits,
+            ..
+        } = step;
+        remove_added(self.indexes.as_mut_slice(), edits.as_slice());
+        put_back(&mut self.tuples, &key, tuple);
     }
 
     /// What a change does to each index; nothing is made where there is none beside the primary one.

@@ -14,7 +14,7 @@ ghost use Rattle.mx_schema.specs.Stored.{StoresTuples};
 ghost use Rattle.mx_schema.specs.State.{key_in, tuples_in, with_tuple, without_tuple};
 ghost use Rattle.mx_space.specs.declared.build.BuildFault.TheVariants.{NoMemory};
 ghost use Rattle.mx_space.specs.Builds.{build_fault};
-ghost use Rattle.mx_space.specs.Reserved.{Content, EditsAll, changed_at, content_under, entry_content, content_installed, content_readied, content_released};
+ghost use Rattle.mx_space.specs.Reserved.{Content, EditsAll, IsStepOf, changed_at, content_under, entry_content, content_installed, content_readied, content_released};
 ghost use Rattle.mx_space.specs.Spaces.{IsAscending, IsAscending-prop, IsGapOf, IsPlaceOf, RemovesSpace, SetsSpace, space_under};
 
 use crate::build::BuildFault;
@@ -137,37 +137,33 @@ impl Spaces {
     /// # Errors
     /// Out of memory. Nothing changed then.
     pub(crate) fn reserve(&mut self, alloc: Global, change: TupleChange) -> Result<Step, AllocError>
-        ensures change { IfOk result (λ step. step.change ≡ change) }
+        ensures change { IfOk result (IsStepOf change) }
         ensures edits { (space : Content) (all : plain.Tuples) (key : Key) → content_under change.space.0 self.old.entries.items ≡ Some space → StoresTuples space.1 all → AreFit key → change.key ≡ comparable_of key
             → IfOk result (λ step. EditsAll key change.tuple (finite.get all key) space.0.indexes step.edits.items) }
-        ensures ok { IfOk result (λ step. (q : ℕ) → content_under q self.new.entries.items ≡ changed_at change.space.0 (content_readied step) q (content_under q self.old.entries.items)) }
+        ensures ok { IfOk result (λ step. (q : ℕ) → content_under q self.new.entries.items ≡ changed_at change.space.0 (content_readied change.tuple step) q (content_under q self.old.entries.items)) }
         ensures undo { IfOk result (λ step. (q : ℕ) → changed_at change.space.0 (content_released step) q (content_under q self.new.entries.items) ≡ content_under q self.old.entries.items) }
         ensures err { OnErr result ((q : ℕ) → content_under q self.new.entries.items ≡ content_under q self.old.entries.items) }
     {
         match place_of(self.entries.as_slice(), change.space) {
             Ok(place) => self.entries[place].space.reserve(alloc, change),
-            Err(_) => Ok(Step {
-                change,
-                edits: Vec::new(alloc),
-                is_new: false,
-            }),
+            Err(_) => Ok(Step::without_space(alloc, change)),
         }
     }
 
     /// Makes a change that is ready.
     pub(crate) fn install(&mut self, step: Step)
-        ensures { (q : ℕ) → content_under q self.new.entries.items ≡ changed_at step.change.space.0 (content_installed step) q (content_under q self.old.entries.items) }
+        ensures { (q : ℕ) → content_under q self.new.entries.items ≡ changed_at step.space.0 (content_installed step) q (content_under q self.old.entries.items) }
     {
-        if let Ok(place) = place_of(self.entries.as_slice(), step.change.space) {
+        if let Ok(place) = place_of(self.entries.as_slice(), step.space) {
             self.entries[place].space.install(step);
         }
     }
 
     /// Takes back what was made ready of a change.
-    pub(crate) fn release(&mut self, step: &Step)
-        ensures { (q : ℕ) → content_under q self.new.entries.items ≡ changed_at step.now.change.space.0 (content_released step.now) q (content_under q self.old.entries.items) }
+    pub(crate) fn release(&mut self, step: Step)
+        ensures { (q : ℕ) → content_under q self.new.entries.items ≡ changed_at step.space.0 (content_released step) q (content_under q self.old.entries.items) }
     {
-        if let Ok(place) = place_of(self.entries.as_slice(), step.change.space) {
+        if let Ok(place) = place_of(self.entries.as_slice(), step.space) {
             self.entries[place].space.release(step);
         }
     }

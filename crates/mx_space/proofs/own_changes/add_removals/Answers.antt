@@ -13,7 +13,7 @@ loop-key-preserved c =
     let none : is_some (lookup (is_at (slice_cmp nat_cmp key)) over.own.tuples.entries) ≡ false =
     ap (λ t. is_some (lookup (is_at (slice_cmp nat_cmp key)) t.entries)) (sym (c.tuples.ensures ∙ ap (λ s. s.tuples) c.own.ensures)) ∙ sym c.contains_key.ensures ∙ c.if-contains_key.false in
     record {
-      together = removal_added c.args.space.0 over c.loop-key.changes c.push.new.self _ key c.in_ok-copy_of.field-0 c.loop-key.key-iterator c.next.new.self
-          c.loop-key.invariant.together c.in-Some.ensures.steps (ap not none) c.in_ok-copy_of.ensures c.in_ok-push.ensures.ok;
+      together = removal_added c.args.space.0 over c.loop-key.changes c.push.new.self _ key c.in_ok-clone.field-0 c.loop-key.key-iterator c.next.new.self
+          c.loop-key.invariant.together c.in-Some.ensures.steps (ap not none) c.in_ok-clone.ensures.cases c.in_ok-push.ensures.ok;
       ordered = c.loop-key.invariant.ordered;
     }

@@ -1,4 +1,4 @@
-use Rattle.std.proofs.Common.{◌≡◌, false, Option, Some, None, sym, ap, ◌∙◌, subst}
+use Rattle.std.proofs.Common.{◌≡◌, Option, Some, None, sym, ap, ◌∙◌, subst}
 use Rattle.std.specs.FinMap.{get}
 use Rattle.std.specs.Option.{option_map}
 use Rattle.std.proofs.lemmas.Result.{IfOk-weaker, on_err_weaker}
@@ -40,7 +40,7 @@ returns-in-Ok-clause-ok c =
     let there = found id entries place entry c.args.self.now.ascending at c.index_mut.ensures.value in
     let after = c.reserve.new.self in
     let changed = space_changed id entries place entry c.args.self.now.ascending at c.index_mut.ensures.value after in
-    IfOk-weaker c.reserve.result _ _ (λ step made. content_changed id entries _ (content_readied step) entry.space after there changed made) c.reserve.ensures.ok
+    IfOk-weaker c.reserve.result _ _ (λ step made. content_changed id entries _ (content_readied c.args.change.tuple step) entry.space after there changed made) c.reserve.ensures.ok
 
 pub returns-in-Ok-clause-undo : goal.returns-in-Ok-clause-undo
 returns-in-Ok-clause-undo c =
@@ -81,4 +81,12 @@ returns-in-Err-clause-ok c =
     let place = c.in-Err.field-0 in
     let entries = c.args.self.now.entries.items in
     let gap = subst (λ entries. IsGapOf id entries place) c.as_slice.ensures.value c.in-Err.ensures in
-    none_changed id entries (content_readied (record { change = c.args.change; edits = c.new.result; is_new = false })) (none_found id entries place gap)
+    none_changed id entries (content_readied c.args.change.tuple c.without_space.result) (none_found id entries place gap)
+
+pub returns-in-Err-clause-undo : goal.returns-in-Err-clause-undo
+returns-in-Err-clause-undo c =
+    let id = c.args.change.space.0 in
+    let place = c.in-Err.field-0 in
+    let entries = c.args.self.now.entries.items in
+    let gap = subst (λ entries. IsGapOf id entries place) c.as_slice.ensures.value c.in-Err.ensures in
+    λ q. sym (none_changed id entries (content_released c.without_space.result) (none_found id entries place gap) q)
