@@ -142,6 +142,8 @@ fn add_changes(
     ensures adds { OnOk result (changes.new ≡ changes.old ++ changes_in (space.0, over.now)) }
     ensures ordered { OnOk result (AreOrdered over.now) }
 {
+    let puts = over.own().tuples().len();
+    changes.reserve(puts.saturating_add(over.removed().len()))?;
     add_puts(space, over, changes)?;
     add_removals(space, over, changes)?;
     Ok(())

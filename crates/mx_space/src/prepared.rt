@@ -1,13 +1,13 @@
 //! Changes whose memory was taken.
 
-ghost use Rattle.std.specs.Prelude.{◌≡◌, List, [], ◌∷◌, OnOk, IfErr, MatchOption};
+ghost use Rattle.std.specs.Prelude.{◌≡◌, List, [], ◌∷◌, IfOk, OnOk, IfErr, MatchOption};
 ghost use Rattle.mx_space.specs.Reserved.{IsStepOf};
 
 use crate::change::Change;
 use crate::tuple_changes::TupleChange;
 use mx_base::SpaceId;
 use mx_msgpack::Bytes;
-use std::alloc::Global;
+use std::alloc::{AllocError, Global};
 use std::marker::Model;
 
 /// A change that was made ready: what it does to the tuple under a primary key of a space, and to each index.
@@ -64,13 +64,13 @@ impl Model for Prepared {
 }
 
 impl Prepared {
-    /// Nothing is ready.
-    pub(crate) fn new(alloc: Global) -> Prepared
-        ensures { result ≡ [] }
+    /// Nothing is ready, and there is room for so many changes.
+    pub(crate) fn with_capacity(alloc: Global, changes: usize) -> Result<Prepared, AllocError>
+        ensures { IfOk result (λ none. none ≡ []) }
     {
-        Prepared {
-            steps: Vec::new(alloc),
-        }
+        Ok(Prepared {
+            steps: Vec::with_capacity(alloc, changes)?,
+        })
     }
 
     /// Adds a change.

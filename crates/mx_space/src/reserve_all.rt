@@ -24,7 +24,7 @@ pub(crate) fn reserve_all(
     ensures undo { IfOk result (λ prepared. (q : ℕ) → all_released q prepared (content_under q spaces.new.entries.items) ≡ content_under q spaces.old.entries.items) }
     ensures err { OnErr result ((q : ℕ) → content_under q spaces.new.entries.items ≡ content_under q spaces.old.entries.items) }
 {
-    let mut prepared = Prepared::new(alloc);
+    let mut prepared = Prepared::with_capacity(alloc, changes.as_slice().len())?;
     let mut left = changes;
     while let Some(change) = left.pop() {
         match reserve_one(alloc, spaces, change, &mut prepared) {

@@ -48,6 +48,17 @@ impl TupleChanges {
         self.items.as_slice()
     }
 
+    /// Takes room for so many further changes.
+    ///
+    /// # Errors
+    /// Out of memory.
+    pub(crate) fn reserve(&mut self, additional: usize) -> Result<(), AllocError>
+        ensures { self.new ≡ self.old }
+    {
+        self.items.reserve(additional)?;
+        Ok(())
+    }
+
     /// Adds a change at the end.
     ///
     /// # Errors

@@ -6,9 +6,9 @@ use Rattle.mx_space.proofs.reserve_all.reserve_all.Goals as goal
 pub loop-change-init : goal.loop-change-init
 loop-change-init c =
     let entries = c.args.spaces.now.entries.items in (
-      λ q. ap (λ steps. all_released q steps (content_under q entries)) c.new-prepared.ensures,
+      λ q. ap (λ steps. all_released q steps (content_under q entries)) c.in_ok-prepared.ensures,
       λ schemas state all holds spell stand apart.
-          subst (λ steps. PartReady schemas entries state steps c.args.changes all) (sym c.new-prepared.ensures) (part_none schemas state all entries c.args.changes holds spell),
+          subst (λ steps. PartReady schemas entries state steps c.args.changes all) (sym c.in_ok-prepared.ensures) (part_none schemas state all entries c.args.changes holds spell),
     )
 
 pub loop-change-preserved : goal.loop-change-preserved
