@@ -1,14 +1,20 @@
 -- Where a transaction ends, and where all of a connection do.
-use Rattle.std.proofs.Common.{◌≡◌, ℕ, Bool, true, false, not, ◌&&◌, List, [], ◌∷◌, Some, None, refl, sym, ap, ◌∙◌, subst, arith}
+use Rattle.std.proofs.Common.{◌≡◌, ◌≢◌, ◌⊎◌, ℕ, Bool, true, false, not, ◌&&◌, List, [], ◌∷◌, Option, Some, None, inl, inr, refl, sym, ap, ◌∙◌, subst, arith}
 use Rattle.std.specs.Prelude.{◌==◌, if◌then◌else◌}
-use Rattle.std.proofs.lemmas.Bool.{eqb-true}
+use Rattle.std.specs.FinMap.{get, remove}
+use Rattle.std.proofs.lemmas.Bool.{cases_eq, eqb-true}
 use Rattle.std.specs.List.{AllZip, find}
 use Rattle.mx_base.specs.declared.ids.TxnName.{TxnName}
 use Rattle.mx_model.specs.Overlaps.{Transaction}
 use Rattle.mx_model.specs.Streams.{Streams, is_name, of_others, without_named}
+use Rattle.mx_space.specs.declared.state.State as memory
+use Rattle.mx_space.specs.KeptStates.{kept_at}
+use Rattle.mx_txn.specs.declared.state.TxnState.{TxnState}
+use Rattle.mx_txn.specs.declared.state.TxnState.TheVariants as txn
+use Rattle.mx_txn.proofs.StateLaws.{get-with_state_other}
 use Rattle.mx_transactions.specs.declared.names.Named.{Named}
 use Rattle.mx_transactions.specs.Open.{HoldsOpen, IsOpen, AreInSlots, Open, slot_named}
-use Rattle.mx_transactions.specs.OpenSteps.{beside}
+use Rattle.mx_transactions.specs.OpenSteps.{KeepsNoOthers, KeepsNoUnread, beside}
 use Rattle.mx_transactions.proofs.BeginLaws.{beside_open}
 use Rattle.mx_transactions.proofs.OpenLaws.{all_stay, some_open}
 use Rattle.mx_transactions.proofs.TableLaws.{Clears, ended_stay, others_of}
@@ -106,6 +112,48 @@ none_of streams all connection (named ∷ names) (one ∷ ones) (first, keep) e 
     by_test false is e later =
         ap (λ b. if not b then one ∷ of_others connection ones else of_others connection ones) (ap (λ (n : TxnName). n.conn.0 == connection) (sym first.name) ∙ is)
         ∙ ap (λ list. one ∷ list) (later e)
+
+-- ---- the states that those of a connection read
+
+-- a transaction has a view of this state, or none
+reads_or_not : (state : Option TxnState) (at : ℕ) → (state ≡ Some (txn.View at)) ⊎ (state ≢ Some (txn.View at))
+reads_or_not None at = inr (λ is. absurd cc)
+reads_or_not (Some (txn.Active since)) at = inr (λ is. absurd cc)
+reads_or_not (Some (txn.Aborted by)) at = inr (λ is. absurd cc)
+reads_or_not (Some (txn.View place)) at = by_place (cases_eq place at)
+  where
+    same_place : Some (txn.View place) ≡ Some (txn.View at) → place ≡ at
+    same_place is = cc
+
+    by_place : (place ≡ at) ⊎ (place ≡ at → ⊥) → (Some (txn.View place) ≡ Some (txn.View at)) ⊎ (Some (txn.View place) ≢ Some (txn.View at))
+    by_place (inl same) = inl (ap (λ p. Some (txn.View p)) same)
+    by_place (inr differs) = inr (λ is. differs (same_place is))
+
+-- at first each that was read is read still
+pub all_read : (all : Open) (slot : ℕ) → KeepsNoUnread all all slot
+all_read all slot at view none = absurd (none slot view)
+
+-- and where one more ends, none is kept that nobody reads
+pub none_unread : (first old new : Open) (ended : ℕ) → new.slots ≡ remove old.slots ended → KeepsNoOthers old.kept new.kept → KeepsNoUnread old new ended
+    → ((slot : ℕ) → KeepsNoUnread first old slot) → (slot : ℕ) → KeepsNoUnread first new slot
+none_unread first old new ended freed kept own earlier slot at view none = by_reading (reads_or_not (get old.slots ended) at)
+  where
+    none_stays : (before after : Option memory.State) → ((one : memory.State) → after ≡ Some one → before ≡ Some one) → before ≡ None → after ≡ None
+    none_stays before None was gone = refl
+    none_stays before (Some one) was gone = let there : Some one ≡ None = sym (was one refl) ∙ gone in absurd cc
+
+    none_before : (get old.slots ended ≢ Some (txn.View at)) → (other : ℕ) → get old.slots other ≢ Some (txn.View at)
+    none_before differs other is = by_slot (cases_eq other ended)
+      where
+        by_slot : (other ≡ ended) ⊎ (other ≡ ended → ⊥) → ⊥
+        by_slot (inl same) = differs (ap (get old.slots) (sym same) ∙ is)
+        by_slot (inr apart) = none other (ap (λ slots. get slots other) freed ∙ get-with_state_other old.slots ended None other apart ∙ is)
+
+    by_reading : (get old.slots ended ≡ Some (txn.View at)) ⊎ (get old.slots ended ≢ Some (txn.View at)) → kept_at at new.kept ≡ None
+    by_reading (inl read) = own at read none
+    by_reading (inr differs) = none_stays (kept_at at old.kept) (kept_at at new.kept) (kept at) (earlier slot at view (none_before differs))
+
+-- ---- which are left
 
 -- some of a connection have ended
 pub record HasLeft (connection : ℕ) (streams : Streams) (all : Open) : Type 0 where

@@ -22,7 +22,7 @@ use Rattle.mx_model.proofs.EachLaws.{each_kept, each_like}
 use Rattle.mx_transactions.specs.declared.names.Named.{Named}
 use Rattle.mx_transactions.specs.declared.work.Work.{Work}
 use Rattle.mx_transactions.specs.Open.{HaveOwnSlots, HasSlot, WritesNothing, IsOther, AreInSlots, IsVacant, Open, SlotHas, slot_named}
-use Rattle.mx_transactions.specs.OpenSteps.{ChangesTo, DropsUnread, IsTrimmed, StaysAt}
+use Rattle.mx_transactions.specs.OpenSteps.{ChangesTo, DropsUnread, IsTrimmed, KeepsNoOthers, StaysAt}
 use Rattle.mx_transactions.proofs.OpenLaws.{found_live, found_other, same_slot}
 
 -- what every live name has, where one slot's state changes and it has another
@@ -171,12 +171,20 @@ trimmed_states old new trims commits memory is = needed_was trims.oldest commits
 -- the views that are left keep their states, and no state is kept that wasn't before
 pub record KeepsViews (old new : Open) : Type 0 where
   pub views : (other place : ℕ) → get new.slots other ≡ Some (txn.View place) → IsSome (kept_at place old.kept) → IsSome (kept_at place new.kept)
-  pub states : (commits : ℕ) (memory : memory.State) → kept_at commits new.kept ≡ Some memory → kept_at commits old.kept ≡ Some memory
+  pub states : KeepsNoOthers old.kept new.kept
 
-pub keeps_trimmed : (old new : Open) → Trims old new → KeepsViews old new
-keeps_trimmed old new trims = record { views = trimmed_views old new trims; states = trimmed_states old new trims }
+pub none_added : (slots : Txns) (before trimmed after : KeptStates) (oldest : Option ℕ) → ((commits : ℕ) → kept_at commits trimmed ≡ needed_from oldest commits (kept_at commits before))
+    → DropsUnread slots trimmed after → KeepsNoOthers before after
+none_added slots before trimmed after oldest trims drops commits one kept = by_drop (drops commits)
+  where
+    some_is_none : (state : memory.State) → Some state ≢ None
+    some_is_none state same = absurd cc
 
--- the same where the state of one that left its view is dropped too, if no other reads it
+    by_drop : (kept_at commits after ≡ kept_at commits trimmed) ⊎ ((kept_at commits after ≡ None) × ((slot : ℕ) → get slots slot ≢ Some (txn.View commits))) → kept_at commits before ≡ Some one
+    by_drop (inl same) = needed_was oldest commits (kept_at commits before) one (sym (trims commits) ∙ sym same ∙ kept)
+    by_drop (inr (none, unread)) = absurd (some_is_none one (sym kept ∙ none))
+
+-- so it is where states are trimmed, and the one that a transaction read that ended or was doomed is dropped too, if no other reads it
 module _ (old new : Open) (trimmed : KeptStates) (oldest : Option ℕ) (is : IsOldestView new.slots oldest)
     (trims : (commits : ℕ) → kept_at commits trimmed ≡ needed_from oldest commits (kept_at commits old.kept)) (drops : DropsUnread new.slots trimmed new.kept) where
   abbrev between : Open
@@ -192,19 +200,8 @@ module _ (old new : Open) (trimmed : KeptStates) (oldest : Option ℕ) (is : IsO
       by_drop (inl same) = subst IsSome (sym same) (trimmed_views old between trims_first other place view some)
       by_drop (inr (none, unread)) = absurd (unread other view)
 
-  states_read : (commits : ℕ) (one : memory.State) → kept_at commits new.kept ≡ Some one → kept_at commits old.kept ≡ Some one
-  states_read commits one kept = by_drop (drops commits)
-    where
-      some_is_none : (state : memory.State) → Some state ≢ None
-      some_is_none state same = absurd cc
-
-      by_drop : (kept_at commits new.kept ≡ kept_at commits trimmed) ⊎ ((kept_at commits new.kept ≡ None) × ((slot : ℕ) → get new.slots slot ≢ Some (txn.View commits)))
-          → kept_at commits old.kept ≡ Some one
-      by_drop (inl same) = trimmed_states old between trims_first commits one (sym same ∙ kept)
-      by_drop (inr (none, unread)) = absurd (some_is_none one (sym kept ∙ none))
-
   pub keeps_read : KeepsViews old new
-  keeps_read = record { views = views_read; states = states_read }
+  keeps_read = record { views = views_read; states = none_added new.slots old.kept trimmed new.kept oldest trims drops }
 
 pub is_trimmed_read : (new : Open) (before trimmed : KeptStates) (oldest : Option ℕ) → IsOldestView new.slots oldest
     → ((commits : ℕ) → kept_at commits trimmed ≡ needed_from oldest commits (kept_at commits before)) → DropsUnread new.slots trimmed new.kept → IsTrimmed new

@@ -69,11 +69,15 @@ pub record StaysAt (old new : Open) (slot : ℕ) : Type 0 where
   pub reads : noted_reads new.tracks slot ≡ noted_reads old.tracks slot
   pub kept : (place : ℕ) → get new.slots slot ≡ Some (txn.View place) → IsSome (kept_at place old.kept) → IsSome (kept_at place new.kept)
 
+-- no state is kept that wasn't before
+abbrev pub KeepsNoOthers : (old new : KeptStates) → Type 0
+KeepsNoOthers old new = (commits : ℕ) (one : memory.State) → kept_at commits new ≡ Some one → kept_at commits old ≡ Some one
+
 -- only one slot changes, and no state is kept that wasn't before
 pub record ChangesSlot (old new : Open) (slot : ℕ) : Type 0 where
   pub names : new.names ≡ old.names
   pub others : (other : ℕ) → other ≢ slot → StaysAt old new other
-  pub kept : (commits : ℕ) (memory : memory.State) → kept_at commits new.kept ≡ Some memory → kept_at commits old.kept ≡ Some memory
+  pub kept : KeepsNoOthers old.kept new.kept
 
 -- and it has this now
 pub record ChangesTo (old new : Open) (slot : ℕ) (now : SlotHas) : Type 0 where
@@ -125,7 +129,7 @@ pub record Moves (old new : Open) (marks : List Bool) (is_schema : Bool) (commit
   pub each : (slot : ℕ) → slot < max_open → (has : SlotHas) → HasSlot old slot has
       → (now : SlotHas) × HasSlot new slot now × MovesSlot is_schema (is_marked marks slot) commits has now
   pub views : (slot place : ℕ) → get new.slots slot ≡ Some (txn.View place) → IsSome (kept_at place old.kept) → IsSome (kept_at place new.kept)
-  pub kept : (number : ℕ) (memory : memory.State) → kept_at number new.kept ≡ Some memory → kept_at number old.kept ≡ Some memory
+  pub kept : KeepsNoOthers old.kept new.kept
 
 -- these keys stand for what rows touch: one of them lies in a read exactly where the rows meet it
 abbrev pub SpellsRows : State → List Row → List coded.Touched → Type 0

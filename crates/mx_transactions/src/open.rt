@@ -1,7 +1,7 @@
 //! Open transactions.
 
 ghost use Rattle.std.specs.Prelude.{◌≡◌, ◌≢◌, ℕ, Bool, None, false, true, not, ◌||◌, if◌then◌else◌, [], ◌++◌, ◌<◌, length, slice_get, slice_set, IfOk, IfSome, OnOk, OnErr, IsSome, IsTrue, MatchResult, Ok, ◌↔◌, Some};
-ghost use Rattle.std.specs.FinMap.{get};
+ghost use Rattle.std.specs.FinMap.{get, remove};
 ghost use Rattle.std.specs.List.{AllByRecursion, AllZip, filter};
 ghost use Rattle.std.specs.Option.{option_copied};
 ghost use Rattle.mx_row.specs.Limits.{row_size as plain_row_size};
@@ -27,7 +27,7 @@ ghost use Rattle.mx_model.specs.Streams.{Streams, begins_beside, is_name, stream
 ghost use Rattle.mx_transactions.specs.Open.{HasRun, HasSlot, HaveOwnSlots, HoldsOpen, SlotHas, WritesNothing, slot_named};
 ghost use Rattle.mx_txn.specs.declared.state.TxnState.TheVariants.{Aborted, Active, View};
 ghost use Rattle.mx_transactions.specs.declared.work.Work.{Work};
-ghost use Rattle.mx_transactions.specs.OpenSteps.{ChangesTo, ComesTo, DropsUnread, FindsOpen, IsTrimmed, KeepsMore, KeepsNoUnread, Moves, MovesSlot, StandsOn, StaysAt, TellsOpen, ViewsAreKept, beside, gets_view, has_rows, is_beside, is_reader};
+ghost use Rattle.mx_transactions.specs.OpenSteps.{ChangesTo, ComesTo, DropsUnread, FindsOpen, IsTrimmed, KeepsMore, KeepsNoOthers, KeepsNoUnread, Moves, MovesSlot, StandsOn, StaysAt, TellsOpen, ViewsAreKept, beside, gets_view, has_rows, is_beside, is_reader};
 
 use crate::names::{Named, OpenNames};
 use crate::work::Work;
@@ -154,6 +154,8 @@ impl OpenTransactions {
         requires { slot_named name self.old.names ≡ Some slot }
         ensures left { (streams : Streams) → HoldsOpen streams self.old → HoldsOpen (beside streams (without_named name streams.transactions)) self.new }
         ensures names { self.new.names ≡ filter (λ named. not (is_name named.name name)) self.old.names }
+        ensures slots { self.new.slots ≡ remove self.old.slots slot }
+        ensures kept { KeepsNoOthers self.old.kept self.new.kept }
         ensures trimmed { IsTrimmed self.new }
         ensures unread { KeepsNoUnread self.old self.new slot }
     {
@@ -165,9 +167,11 @@ impl OpenTransactions {
         remove_unread(&mut self.kept, &self.slots, left);
     }
 
-    /// Ends those of a connection.
+    /// Ends those of a connection, each as `end` does.
     pub fn leave(&mut self, connection: ConnId)
-        ensures { (streams : Streams) → HoldsOpen streams self.old → HoldsOpen (streams_left streams connection.0) self.new }
+        ensures left { (streams : Streams) → HoldsOpen streams self.old → HoldsOpen (streams_left streams connection.0) self.new }
+        ensures trimmed { IsTrimmed self.old → IsTrimmed self.new }
+        ensures unread { (slot : ℕ) → KeepsNoUnread self.old self.new slot }
     {
         while let Some(named) = self.names.find_of(connection) {
             self.end(named.name, named.slot);

@@ -1,10 +1,12 @@
-use Rattle.std.proofs.Common.{rules, ◌≡◌, ◌<◌, Some, sym, ◌∙◌, subst}
+use Rattle.std.proofs.Common.{rules, ◌≡◌, ◌<◌, Some, sym, ap, ◌∙◌, subst}
+use Rattle.std.specs.FinMap.{remove}
 use Rattle.mx_txn.specs.Slots.{max_open}
 use Rattle.mx_transactions.specs.Open.{HoldsOpen, Open, slot_named}
+use Rattle.mx_transactions.specs.OpenSteps.{KeepsNoOthers}
 use Rattle.mx_transactions.proofs.EndLaws.{ended_open}
 use Rattle.mx_transactions.proofs.OpenLaws.{found_live}
 use Rattle.mx_transactions.proofs.MoveLaws.{some_same}
-use Rattle.mx_transactions.proofs.TableLaws.{ended_table, keeps_read, is_trimmed_read}
+use Rattle.mx_transactions.proofs.TableLaws.{ended_table, is_trimmed_read, keeps_read, none_added}
 use Rattle.mx_transactions.proofs.open.OpenTransactions.end.Goals as goal
 
 pub state-left-requires : goal.state-left-requires
@@ -37,6 +39,14 @@ returns-clause-left c = λ streams holds.
       work = c.clear.ensures.work;
       keeps = keeps_read _ _ c.trim.new.self c.oldest_view.result c.oldest_view.ensures c.trim.ensures c.remove_unread.ensures.drops;
     }) (subst (HoldsOpen streams) (sym c.self.view_is) holds)
+
+pub returns-clause-slots : goal.returns-clause-slots
+returns-clause-slots c = c.end.ensures ∙ ap (λ (all : Open). remove all.slots c.args.slot) c.self.view_is
+
+pub returns-clause-kept : goal.returns-clause-kept
+returns-clause-kept c =
+    subst (λ (all : Open). KeepsNoOthers all.kept c.remove_unread.new.kept) c.self.view_is
+    (none_added _ c.self.inside.kept c.trim.new.self c.remove_unread.new.kept c.oldest_view.result c.trim.ensures c.remove_unread.ensures.drops)
 
 pub returns-clause-trimmed : goal.returns-clause-trimmed
 returns-clause-trimmed c = is_trimmed_read _ c.self.inside.kept c.trim.new.self c.oldest_view.result c.oldest_view.ensures c.trim.ensures c.remove_unread.ensures.drops

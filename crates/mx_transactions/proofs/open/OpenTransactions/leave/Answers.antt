@@ -3,12 +3,16 @@ use Rattle.std.specs.Prelude.{◌==◌}
 use Rattle.std.specs.List.{find}
 use Rattle.mx_transactions.specs.declared.names.Named.{Named}
 use Rattle.mx_transactions.specs.Open.{Open, slot_named}
-use Rattle.mx_transactions.proofs.EndLaws.{all_left, first_of, none_left, one_left}
+use Rattle.mx_transactions.proofs.EndLaws.{all_left, all_read, first_of, none_left, none_unread, one_left}
 use Rattle.mx_transactions.proofs.TableLaws.{ended, others_of}
 use Rattle.mx_transactions.proofs.open.OpenTransactions.leave.Goals as goal
 
 pub loop-named-init : goal.loop-named-init
-loop-named-init c = λ streams holds. none_left c.args.connection.0 streams c.args.self.now holds
+loop-named-init c = record {
+  left = λ streams holds. none_left c.args.connection.0 streams c.args.self.now holds;
+  trimmed = λ trimmed. trimmed;
+  unread = all_read c.args.self.now;
+}
 
 pub end-requires : goal.end-requires
 end-requires c =
@@ -25,11 +29,22 @@ loop-named-smaller c =
     let smaller : length c.end.new.self.names < length c.loop-named.self.names = omega (arith, fewer, before, after) in smaller
 
 pub loop-named-preserved : goal.loop-named-preserved
-loop-named-preserved c = λ streams holds.
+loop-named-preserved c =
     let first = first_of c.args.connection.0 c.self.inside.names c.in-Some.named (sym c.find_of.ensures ∙ c.in-Some.is) in
-    one_left c.args.connection.0 streams _ _ c.in-Some.named.name first.of c.end.ensures.left (c.loop-named.invariant streams holds)
+    let ends = c.end.ensures in
+    record {
+      left = λ streams holds. one_left c.args.connection.0 streams _ _ c.in-Some.named.name first.of ends.left (c.loop-named.invariant.left streams holds);
+      trimmed = λ trimmed. ends.trimmed;
+      unread = none_unread c.args.self.now c.loop-named.self c.end.new.self c.in-Some.named.slot ends.slots ends.kept ends.unread c.loop-named.invariant.unread;
+    }
 
-pub returns : goal.returns
-returns c = λ streams holds.
-    all_left c.args.connection.0 streams _ (c.loop-named.invariant streams holds)
+pub returns-clause-left : goal.returns-clause-left
+returns-clause-left c = λ streams holds.
+    all_left c.args.connection.0 streams _ (c.loop-named.invariant.left streams holds)
     (subst (λ (all : Open). find (λ (one : Named). one.name.conn.0 == c.args.connection.0) all.names ≡ None) c.self.view_is (sym c.find_of.ensures ∙ c.in_default.is))
+
+pub returns-clause-trimmed : goal.returns-clause-trimmed
+returns-clause-trimmed c = c.loop-named.invariant.trimmed
+
+pub returns-clause-unread : goal.returns-clause-unread
+returns-clause-unread c = c.loop-named.invariant.unread
