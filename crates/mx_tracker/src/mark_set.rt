@@ -1,6 +1,6 @@
 //! Marks of slots.
 
-ghost use Rattle.std.specs.Prelude.{◌≡◌, ◌≢◌, ◌||◌, ℕ, ◌<◌, slice_set, false};
+ghost use Rattle.std.specs.Prelude.{◌≡◌, ◌≢◌, ◌||◌, ℕ, ◌<◌, slice_set, false, true};
 ghost use Rattle.mx_tracker.specs.Marks.{slots, is_marked};
 
 use std::marker::Model;
@@ -58,13 +58,13 @@ impl MarkSet {
         self.used = self.used.max(other.used);
     }
 
-    /// Marks a slot, or takes its mark away.
-    pub(crate) fn set(&mut self, slot: usize, mark: bool)
+    /// Marks a slot.
+    pub(crate) fn mark(&mut self, slot: usize)
         requires { slot < slots }
-        ensures here { is_marked self.new slot ≡ mark }
+        ensures here { is_marked self.new slot ≡ true }
         ensures others { (other : ℕ) → other ≢ slot → is_marked self.new other ≡ is_marked self.old other }
     {
-        self.marks[slot] = mark;
+        self.marks[slot] = true;
         self.used = self.used.max(slot + 1);
     }
 }

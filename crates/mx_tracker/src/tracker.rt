@@ -107,7 +107,9 @@ impl Tracker {
     {
         *out = MarkSet::new();
         for slot in 0..self.used {
-            out.set(slot, self.notes[slot].are_overlapped(keys.as_slice()));
+            if self.notes[slot].are_overlapped(keys.as_slice()) {
+                out.mark(slot);
+            }
         }
     }
 }
