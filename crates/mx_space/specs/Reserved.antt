@@ -98,10 +98,10 @@ with_removal Insertion key kept = kept
 with_removal (Replacement old) key kept = kept
 
 -- as they were before one was put
-abbrev pub put_back : TupleStep → (key : List ℕ) → List StoredTuple → List StoredTuple
-put_back Removal key kept = kept
-put_back Insertion key kept = remove_entry (is_at (slice_cmp nat_cmp key)) kept
-put_back (Replacement old) key kept = set_value (is_at (slice_cmp nat_cmp key)) kept old
+abbrev pub without_put : TupleStep → (key : List ℕ) → List StoredTuple → List StoredTuple
+without_put Removal key kept = kept
+without_put Insertion key kept = remove_entry (is_at (slice_cmp nat_cmp key)) kept
+without_put (Replacement old) key kept = set_value (is_at (slice_cmp nat_cmp key)) kept old
 
 -- what is made ready of a change
 abbrev pub content_readied : (tuple : Option (List ℕ)) → Step → Content → Content
@@ -123,7 +123,7 @@ content_installed step content = (
 abbrev pub content_released : Step → Content → Content
 content_released step content = (
   content.0,
-  put_back step.tuple step.key content.1,
+  without_put step.tuple step.key content.1,
   all_without (added_keys step.edits.items) content.2,
 )
 

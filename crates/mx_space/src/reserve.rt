@@ -6,7 +6,7 @@ ghost use Rattle.std.specs.Cmp.Lexicographic.{slice_cmp};
 ghost use Rattle.std.specs.Map.{set_value};
 ghost use Rattle.std.specs.Ordering.{nat_cmp};
 ghost use Rattle.mx_space.specs.Changes.{all_without, with_added, without_key};
-ghost use Rattle.mx_space.specs.Reserved.{added_keys, all_added, is_removal, put_back, removed_keys, with_put, with_removal};
+ghost use Rattle.mx_space.specs.Reserved.{added_keys, all_added, is_removal, removed_keys, with_put, with_removal, without_put};
 
 use crate::change::{Change, add, take_out};
 use crate::prepared::TupleStep;
@@ -30,7 +30,7 @@ pub(crate) fn reserve_parts(
     ensures indexes { OnOk result (indexes.new ≡ all_added key.now edits.now indexes.old) }
     ensures undo { OnOk result (all_without (added_keys edits.now) indexes.new ≡ indexes.old) }
     ensures tuples { OnOk result (tuples.new.entries ≡ with_put tuple key.now tuples.old.entries) }
-    ensures undo_tuples { IfOk result (λ step. put_back step key.now tuples.new.entries ≡ tuples.old.entries) }
+    ensures undo_tuples { IfOk result (λ step. without_put step key.now tuples.new.entries ≡ tuples.old.entries) }
     ensures removes { IfOk result (λ step. is_removal step ≡ not (is_some tuple)) }
     ensures err { OnErr result ((indexes.new ≡ indexes.old) × (tuples.new.entries ≡ tuples.old.entries)) }
 {
@@ -105,7 +105,7 @@ fn put_tuple(
     tuple: Option<Bytes>,
 ) -> Result<TupleStep, AllocError>
     ensures ok { OnOk result (tuples.new.entries ≡ with_put tuple key.now tuples.old.entries) }
-    ensures undo { IfOk result (λ step. put_back step key.now tuples.new.entries ≡ tuples.old.entries) }
+    ensures undo { IfOk result (λ step. without_put step key.now tuples.new.entries ≡ tuples.old.entries) }
     ensures removes { IfOk result (λ step. is_removal step ≡ not (is_some tuple)) }
     ensures err { OnErr result (tuples.new.entries ≡ tuples.old.entries) }
 {
@@ -132,7 +132,7 @@ pub(crate) fn remove_tuple(tuples: &mut BTreeMap<Bytes, Bytes>, key: &Bytes, ste
 
 /// Puts what stood under the key before the step was made ready there again.
 pub(crate) fn put_back(tuples: &mut BTreeMap<Bytes, Bytes>, key: &Bytes, step: TupleStep)
-    ensures { tuples.new.entries ≡ put_back step key.now tuples.old.entries }
+    ensures { tuples.new.entries ≡ without_put step key.now tuples.old.entries }
 {
     match step {
         TupleStep::Removal => {}
