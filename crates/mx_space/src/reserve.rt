@@ -130,7 +130,7 @@ pub(crate) fn remove_tuple(tuples: &mut BTreeMap<Bytes, Bytes>, key: &Bytes, ste
     }
 }
 
-/// Puts what stood under the key before the step was made ready there again.
+/// Undoes what was done to the tuple under a key when a step was made ready.
 pub(crate) fn put_back(tuples: &mut BTreeMap<Bytes, Bytes>, key: &Bytes, step: TupleStep)
     ensures { tuples.new.entries ≡ without_put step key.now tuples.old.entries }
 {

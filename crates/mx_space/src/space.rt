@@ -255,7 +255,7 @@ impl Space {
         }
     }
 
-    /// Takes the memory that a change needs.
+    /// Makes a change ready: puts its tuple, and adds the new entries. What it takes out stays.
     ///
     /// # Errors
     /// Out of memory. Nothing changed then.

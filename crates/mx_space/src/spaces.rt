@@ -132,7 +132,7 @@ impl Spaces {
         }
     }
 
-    /// Takes the memory that a change needs; none where its space isn't there.
+    /// Makes a change ready, as `Space::reserve`; nothing changes where its space isn't there.
     ///
     /// # Errors
     /// Out of memory. Nothing changed then.
