@@ -27,6 +27,7 @@ pub mod WriterLaws
 pub mod ClaimLaws
 pub mod TakingLaws
 pub mod FaultLaws
+pub mod ShortLaws
 pub mod ItemLaws
 pub mod ProjectionLaws
 pub mod MapLaws

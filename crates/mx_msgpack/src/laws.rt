@@ -3,6 +3,7 @@
 ghost use Rattle.std.specs.Prelude.{◌≡◌, ◌↔◌, ◌⊎◌, ◌≤◌, ◌++◌, [], List, ℕ, length, take, Ok, Some};
 ghost use Rattle.std.specs.List.{concat};
 ghost use Rattle.mx_msgpack.specs.declared.bad.Bad.{Bad};
+ghost use Rattle.mx_msgpack.specs.declared.bad.Bad.TheVariants.{Short};
 ghost use Rattle.mx_msgpack.specs.Faults.{IsFault};
 ghost use Rattle.mx_msgpack.specs.Grammar.{Array, Spells, Value, Values, max_nesting};
 ghost use Rattle.mx_msgpack.specs.Items.{SpellEach, items_of};
@@ -50,4 +51,11 @@ pub fn array_items_are_spelled()
     ensures { (bytes : List ℕ) (values : Values) → Spells max_nesting (Array values) bytes
         → (head : List ℕ) × (items : List (List ℕ)) × (items_of bytes ≡ Some items)
         × (bytes ≡ head ++ concat items) × SpellEach 63 values items }
+{}
+
+/// A theorem, which does nothing when it is called: bytes that begin a spelling and don't end it end inside
+/// a value.
+pub fn a_proper_prefix_is_short()
+    ensures { (value : Value) (bytes missing : List ℕ) → Spells max_nesting value (bytes ++ missing) → 1 ≤ length missing
+        → IsFault max_nesting 0 bytes Short }
 {}
