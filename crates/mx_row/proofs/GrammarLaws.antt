@@ -248,7 +248,7 @@ parts_of kind entries pairs row read inner (Upserts k p) =
     ))))
 
 -- a row that is read is spelled
-row_is_spelled : (bytes : List ℕ) (found : (Header × Row) × List ℕ) → whole_row_at bytes ≡ Some found
+pub row_is_spelled : (bytes : List ℕ) (found : (Header × Row) × List ℕ) → whole_row_at bytes ≡ Some found
     → (front : List ℕ) × (bytes ≡ front ++ found.1) × SpellsRow found.0.0.replica.0 found.0.0.lsn.0 found.0.0.place found.0.1 front
 row_is_spelled bytes found e =
     let p = whole_row_parts bytes found e in

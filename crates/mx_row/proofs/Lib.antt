@@ -6,5 +6,6 @@ pub mod BehindLaws
 pub mod RowLaws
 pub mod EntryLaws
 pub mod GrammarLaws
+pub mod CutLaws
 pub mod GroupLaws
 pub mod TextLaws

@@ -4,5 +4,7 @@ pub mod Limits
 pub mod Clocks
 pub mod Rows
 pub mod Grammar
+pub mod Cuts
+pub mod Stops
 pub mod RowLists
 pub mod Views

@@ -2,11 +2,14 @@
 #![tactic(auto)]
 
 mod bodies;
+mod cut;
 mod header;
 mod laws;
 mod limits;
+mod owned_tx;
 mod reading;
 mod row;
+mod row_fault;
 mod row_list;
 mod row_ref;
 mod row_refs;
@@ -20,8 +23,10 @@ mod writing;
 
 pub use laws::{what_is_read_is_spelled, what_is_spelled_is_read, what_is_written_is_spelled};
 pub use limits::{MAX_ROWS, MAX_TRANSACTION_SIZE, ROW_HEADER_SIZE};
+pub use owned_tx::read_tx;
 pub use reading::read_tx_in_place;
 pub use row::Row;
+pub use row_fault::RowFault;
 pub use row_ref::RowRef;
 pub use row_refs::RowRefs;
 pub use rows::Rows;

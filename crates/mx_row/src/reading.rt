@@ -110,7 +110,7 @@ fn read_behind<'a>(
 /// The row that stands first with its header, and the bytes after it.
 #[inline]
 #[tactic(auto, unfolding(crate::specs::Rows::whole_row_at))]
-fn whole_row_at(bytes: &[u8]) -> Option<(Header, RowRef<'_>, &[u8])>
+pub(crate) fn whole_row_at(bytes: &[u8]) -> Option<(Header, RowRef<'_>, &[u8])>
     ensures { option_map (λ x. ((x.0, row_value x.1), x.2.now)) result ≡ whole_row_at bytes.now }
 {
     let (header, rest) = header_at(bytes)?;
@@ -119,7 +119,7 @@ fn whole_row_at(bytes: &[u8]) -> Option<(Header, RowRef<'_>, &[u8])>
 }
 
 /// The number of a row in its transaction.
-fn row_number(place: Place) -> u64
+pub(crate) fn row_number(place: Place) -> u64
     ensures { result ≡ row_number place }
 {
     match place {
@@ -129,7 +129,7 @@ fn row_number(place: Place) -> u64
 }
 
 /// Whether the row ends its transaction.
-fn ends_transaction(place: Place) -> bool
+pub(crate) fn ends_transaction(place: Place) -> bool
     ensures { result ≡ ends_transaction place }
 {
     match place {
@@ -139,7 +139,7 @@ fn ends_transaction(place: Place) -> bool
 }
 
 /// Whether the second header is that of the row after the first one's.
-fn comes_next(header: &Header, next: &Header) -> bool
+pub(crate) fn comes_next(header: &Header, next: &Header) -> bool
     ensures { result ≡ comes_next header.now next.now }
 {
     next.replica.0 == header.replica.0
@@ -155,7 +155,7 @@ fn is_next(number: u64, next: u64) -> bool
 
 #[inline]
 #[tactic(auto, unfolding(crate::specs::Rows::header_at))]
-fn header_at(bytes: &[u8]) -> Option<(Header, &[u8])>
+pub(crate) fn header_at(bytes: &[u8]) -> Option<(Header, &[u8])>
     ensures { option_map (λ x. (x.0, x.1.now)) result ≡ header_at bytes.now }
 {
     let mut values = [None; 5];
