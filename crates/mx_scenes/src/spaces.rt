@@ -4,7 +4,7 @@ use mx_base::{IndexId, Name, SpaceId};
 use mx_key::{KeyDef, Part, PartKind};
 use mx_msgpack::Bytes;
 use mx_schema::{IndexDef, IndexDefs, IndexKind, Keyed, Schema, SpaceDef, key_tuple};
-use mx_space::{BuildFault, Space};
+use mx_space::{BuildFault, Space, SpaceView};
 use mx_tuple::{Format, FormatEntries};
 use std::alloc::{AllocError, Global};
 use std::process::Abort;
@@ -69,7 +69,8 @@ fn holder_of<'a>(
 ) -> Result<Option<&'a [u8]>, AllocError> {
     let def = index_of(alloc, 1, 1)?;
     let keyed = keyed_by(alloc, &def, tuple)?;
-    Ok(space.holder(&def, &keyed.key))
+    let view = SpaceView { space, over: None };
+    view.holder(alloc, &def, &keyed.key)
 }
 
 fn put(alloc: Global, space: &mut Space, tuple: &[u8]) -> Result<(), AllocError> {

@@ -9,16 +9,16 @@ use Rattle.mx_key.specs.declared.edge.Edge.TheVariants as edge
 use Rattle.mx_key.specs.declared.edge.KeyRange.{KeyRange}
 use Rattle.mx_key.specs.Comparable.{bound_of, holds}
 use Rattle.mx_space.proofs.PickLaws.{entries_held}
-use Rattle.mx_space.specs.Entries.{IndexEntry, first_from}
+use Rattle.mx_space.specs.Entries.{first_from}
 
-abbrev head_of : List IndexEntry → Option IndexEntry
+abbrev head_of : {X : Type 0} → List X → Option X
 head_of [] = None
 head_of (entry ∷ others) = Some entry
 
 abbrev from : (key : List ℕ) → KeyRange
 from key = record { low = edge.Inclusive key; high = edge.Open }
 
-first_held : (key : List ℕ) (all : List IndexEntry) → head_of (filter (λ entry. holds (from key) entry.0) all) ≡ first_from key all
+first_held : {X : Type 0} (key : List ℕ) (all : List (List ℕ × X)) → head_of (filter (λ entry. holds (from key) entry.0) all) ≡ first_from key all
 first_held key [] = refl
 first_held key (entry ∷ all) = by_test (not (is_lt (slice_cmp nat_cmp entry.0 key))) (first_held key all)
   where
@@ -29,7 +29,7 @@ first_held key (entry ∷ all) = by_test (not (is_lt (slice_cmp nat_cmp entry.0 
     by_test false later = later
 
 -- what comes first between these bounds is the first entry from the key
-pub first_is : {A : Type 0} (view : A → IndexEntry) (found : Option A) (key : List ℕ) (all between rest : List IndexEntry)
+pub first_is : {A X : Type 0} (view : A → List ℕ × X) (found : Option A) (key : List ℕ) (all between rest : List (List ℕ × X))
     → between ≡ entries_between (slice_cmp nat_cmp) (bound_of (edge.Inclusive key)) (bound_of edge.Open) all
     → MatchOption found ((between ≡ []) × (rest ≡ [])) (λ entry. between ≡ view entry ∷ rest) → option_map view found ≡ first_from key all
 first_is view found key all between rest is steps =

@@ -1,6 +1,6 @@
 -- The tuple that has a key in a unique index is that of the first entry from the key, where it begins with it.
-use Rattle.std.proofs.Common.{◌≡◌, ◌≢◌, ℕ, Bool, true, false, cond, not, List, [], ◌∷◌, ◌++◌, map, length, take, Option, Some, None, Ok, inl, inr, refl, sym, ap, ◌∙◌, subst, append-nil, true≢false}
-use Rattle.std.specs.Prelude.{IsTrue, is_some, ◌==◌, if◌then◌else◌}
+use Rattle.std.proofs.Common.{◌≡◌, ◌≢◌, ℕ, Bool, true, false, cond, not, List, [], ◌∷◌, ◌++◌, map, length, take, Option, Some, None, Ok, inl, inr, refl, sym, ap, ◌∙◌, subst, append-nil}
+use Rattle.std.specs.Prelude.{is_some, ◌==◌, if◌then◌else◌}
 use Rattle.std.specs.FinMap.{empty, entries, entries_sorted, get, get-entries}
 use Rattle.std.specs.FinMap.Entries as pairs
 use Rattle.std.specs.List as list
@@ -25,7 +25,7 @@ use Rattle.mx_schema.proofs.TakenLaws.{each_found}
 use Rattle.mx_schema.proofs.PartLaws.{key_length}
 use Rattle.mx_space.specs.declared.space.Space.{Space}
 use Rattle.mx_space.specs.Changes.{index_kept}
-use Rattle.mx_space.specs.Entries.{IndexEntry, first_from}
+use Rattle.mx_space.specs.Entries.{IndexEntry, LeadsTo, first_from}
 use Rattle.mx_space.specs.Built.{AreLong}
 use Rattle.mx_space.specs.Kept.{HoldsOneEach, StoresByNumber, StoresEntries, StoresIndexed, entry_bytes, kept_entries}
 use Rattle.mx_space.specs.KeptKeys.{kept_key}
@@ -190,24 +190,27 @@ module _ (def : IndexDef) (unique : def.unique ≡ true) (tuples : Tuples) (one_
                 (sym key_is ∙ joined ∙ ap (λ p. comparable_of wanted ++ p) primary_is ∙ sym (keys_joined wanted entry.1)) in
                 (entry.1, own_fit, primary_is, first_holds entry is whole_key ∙ ap (λ t. get t wanted) (sym index_is), of.0, of.1)
 
-        pub first_is_held : (key primary : List ℕ) → first_from (comparable_of wanted) kept ≡ Some (key, primary) → key ≡ comparable_of wanted ++ primary
-            → (held : Option (List ℕ)) → ((own : Key) → AreFit own → primary ≡ comparable_of own → held ≡ get tuples own)
-            → held ≡ get (tuples_by_index def tuples) wanted
-        first_is_held key primary found joined held looked_up =
-            let first = first_is_of key primary found joined in
-            looked_up first.0 first.1 first.2 ∙ first.3
+        module _ (bytes : List ℕ) (is : bytes ≡ comparable_of wanted) where
+          -- where the index leads nowhere from the key, no tuple has it
+          pub none_has : LeadsTo bytes kept None → None ≡ get (tuples_by_index def tuples) wanted
+          none_has none = by_first (first_from bytes kept) refl
+            where
+              by_first : (first : Option IndexEntry) → first_from bytes kept ≡ first → None ≡ get (tuples_by_index def tuples) wanted
+              by_first None first = no_first (ap (λ k. first_from k kept) (sym is) ∙ first)
+              by_first (Some entry) first =
+                  other_first entry.0 entry.1 (ap (λ k. first_from k kept) (sym is) ∙ first) (λ joined. none entry.0 entry.1 first (joined ∙ ap (λ k. k ++ entry.1) (sym is)))
 
-        -- whether there is a tuple with the key
-        pub has_no_entry : first_from (comparable_of wanted) kept ≡ None → false ≡ is_some (get (tuples_by_index def tuples) wanted)
-        has_no_entry none = ap is_some (no_first none)
+          -- the tuple that it leads to has it
+          pub one_has : (primary : List ℕ) → LeadsTo bytes kept (Some primary)
+              → (own : Key) × AreFit own × (primary ≡ comparable_of own) × (get tuples own ≡ get (tuples_by_index def tuples) wanted)
+              × (tuple : List ℕ) × (get tuples own ≡ Some tuple)
+          one_has primary leads = first_is_of (bytes ++ primary) primary (ap (λ k. first_from k kept) (sym is) ∙ leads) (ap (λ k. k ++ primary) is)
 
-        pub has_entry : (key primary : List ℕ) → first_from (comparable_of wanted) kept ≡ Some (key, primary) → (joined : Bool)
-            → (IsTrue joined → key ≡ comparable_of wanted ++ primary) → (key ≡ comparable_of wanted ++ primary → IsTrue joined)
-            → joined ≡ is_some (get (tuples_by_index def tuples) wanted)
-        has_entry key primary found true from to =
-            let first = first_is_of key primary found (from refl) in
-            ap is_some (sym first.5 ∙ first.3)
-        has_entry key primary found false from to = ap is_some (other_first key primary found (λ joined. absurd (true≢false (sym (to joined)))))
+          -- whether there is one
+          pub some_has : {A : Type 0} (view : A → List ℕ) (found : Option A) → LeadsTo bytes kept (option_map view found)
+              → is_some found ≡ is_some (get (tuples_by_index def tuples) wanted)
+          some_has view None none = ap is_some (none_has none)
+          some_has view (Some entry) leads = let one = one_has (view entry) leads in ap is_some (sym one.5 ∙ one.3)
 
 -- ---- the tuple that a space has
 
@@ -240,19 +243,5 @@ module _ (schema : Option Schema) (space : Space) (all : Tuples) (def : IndexDef
         let index = index_found found is in
         subst (λ one. StoresEntries one (kept_entries def all)) (same_some index.0 kept (sym index.1 ∙ has)) index.2
 
-    pub held_by_none : (key : List ℕ) → key ≡ comparable_of wanted → first_from key kept ≡ None → None ≡ get (tuples_by_index def all) wanted
-    held_by_none key key_is none =
-        no_first def unique.0 all unique.1 unique.2 wanted long whole other fit kept keeps (ap (λ k. first_from k kept) (sym key_is) ∙ none)
-
-    pub held_by_other : (key entry own : List ℕ) → key ≡ comparable_of wanted → first_from key kept ≡ Some (entry, own) → entry ≢ key ++ own
-        → None ≡ get (tuples_by_index def all) wanted
-    held_by_other key entry own key_is begins not_joined =
-        other_first def unique.0 all unique.1 unique.2 wanted long whole other fit kept keeps entry own (ap (λ k. first_from k kept) (sym key_is) ∙ begins)
-        (λ joined. not_joined (joined ∙ ap (λ k. k ++ own) (sym key_is)))
-
-    pub held_by_first : (key entry own : List ℕ) → key ≡ comparable_of wanted → first_from key kept ≡ Some (entry, own) → entry ≡ key ++ own
-        → (held : Option (List ℕ)) → ((its : Key) → AreFit its → own ≡ comparable_of its → held ≡ get all its)
-        → held ≡ get (tuples_by_index def all) wanted
-    held_by_first key entry own key_is begins joined held looked_up =
-        first_is_held def unique.0 all unique.1 unique.2 wanted long whole other fit kept keeps entry own (ap (λ k. first_from k kept) (sym key_is) ∙ begins)
-        (joined ∙ ap (λ k. k ++ own) key_is) held looked_up
+    pub none_holds_key : (key : List ℕ) → key ≡ comparable_of wanted → LeadsTo key kept None → None ≡ get (tuples_by_index def all) wanted
+    none_holds_key key key_is none = none_has def unique.0 all unique.1 unique.2 wanted long whole other fit kept keeps key key_is none

@@ -179,10 +179,10 @@ module _ (def : IndexDef) (tuples : Tuples) (long : ℕ) (whole : AreLong long t
           by_unique false many = many_in_range def other tuples long whole many range
 
       -- what is found of the entries is what is found of the tuples
-      pub rows_are_found : (bytes : KeyRange) → bytes ≡ edges_of range → (offset limit : ℕ) → rows_found def.unique stored kept bytes iterator offset limit ≡ found_in (map stored_tuple all) bytes iterator offset limit
-      rows_are_found bytes edges offset limit = subst (λ r. rows_found def.unique stored kept r iterator offset limit ≡ found_in (map stored_tuple all) r iterator offset limit) (sym edges) by_keys
+      pub rows_are_found : (bytes : KeyRange) → bytes ≡ edges_of range → (offset limit : ℕ) → rows_found (indexed_row def.unique stored) kept bytes iterator offset limit ≡ found_in (map stored_tuple all) bytes iterator offset limit
+      rows_are_found bytes edges offset limit = subst (λ r. rows_found (indexed_row def.unique stored) kept r iterator offset limit ≡ found_in (map stored_tuple all) r iterator offset limit) (sym edges) by_keys
         where
-          by_keys : rows_found def.unique stored kept (edges_of range) iterator offset limit ≡ found_in (map stored_tuple all) (edges_of range) iterator offset limit
+          by_keys : rows_found (indexed_row def.unique stored) kept (edges_of range) iterator offset limit ≡ found_in (map stored_tuple all) (edges_of range) iterator offset limit
           by_keys =
               let down = descends iterator in
               let held : StoredTuple → Bool = λ entry. holds (edges_of range) entry.0 in

@@ -37,9 +37,11 @@ pub mod ShownLaws
 pub mod ShownRowLaws
 pub mod SoundLaws
 pub mod SpaceLaws
+pub mod SplitLaws
 pub mod StateViewLaws
 pub mod StopLaws
 pub mod ViewLaws
 pub mod WholeKeyLaws
+pub mod WholeRowLaws
 pub mod WindowLaws
 pub mod ZipLaws

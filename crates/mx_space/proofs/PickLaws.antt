@@ -74,7 +74,7 @@ between_is_held : (range : KeyRange) (bytes : List ℕ)
     → range_contains (slice_cmp nat_cmp) (bound_of range.low) (bound_of range.high) bytes ≡ holds range bytes
 between_is_held range bytes = λ i. between_from range.low bytes i && between_up_to range.high bytes i
 
-pub entries_held : (range : KeyRange) (entries : List StoredTuple)
+pub entries_held : {X : Type 0} (range : KeyRange) (entries : List (List ℕ × X))
     → entries_between (slice_cmp nat_cmp) (bound_of range.low) (bound_of range.high) entries ≡ filter (λ entry. holds range entry.0) entries
 entries_held range entries = λ i. filter (λ entry. between_is_held range entry.0 i) entries
 

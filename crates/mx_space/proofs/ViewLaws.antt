@@ -1,5 +1,5 @@
 -- The tuples that a view shows, and the one that has a key in a unique index.
-use Rattle.std.proofs.Common.{◌≡◌, ◌≢◌, ℕ, true, false, List, [], ◌∷◌, ◌++◌, length, Option, Some, None, Ok, inl, inr, refl, sym, ap, ◌∙◌, subst, true≢false}
+use Rattle.std.proofs.Common.{◌≡◌, ◌≢◌, ℕ, true, false, List, [], ◌∷◌, length, Option, Some, None, Ok, inl, inr, refl, sym, ap, ◌∙◌, subst, true≢false}
 use Rattle.std.specs.Prelude.{◌⊎◌, is_some}
 use Rattle.std.specs.FinMap.{empty, entries, get, get-empty}
 use Rattle.std.specs.List.{AllByRecursion}
@@ -20,10 +20,10 @@ use Rattle.mx_space.specs.declared.overlay.OverlaidSpace.{OverlaidSpace}
 use Rattle.mx_space.specs.declared.space.Space.{Space}
 use Rattle.mx_space.specs.Built.{AreLong}
 use Rattle.mx_space.specs.Changes.{index_kept}
-use Rattle.mx_space.specs.Entries.{IndexEntry, first_from}
+use Rattle.mx_space.specs.Entries.{IndexEntry, LeadsTo}
 use Rattle.mx_space.specs.Kept.{HoldsOneEach, StoresEntries, StoresIndexed, kept_entries}
 use Rattle.mx_space.specs.Overlays.{IsHolder, OwnWrites, StoresOver, StoresWritten, hides, under}
-use Rattle.mx_space.proofs.HolderLaws.{first_is_of, index_found, one_holder, unique_apart}
+use Rattle.mx_space.proofs.HolderLaws.{index_found, one_holder, one_has, unique_apart}
 use Rattle.mx_space.proofs.IndexedLaws.{held_is, held_there}
 use Rattle.mx_space.proofs.MemberLaws.{each_is_found}
 use Rattle.mx_space.proofs.OverlayLaws.{get-under, under_none}
@@ -125,7 +125,7 @@ module _ (def : IndexDef) (apart : def.id.0 ≢ 0) (tuples : Tuples) (each : Hol
   unique : (def.unique ≡ true) × AreUnique def tuples × HaveKeys def tuples
   unique = unique_of def tuples apart each
 
-  holder_of : (tuple : List ℕ) → get (tuples_by_index def tuples) wanted ≡ Some tuple → (primary : Key) × (get tuples primary ≡ Some tuple) × (entry_key def primary tuple ≡ wanted)
+  pub holder_of : (tuple : List ℕ) → get (tuples_by_index def tuples) wanted ≡ Some tuple → (primary : Key) × (get tuples primary ≡ Some tuple) × (entry_key def primary tuple ≡ wanted)
   holder_of tuple is =
       held_there def tuples (unique_apart def unique.0 tuples unique.1 unique.2) wanted tuple (sym (ap (λ t. get t wanted) (other_index def tuples apart)) ∙ is)
 
@@ -140,13 +140,12 @@ module _ (def : IndexDef) (apart : def.id.0 ≢ 0) (tuples : Tuples) (each : Hol
 pub holder_is : (schema : Option Schema) (space : Space) (all : Tuples) (def : IndexDef) (wanted : Key) → StoresIndexed schema space all
     → (long : ℕ) → AreLong long all → index_with def.id.0 space.schema.indexes ≡ Some def → HoldsOneEach def all → def.id.0 ≢ 0 → AreFit wanted
     → (kept : List IndexEntry) → Some kept ≡ index_kept def.id.0 space.schema.indexes space.indexes.items
-    → (key entry own : List ℕ) → key ≡ comparable_of wanted → first_from key kept ≡ Some (entry, own) → entry ≡ key ++ own → IsHolder def all wanted own
-holder_is schema space all def wanted stores long whole there each apart fit kept is key entry own key_is begins joined =
+    → (key own : List ℕ) → key ≡ comparable_of wanted → LeadsTo key kept (Some own) → IsHolder def all wanted own
+holder_is schema space all def wanted stores long whole there each apart fit kept is key own key_is leads =
     let index = index_found schema space all def wanted stores long whole there each fit apart (Some kept) is in
     let keeps : StoresEntries kept (kept_entries def all) = subst (λ one. StoresEntries one (kept_entries def all)) (same_some index.0 kept (sym index.1)) index.2 in
     let unique = unique_of def all apart each in
-    let found = first_is_of def unique.0 all unique.1 unique.2 wanted long whole (ne_eqb def.id.0 0 apart) fit kept keeps entry own
-    (ap (λ k. first_from k kept) (sym key_is) ∙ begins) (joined ∙ ap (λ k. k ++ own) key_is) in
+    let found = one_has def unique.0 all unique.1 unique.2 wanted long whole (ne_eqb def.id.0 0 apart) fit kept keeps key key_is own leads in
     record { own = found.0; fit = found.1; is = found.2; holds = found.3 }
 
 module _ (def : IndexDef) (apart : def.id.0 ≢ 0) (written : OwnWrites) (all : Tuples) (each : HoldsOneEach def all) (each_seen : HoldsOneEach def (under written all)) (wanted : Key) where

@@ -140,7 +140,7 @@ key_of_entry test (entry ∷ kept) = by_test (test entry.0) (key_of_entry test k
     by_test true others = refl
     by_test false others = others
 
-value_of_entry : (test : List ℕ → Bool) (kept : List StoredTuple) → lookup test kept ≡ option_map (λ entry. entry.1) (lookup_entry test kept)
+pub value_of_entry : (test : List ℕ → Bool) (kept : List StoredTuple) → lookup test kept ≡ option_map (λ entry. entry.1) (lookup_entry test kept)
 value_of_entry test [] = refl
 value_of_entry test (entry ∷ kept) = by_test (test entry.0) (value_of_entry test kept)
   where
@@ -196,6 +196,18 @@ pair_found one two found test kept k v = by_found found (lookup_entry test kept)
 
 inclusive_is : (one other : List ℕ) → edge.Inclusive one ≡ edge.Inclusive other → one ≡ other
 inclusive_is one other e = cc
+
+-- a range of EQ or REQ begins with its key
+pub whole_bytes : (iterator : IterKind) (key : Key) → (iterator ≡ Eq) ⊎ (iterator ≡ Req) → (range : KeyRange) (bytes : List ℕ)
+    → range ≡ edges_of (range_of iterator key) → range.low ≡ edge.Inclusive bytes → bytes ≡ comparable_of key
+whole_bytes iterator key exact range bytes edges low = by_key key exact edges
+  where
+    by_key : (key : Key) → (iterator ≡ Eq) ⊎ (iterator ≡ Req) → range ≡ edges_of (range_of iterator key) → bytes ≡ comparable_of key
+    by_key [] exact edges = let none : edge.Inclusive bytes ≡ edge.Open = sym low ∙ ap (λ r. r.low) edges in absurd cc
+    by_key (part ∷ parts) (inl same) edges =
+        inclusive_is bytes (comparable_of (part ∷ parts)) (sym low ∙ ap (λ r. r.low) (edges ∙ ap edges_of (ap (λ i. range_by i (part ∷ parts)) same)))
+    by_key (part ∷ parts) (inr same) edges =
+        inclusive_is bytes (comparable_of (part ∷ parts)) (sym low ∙ ap (λ r. r.low) (edges ∙ ap edges_of (ap (λ i. range_by i (part ∷ parts)) same)))
 
 -- what a lookup of such a key finds is what the scan of its range does
 pub whole_found : (tuples : Tuples) → AreFitEntries (entries tuples) → (kept : List StoredTuple) → map stored_tuple (entries tuples) ≡ kept → (iterator : IterKind) (key : Key)

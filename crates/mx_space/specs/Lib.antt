@@ -10,6 +10,7 @@ pub mod OwnChanges
 pub mod OwnCommit
 pub mod Reserved
 pub mod Reserves
+pub mod ScanRanges
 pub mod Scans
 pub mod Selecting
 pub mod ShownRows

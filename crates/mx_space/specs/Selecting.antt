@@ -65,12 +65,12 @@ indexed_row unique tuples entry = (key_in_index unique entry.0 entry.1, tuple_st
 
 abbrev pub row_of : Source → StoredTuple → StoredTuple
 row_of source.Entries entry = entry
-row_of (source.Tuples tuples unique) entry = indexed_row unique tuples.now.entries entry
+row_of (source.Tuples alloc tuples unique) entry = indexed_row unique tuples.now.entries entry
 
--- the tuples that a scan of these keys finds by the entries of an index
-abbrev pub rows_found : (unique : Bool) → List StoredTuple → List IndexEntry → KeyRange → IterKind → (offset limit : ℕ) → List StoredTuple
-rows_found unique tuples kept range iterator offset limit =
-    take limit (map (indexed_row unique tuples) (drop offset (directed (descends iterator) (filter (λ entry. holds range entry.0) kept))))
+-- the rows that a scan of these keys makes of the entries of an index
+abbrev pub rows_found : (IndexEntry → StoredTuple) → List IndexEntry → KeyRange → IterKind → (offset limit : ℕ) → List StoredTuple
+rows_found row kept range iterator offset limit =
+    take limit (map row (drop offset (directed (descends iterator) (filter (λ entry. holds range entry.0) kept))))
 
 -- an entry that was looked up, where the offset doesn't skip it
 abbrev pub one_found : (offset : ℕ) → Option StoredTuple → List StoredTuple

@@ -15,7 +15,7 @@ ghost use Rattle.mx_space.specs.Builds.{build_fault, build_fault_of, row_fault};
 ghost use Rattle.mx_space.specs.Built.{AreLong, IsBuilt};
 ghost use Rattle.mx_space.specs.Kept.{StoresEntries, StoresIndex, kept_entries};
 
-use crate::entries::is_joined;
+use crate::entries::whole_entry;
 use crate::index::Index;
 use crate::tree_index::TreeIndex;
 use mx_key::{KeyFault, NoKey, key_of_tuple};
@@ -100,8 +100,7 @@ fn add_row(
         return Err(BuildFault::Duplicate);
     }
     key.extend_from_slice(primary.as_slice())?;
-    let primary = Bytes::from_slice(alloc, primary.as_slice())?;
-    index.insert(key, primary)?;
+    index.insert(key, primary.as_slice())?;
     Ok(())
 }
 
@@ -110,10 +109,7 @@ fn has_key(index: &TreeIndex, key: &Bytes) -> bool
     ensures { (def : indexed.IndexDef) (before : plain.Tuples) (long : ℕ) (wanted : Key) → IsBuilt def long before index.now → (def.id.0 == 0) ≡ false → def.unique ≡ true
         → AreFit wanted → key.now ≡ comparable_of wanted → result ≡ is_some (finite.get (tuples_by_index def before) wanted) }
 {
-    match index.first_from(key) {
-        Some((entry, primary)) => is_joined(entry.as_slice(), key.as_slice(), primary.as_slice()),
-        None => false,
-    }
+    whole_entry(index, key).is_some()
 }
 
 fn index_key(alloc: Global, def: &IndexDef, tuple: &[u8]) -> Result<Bytes, BuildFault>

@@ -75,7 +75,7 @@ pub(crate) fn remove_all(indexes: &mut [TreeIndex], keys: &[Option<Bytes>])
 /// Adds an entry, where there is a key, unless one stands under it. Returns whether it did.
 ///
 /// # Errors
-/// Out of memory. Nothing changed then.
+/// Out of memory, or the key doesn't end with the primary key. Nothing changed then.
 pub(crate) fn add(
     alloc: Global,
     index: &mut TreeIndex,
@@ -90,7 +90,6 @@ pub(crate) fn add(
         return Ok(false);
     };
     let key = Bytes::from_slice(alloc, key.as_slice())?;
-    let primary = Bytes::from_slice(alloc, primary)?;
     index.insert(key, primary)
 }
 

@@ -10,13 +10,22 @@ use mx_msgpack::Bytes;
 use std::alloc::{AllocError, Global};
 use std::collections::BTreeMap;
 
-/// A copy of entries, node by node.
+/// A copy of tuples, node by node.
 pub(crate) fn copy_of_entries(
     entries: &BTreeMap<Bytes, Bytes>,
 ) -> Result<BTreeMap<Bytes, Bytes>, AllocError>
     ensures { IfOk result (λ copy. copy.entries ≡ entries.now.entries) }
 {
     entries.clone()
+}
+
+/// A copy of an index's entries, node by node.
+pub(crate) fn copy_of_begins(
+    begins: &BTreeMap<Bytes, u32>,
+) -> Result<BTreeMap<Bytes, u32>, AllocError>
+    ensures { IfOk result (λ copy. copy.entries ≡ begins.now.entries) }
+{
+    begins.clone()
 }
 
 /// Puts a value under its key, in place of one that is there.

@@ -1,17 +1,17 @@
 //! Range scans: what a SELECT picks of an index's entries.
 
-ghost use Rattle.std.specs.Prelude.{◌≡◌, ◌<◌, ◌≤◌, ◌+◌, ◌∷◌, [], take, drop, map, MatchOption, MatchResult};
+ghost use Rattle.std.specs.Prelude.{◌≡◌, ◌<◌, ◌≤◌, ◌+◌, [], take, map, IfOk, MatchResult};
 ghost use Rattle.std.specs.Option.{option_map};
 ghost use Rattle.mx_space.specs.declared.pick.SelectFault.TheVariants as fault;
 ghost use Rattle.mx_space.specs.declared.pick.SelectStop.TheVariants.{TooLong, NoMemory};
 ghost use Rattle.mx_schema.specs.Picks.{directed, max_result_size};
 ghost use Rattle.mx_space.specs.Selecting.{IsCollected, IsStopped, key_in_index, one_found, row_of, select_fault_of, stop_fault_of, tuple_stored};
 
+use crate::scan::Scan;
 use mx_key::{IterKind, Misfit, RangeFault};
 use mx_msgpack::{Bytes, Tuples};
-use std::alloc::AllocError;
+use std::alloc::{AllocError, Global};
 use std::collections::BTreeMap;
-use std::collections::btree_map::Range;
 
 /// The maximum size of a SELECT's result, in bytes.
 pub const MAX_RESULT_SIZE: usize = 16_777_216;
@@ -93,6 +93,7 @@ pub(crate) enum Source<'a> {
     Entries,
     /// Among these, under the primary keys that the entries of an index have.
     Tuples {
+        alloc: Global,
         tuples: &'a BTreeMap<Bytes, Bytes>,
         unique: bool,
     },
@@ -100,15 +101,23 @@ pub(crate) enum Source<'a> {
 
 impl<'a> Source<'a> {
     /// An entry's key, without the primary key that follows it in a unique index, and the entry's tuple.
-    pub(crate) fn row(self, key: &'a Bytes, value: &'a Bytes) -> (&'a [u8], &'a [u8])
-        ensures { (result.0.now, result.1.now) ≡ row_of self.entry (key.now, value.now) }
+    pub(crate) fn row(
+        self,
+        key: &'a Bytes,
+        value: &'a [u8],
+    ) -> Result<(&'a [u8], &'a [u8]), AllocError>
+        ensures { IfOk result (λ row. (row.0.now, row.1.now) ≡ row_of self.entry (key.now, value.now)) }
     {
         match self {
-            Source::Entries => (key.as_slice(), value.as_slice()),
-            Source::Tuples { tuples, unique } => (
-                key_in_index(unique, key.as_slice(), value.as_slice()),
-                tuple_stored(tuples, value),
-            ),
+            Source::Entries => Ok((key.as_slice(), value)),
+            Source::Tuples {
+                alloc,
+                tuples,
+                unique,
+            } => Ok((
+                key_in_index(unique, key.as_slice(), value),
+                tuple_stored(alloc, tuples, value)?,
+            )),
         }
     }
 }
@@ -125,45 +134,23 @@ fn key_in_index<'a>(unique: bool, key: &'a [u8], primary: &[u8]) -> &'a [u8]
 }
 
 /// The tuple under a primary key; no bytes where there is none.
-fn tuple_stored<'a>(tuples: &'a BTreeMap<Bytes, Bytes>, primary: &Bytes) -> &'a [u8]
-    ensures { result.now ≡ tuple_stored tuples.now.entries primary.now }
+pub(crate) fn tuple_stored<'a>(
+    alloc: Global,
+    tuples: &'a BTreeMap<Bytes, Bytes>,
+    primary: &[u8],
+) -> Result<&'a [u8], AllocError>
+    ensures { IfOk result (λ tuple. tuple.now ≡ tuple_stored tuples.now.entries primary.now) }
 {
-    match tuples.get(primary) {
-        Some(tuple) => tuple.as_slice(),
-        None => &[],
-    }
-}
-
-pub(crate) fn next_in<'a>(
-    entries: &mut Range<'a, Bytes, Bytes>,
-    down: bool,
-) -> Option<(&'a Bytes, &'a Bytes)>
-    ensures { MatchOption result
-        ((directed down entries.old ≡ []) × (directed down entries.new ≡ []))
-        (λ entry. directed down entries.old ≡ (entry.0.now, entry.1.now) ∷ directed down entries.new) }
-{
-    if down {
-        entries.next_back()
-    } else {
-        entries.next()
-    }
-}
-
-pub(crate) fn pass_over(entries: &mut Range<'_, Bytes, Bytes>, down: bool, count: u32)
-    ensures { directed down entries.new ≡ drop count (directed down entries.old) }
-{
-    let mut left = count;
-    while left > 0 {
-        if next_in(entries, down).is_none() {
-            return;
-        }
-        left -= 1;
+    let primary = Bytes::from_slice(alloc, primary)?;
+    match tuples.get(&primary) {
+        Some(tuple) => Ok(tuple.as_slice()),
+        None => Ok(&[]),
     }
 }
 
 /// Copies the tuples of at most so many entries, and gives the key of the last one.
 pub(crate) fn collect<'a>(
-    entries: &mut Range<'a, Bytes, Bytes>,
+    entries: &mut Scan<'a>,
     down: bool,
     source: Source<'a>,
     limit: u32,
@@ -178,10 +165,10 @@ pub(crate) fn collect<'a>(
     let mut bytes = 0;
     let mut left = limit;
     while left > 0 {
-        let Some((key, value)) = next_in(entries, down) else {
+        let Some((key, value)) = entries.next(down) else {
             return Ok(last);
         };
-        let (key, tuple) = source.row(key, value);
+        let (key, tuple) = source.row(key, value)?;
         bytes = result_size(bytes, tuple.len())?;
         tuples.push(tuple)?;
         last = Some(key);
@@ -190,26 +177,26 @@ pub(crate) fn collect<'a>(
     Ok(last)
 }
 
-/// As `collect`, of an entry, if there is one, that has its tuple and that the offset may skip.
+/// As `collect`, of a key with its tuple, if there is one, that the offset may skip.
 pub(crate) fn collect_one<'a>(
-    entry: Option<(&'a Bytes, &'a Bytes)>,
+    row: Option<(&'a [u8], &'a [u8])>,
     offset: u32,
     tuples: &mut Tuples,
 ) -> Result<Option<&'a [u8]>, SelectStop>
     requires { tuples.old ≡ [] }
     ensures { MatchResult result
-        (λ last. IsCollected tuples.new (one_found offset (option_map (λ one. (one.0.now, one.1.now)) entry.entry)) (option_map (λ key. key.now) last))
-        (λ stop. IsStopped stop (one_found offset (option_map (λ one. (one.0.now, one.1.now)) entry.entry))) }
+        (λ last. IsCollected tuples.new (one_found offset (option_map (λ one. (one.0.now, one.1.now)) row.entry)) (option_map (λ key. key.now) last))
+        (λ stop. IsStopped stop (one_found offset (option_map (λ one. (one.0.now, one.1.now)) row.entry))) }
 {
-    let Some((key, tuple)) = entry else {
+    let Some((key, tuple)) = row else {
         return Ok(None);
     };
     if offset > 0 {
         return Ok(None);
     }
     result_size(0, tuple.len())?;
-    tuples.push(tuple.as_slice())?;
-    Ok(Some(key.as_slice()))
+    tuples.push(tuple)?;
+    Ok(Some(key))
 }
 
 pub(crate) fn result_size(bytes: usize, more: usize) -> Result<usize, SelectStop>

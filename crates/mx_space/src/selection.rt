@@ -4,7 +4,9 @@ ghost use Rattle.std.specs.Prelude.{◌≡◌, ◌≢◌, ◌⊎◌, ◌<◌, Li
 ghost use Rattle.std.specs.BTreeMap.Range.{IsLeBy, IsLtBy};
 ghost use Rattle.std.specs.Cmp.Lexicographic.{slice_cmp};
 ghost use Rattle.std.specs.FinMap as finite;
+ghost use Rattle.std.specs.BTreeMap.{is_at};
 ghost use Rattle.std.specs.List.{AllByRecursion};
+ghost use Rattle.std.specs.Map.{lookup_entry};
 ghost use Rattle.std.specs.Option.{option_map};
 ghost use Rattle.std.specs.Ordering.{nat_cmp};
 ghost use Rattle.std.specs.Range.Bound.{IsForward};
@@ -19,11 +21,12 @@ ghost use Rattle.mx_schema.specs.Picks.{Indexed, tuples_by_index, indexed_with};
 ghost use Rattle.mx_schema.specs.State as plain;
 ghost use Rattle.mx_schema.specs.Stored.{StoresTuples, stored_tuple};
 ghost use Rattle.mx_space.specs.Scans.{Selects, SelectsByKey};
-ghost use Rattle.mx_space.specs.Selecting.{AreFitEntries, IsCollected, IsStopped, as_fault, found_in, rows_found};
+ghost use Rattle.mx_space.specs.Selecting.{AreFitEntries, IsCollected, IsStopped, as_fault, found_in, row_of, rows_found};
 
 use crate::copy::set_entry;
 use crate::index::Index;
-use crate::pick::{Pick, SelectFault, SelectStop, Source, collect, collect_one, pass_over};
+use crate::pick::{Pick, SelectFault, SelectStop, Source, collect, collect_one};
+use crate::scan::Scan;
 use crate::tree_index::TreeIndex;
 use mx_key::{Edge, IterKind, KeyRange, range_of_key};
 use mx_msgpack::{Bytes, Tuples, known_array};
@@ -101,7 +104,7 @@ fn is_whole_key(is_own: bool, is_first: bool, def: &IndexDef, key: &[u8]) -> boo
 }
 
 /// Whether a key, which is an array, has as many parts as the index.
-fn has_all_parts(def: &IndexDef, key: &[u8]) -> bool
+pub(crate) fn has_all_parts(def: &IndexDef, key: &[u8]) -> bool
     requires array { IsArray key.now }
     ensures { IsTrue result → (fitting : Key) → key_of_array def.now.key key.now ≡ Ok fitting → length fitting ≡ length def.now.key }
 {
@@ -151,22 +154,21 @@ fn select_range(
 pub(crate) fn select_entries(
     alloc: Global,
     index: &TreeIndex,
-    tuples: &BTreeMap<Bytes, Bytes>,
-    unique: bool,
+    source: Source<'_>,
     range: KeyRange,
     wanted: &Pick<'_>,
     found: &mut Tuples,
 ) -> Result<Option<KeyRange>, SelectStop>
     requires { IsForward (IsLeBy (slice_cmp nat_cmp)) (IsLtBy (slice_cmp nat_cmp)) (bound_of range.low) (bound_of range.high) }
     ensures { (all : List Indexed) (key : Key) → AreFitEntries all → AreFit key → range ≡ edges_of (range_of wanted.now.iterator key)
-        → rows_found unique tuples.now.entries index.now range wanted.now.iterator wanted.now.offset wanted.now.limit ≡ found_in (map stored_tuple all) range wanted.now.iterator wanted.now.offset wanted.now.limit
+        → rows_found (row_of source.entry) index.now range wanted.now.iterator wanted.now.offset wanted.now.limit ≡ found_in (map stored_tuple all) range wanted.now.iterator wanted.now.offset wanted.now.limit
         → Selects all wanted.now key found.new result }
 {
     found.clear();
     if wanted.limit == 0 {
         return Ok(None);
     }
-    let last = collect_rows(index, tuples, unique, &range, wanted, found)?;
+    let last = collect_rows(index, source, &range, wanted, found)?;
     Ok(Some(read_to(alloc, range, wanted, found, last)?))
 }
 
@@ -194,8 +196,7 @@ pub(crate) fn read_to(
 /// Copies the tuples that the entries in the range lead to, and gives the key of the last one.
 fn collect_rows<'a>(
     index: &'a TreeIndex,
-    tuples: &'a BTreeMap<Bytes, Bytes>,
-    unique: bool,
+    source: Source<'a>,
     range: &KeyRange,
     wanted: &Pick<'_>,
     found: &mut Tuples,
@@ -203,13 +204,12 @@ fn collect_rows<'a>(
     requires none { found.old ≡ [] }
     requires forward { IsForward (IsLeBy (slice_cmp nat_cmp)) (IsLtBy (slice_cmp nat_cmp)) (bound_of range.now.low) (bound_of range.now.high) }
     ensures { MatchResult result
-        (λ last. IsCollected found.new (rows_found unique tuples.now.entries index.now range.now wanted.now.iterator wanted.now.offset wanted.now.limit) (option_map (λ key. key.now) last))
-        (λ stop. IsStopped stop (rows_found unique tuples.now.entries index.now range.now wanted.now.iterator wanted.now.offset wanted.now.limit)) }
+        (λ last. IsCollected found.new (rows_found (row_of source.entry) index.now range.now wanted.now.iterator wanted.now.offset wanted.now.limit) (option_map (λ key. key.now) last))
+        (λ stop. IsStopped stop (rows_found (row_of source.entry) index.now range.now wanted.now.iterator wanted.now.offset wanted.now.limit)) }
 {
     let down = wanted.iterator.descends();
-    let mut entries = index.range(range.low_bound(), range.high_bound());
-    pass_over(&mut entries, down, wanted.offset);
-    let source = Source::Tuples { tuples, unique };
+    let mut entries = index.scan(range);
+    entries.pass_over(down, wanted.offset);
     collect(&mut entries, down, source, wanted.limit, found)
 }
 
@@ -232,18 +232,26 @@ fn collect_found<'a>(
 {
     if is_whole {
         if let Some(key) = exact_key(range, wanted.iterator) {
-            let entry = kept.get_key_value(key);
-            return collect_one(entry, wanted.offset, found);
+            let row = stored_row(kept, key);
+            return collect_one(row, wanted.offset, found);
         }
     }
     let down = wanted.iterator.descends();
-    let mut entries = kept.range((range.low_bound(), range.high_bound()));
-    pass_over(&mut entries, down, wanted.offset);
+    let mut entries = Scan::of_tuples(kept, range);
+    entries.pass_over(down, wanted.offset);
     collect(&mut entries, down, Source::Entries, wanted.limit, found)
 }
 
+/// The key of an entry, and its tuple.
+fn stored_row<'a>(kept: &'a BTreeMap<Bytes, Bytes>, key: &Bytes) -> Option<(&'a [u8], &'a [u8])>
+    ensures { option_map (λ row. (row.0.now, row.1.now)) result ≡ lookup_entry (is_at (slice_cmp nat_cmp key.now)) kept.now.entries }
+{
+    let (key, tuple) = kept.get_key_value(key)?;
+    Some((key.as_slice(), tuple.as_slice()))
+}
+
 /// The key with which a range of EQ or REQ begins.
-fn exact_key(range: &KeyRange, iterator: IterKind) -> Option<&Bytes>
+pub(crate) fn exact_key(range: &KeyRange, iterator: IterKind) -> Option<&Bytes>
     ensures { IfSome result (λ key. (range.now.low ≡ edges.Inclusive key.now) × ((iterator ≡ iterators.Eq) ⊎ (iterator ≡ iterators.Req))) }
 {
     match iterator {

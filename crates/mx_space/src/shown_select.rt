@@ -39,7 +39,7 @@ pub(crate) fn select_rows(
     if wanted.limit == 0 {
         return Ok(None);
     }
-    rows.pass_over(wanted.offset);
+    rows.pass_over(wanted.offset)?;
     let last = collect_shown(&mut rows, wanted.limit, found)?;
     Ok(Some(read_to(alloc, range, wanted, found, last)?))
 }
@@ -59,7 +59,7 @@ fn collect_shown<'a>(
     let mut bytes = 0;
     let mut left = limit;
     while left > 0 {
-        let Some((key, tuple)) = rows.next() else {
+        let Some((key, tuple)) = rows.next()? else {
             return Ok(last);
         };
         bytes = result_size(bytes, tuple.len())?;

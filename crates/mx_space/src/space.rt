@@ -20,7 +20,7 @@ ghost use Rattle.mx_space.specs.declared.build.BuildFault.TheVariants.{NoMemory}
 ghost use Rattle.mx_space.specs.Builds.{build_fault};
 ghost use Rattle.mx_space.specs.Built.{AreLong};
 ghost use Rattle.mx_space.specs.Changes.{Puts, Removes, index_kept};
-ghost use Rattle.mx_space.specs.Kept.{HoldsOneEach, StoresIndexed};
+ghost use Rattle.mx_space.specs.Kept.{StoresIndexed};
 ghost use Rattle.mx_space.specs.Reserved.{EditsAll, IsStepOf, content_of, content_installed, content_readied, content_released};
 ghost use Rattle.mx_space.specs.Scans.{SelectsByKey};
 
@@ -28,9 +28,7 @@ use crate::build::{BuildFault, new_entries};
 use crate::change::{Change, put_all, remove_all};
 use crate::changes::{changes_of, edits_of, removals_of};
 use crate::copy::{copy_of_entries, copy_of_indexes};
-use crate::entries::is_joined;
-use crate::index::Index;
-use crate::pick::{Pick, SelectFault};
+use crate::pick::{Pick, SelectFault, Source};
 use crate::places::{
     clear_all, find_index, insert_index, place_behind, remove_index, remove_indexes,
 };
@@ -39,6 +37,7 @@ use crate::reserve::{put_back, remove_added, remove_replaced, remove_tuple, rese
 use crate::selection::{as_fault, select_entries};
 use crate::tree_index::TreeIndex;
 use crate::tuple_changes::TupleChange;
+use crate::whole_row::{find_row, select_row, whole_key};
 use mx_base::IndexId;
 use mx_key::{KeyRange, range_of_key};
 use mx_msgpack::{Bytes, Tuples};
@@ -114,25 +113,6 @@ impl Space {
         Some(tuple.as_slice())
     }
 
-    /// The tuple that has the key of these comparable bytes in a unique index, or in that of the number 0,
-    /// where each tuple has a key in the index and no two have one.
-    pub fn holder(&self, def: &IndexDef, key: &Bytes) -> Option<&[u8]>
-        ensures { (schema : Option described.Schema) (all : plain.Tuples) (primary : indexed.IndexDef) (wanted : Key) → StoresIndexed schema self.now all
-            → index_with 0 self.now.schema.indexes ≡ Some primary → index_with def.now.id.0 self.now.schema.indexes ≡ Some def.now
-            → HoldsOneEach def.now all → AreFit wanted → key.now ≡ comparable_of wanted
-            → option_copied result ≡ finite.get (tuples_by_index def.now all) wanted }
-    {
-        if def.id.0 == 0 {
-            return self.tuple(key);
-        }
-        let index = self.index(def.id)?;
-        let (entry, primary) = index.first_from(key)?;
-        if !is_joined(entry.as_slice(), key.as_slice(), primary.as_slice()) {
-            return None;
-        }
-        self.tuple(primary)
-    }
-
     /// As `State::select`, by the entries that are kept of an index of another number than 0.
     pub(crate) fn select(
         &self,
@@ -151,7 +131,16 @@ impl Space {
         let Some(index) = self.index(def.id) else {
             return Err(SelectFault::NoMemory);
         };
-        as_fault(select_entries(alloc, index, &self.tuples, def.unique, range, wanted, found))
+        if let Some(key) = whole_key(def, &range, wanted) {
+            let row = find_row(alloc, index, &self.tuples, key)?;
+            return as_fault(select_row(alloc, row, range, wanted, found));
+        }
+        let source = Source::Tuples {
+            alloc,
+            tuples: &self.tuples,
+            unique: def.unique,
+        };
+        as_fault(select_entries(alloc, index, source, range, wanted, found))
     }
 
     /// Puts a tuple in the place of the one that has its primary key, in every index. The space has an index

@@ -1,29 +1,34 @@
 //! An index in the order of its keys.
 
-ghost use Rattle.std.specs.Prelude.{◌≡◌, [], IfOk};
+ghost use Rattle.std.specs.Prelude.{◌≡◌, [], drop, not, IfOk, IfSome, OnOk, OnErr};
+ghost use Rattle.std.specs.Option.{option_map};
+ghost use Rattle.mx_space.specs.Entries.{first_from, has_entry, with_entry};
 
-use crate::copy::copy_of_entries;
+use crate::copy::copy_of_begins;
 use crate::index::Index;
+use crate::scan::{Scan, behind};
+use mx_key::KeyRange;
 use mx_msgpack::Bytes;
 use std::alloc::{AllocError, Global};
 use std::collections::BTreeMap;
-use std::collections::btree_map::{Entry, Range};
+use std::collections::btree_map::Entry;
 use std::marker::Model;
 use std::ops::Bound;
 
 /// The entries of an index in the order of their keys.
 #[derive(Drop)]
 pub struct TreeIndex {
-    entries: BTreeMap<Bytes, Bytes>,
+    // A primary key is the end of its entry's key, so only the place where it begins is kept with it.
+    begins: BTreeMap<Bytes, u32>,
 }
 
 impl Model for TreeIndex {
     ghost use Rattle.std.specs.Prelude.{List};
-    ghost use Rattle.mx_space.specs.Entries.{IndexEntry};
+    ghost use Rattle.mx_space.specs.Entries.{IndexEntry, entries_split};
 
     ghost Value = { List IndexEntry };
 
-    ghost view = { λ t. t.entries.entries };
+    ghost view = { λ t. entries_split t.begins.entries };
 }
 
 impl TreeIndex {
@@ -32,7 +37,7 @@ impl TreeIndex {
         ensures { result ≡ [] }
     {
         TreeIndex {
-            entries: BTreeMap::new(alloc),
+            begins: BTreeMap::new(alloc),
         }
     }
 
@@ -40,7 +45,7 @@ impl TreeIndex {
         ensures { IfOk result (λ copy. copy ≡ self.now) }
     {
         Ok(TreeIndex {
-            entries: copy_of_entries(&self.entries)?,
+            begins: copy_of_begins(&self.begins)?,
         })
     }
 }
@@ -48,31 +53,65 @@ impl TreeIndex {
 impl Index for TreeIndex {
     ghost entries = { λ t. t };
 
-    fn insert(&mut self, key: Bytes, primary: Bytes) -> Result<bool, AllocError> {
-        match self.entries.entry(key)? {
-            Entry::Vacant(place) => {
-                place.insert(primary);
-                Ok(true)
-            }
-            Entry::Occupied(_) => Ok(false),
-        }
+    fn insert(&mut self, key: Bytes, primary: &[u8]) -> Result<bool, AllocError> {
+        let Some(begin) = begin_of(key.as_slice(), primary) else {
+            return Err(AllocError);
+        };
+        insert_begin(&mut self.begins, key, begin)
     }
 
     fn remove(&mut self, key: &Bytes) {
-        self.entries.remove(key);
+        self.begins.remove(key);
     }
 
     fn clear(&mut self) {
-        self.entries.clear();
+        self.begins.clear();
     }
 
-    fn first_from(&self, key: &Bytes) -> Option<(&Bytes, &Bytes)> {
-        self.entries
-            .range((Bound::Included(key), Bound::Unbounded))
-            .next()
+    fn first_from(&self, key: &Bytes) -> Option<(&[u8], &[u8])> {
+        let (entry, begin) = first_begin(&self.begins, key)?;
+        Some((entry.as_slice(), behind(entry, *begin)))
     }
 
-    fn range<'a>(&'a self, low: Bound<&Bytes>, high: Bound<&Bytes>) -> Range<'a, Bytes, Bytes> {
-        self.entries.range((low, high))
+    fn scan<'a>(&'a self, range: &KeyRange) -> Scan<'a> {
+        Scan::of_index(&self.begins, range)
     }
+}
+
+/// The place where a primary key begins in a key that ends with it.
+fn begin_of(key: &[u8], primary: &[u8]) -> Option<u32>
+    ensures { IfSome result (λ begin. drop begin key.now ≡ primary.now) }
+{
+    let begin = key.len().checked_sub(primary.len())?;
+    let (_, rest) = key.split_at(begin);
+    if rest != primary {
+        return None;
+    }
+    u32::try_from(begin).ok()
+}
+
+fn insert_begin(
+    begins: &mut BTreeMap<Bytes, u32>,
+    key: Bytes,
+    begin: u32,
+) -> Result<bool, AllocError>
+    ensures is_new { IfOk result (λ is_new. is_new ≡ not (has_entry key begins.old.entries)) }
+    ensures ok { OnOk result (begins.new.entries ≡ with_entry key begin begins.old.entries) }
+    ensures err { OnErr result (begins.new.entries ≡ begins.old.entries) }
+{
+    match begins.entry(key)? {
+        Entry::Vacant(place) => {
+            place.insert(begin);
+            Ok(true)
+        }
+        Entry::Occupied(_) => Ok(false),
+    }
+}
+
+fn first_begin<'a>(begins: &'a BTreeMap<Bytes, u32>, key: &Bytes) -> Option<(&'a Bytes, &'a u32)>
+    ensures { option_map (λ entry. (entry.0.now, entry.1.now)) result ≡ first_from key.now begins.now.entries }
+{
+    begins
+        .range((Bound::Included(key), Bound::Unbounded))
+        .next()
 }

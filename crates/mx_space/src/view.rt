@@ -1,6 +1,6 @@
 //! A space under a transaction's own writes.
 
-ghost use Rattle.std.specs.Prelude.{◌≡◌, ◌≢◌, ◌⊎◌, ℕ, Option, Some, None, true, MatchOption, MatchResult};
+ghost use Rattle.std.specs.Prelude.{◌≡◌, ◌≢◌, ◌⊎◌, ℕ, Option, Some, None, true, IfOk, MatchOption, MatchResult};
 ghost use Rattle.std.specs.FinMap as finite;
 ghost use Rattle.std.specs.Option.{option_copied};
 ghost use Rattle.mx_msgpack.specs.Items.{IsArray};
@@ -21,8 +21,7 @@ ghost use Rattle.mx_space.specs.OwnChanges.{ShowsTuples};
 ghost use Rattle.mx_space.specs.Scans.{SelectsByKey};
 
 use crate::build::BuildFault;
-use crate::entries::is_joined;
-use crate::index::Index;
+use crate::entries::whole_entry;
 use crate::overlay::OverlaidSpace;
 use crate::pick::{Pick, SelectFault};
 use crate::space::Space;
@@ -30,7 +29,7 @@ use crate::view_select::{select_shown, select_stored};
 use mx_key::KeyRange;
 use mx_msgpack::{Bytes, Tuples};
 use mx_schema::{IndexDef, Schema};
-use std::alloc::Global;
+use std::alloc::{AllocError, Global};
 
 /// A space under a transaction's own writes, where it has any.
 #[derive(Clone, Copy, Drop)]
@@ -66,21 +65,26 @@ impl<'a> SpaceView<'a> {
     /// The tuple that has the key of these comparable bytes in a unique index, or in that of the number 0,
     /// where each tuple has a key in the index and no two have one, both of the tuples that are seen and of
     /// the space's.
-    pub fn holder(self, def: &IndexDef, key: &Bytes) -> Option<&'a [u8]>
+    pub fn holder(
+        self,
+        alloc: Global,
+        def: &IndexDef,
+        key: &Bytes,
+    ) -> Result<Option<&'a [u8]>, AllocError>
         ensures sees { (schema : Option described.Schema) (all : plain.Tuples) (written : OwnWrites) (primary : indexed.IndexDef) (wanted : Key) → Sees schema self.entry all written
             → index_with 0 self.entry.space.now.schema.indexes ≡ Some primary → index_with def.now.id.0 self.entry.space.now.schema.indexes ≡ Some def.now
             → HoldsOneEach def.now all → HoldsOneEach def.now (under written all) → AreFit wanted → key.now ≡ comparable_of wanted
-            → option_copied result ≡ finite.get (tuples_by_index def.now (under written all)) wanted }
+            → IfOk result (λ found. option_copied found ≡ finite.get (tuples_by_index def.now (under written all)) wanted) }
         ensures shown { (schema : Option described.Schema) (tuples : plain.Tuples) (wanted : Key) → ShowsTuples schema self.entry tuples
             → index_with def.now.id.0 self.entry.space.now.schema.indexes ≡ Some def.now → (def.now.id.0 ≡ 0) ⊎ (def.now.unique ≡ true)
-            → AreFit wanted → key.now ≡ comparable_of wanted → option_copied result ≡ finite.get (tuples_by_index def.now tuples) wanted }
+            → AreFit wanted → key.now ≡ comparable_of wanted → IfOk result (λ found. option_copied found ≡ finite.get (tuples_by_index def.now tuples) wanted) }
     {
         if def.id.0 == 0 {
-            return self.tuple(key);
+            return Ok(self.tuple(key));
         }
         match self.over {
-            Some(over) => holder_under(self.space, over, def, key),
-            None => unique_holder(self.space, def, key),
+            Some(over) => holder_under(alloc, self.space, over, def, key),
+            None => unique_holder(alloc, self.space, def, key),
         }
     }
 
@@ -122,66 +126,83 @@ impl<'a> SpaceView<'a> {
 
 /// The tuple that is seen under writes and has a key in a unique index of another number than 0.
 fn holder_under<'a>(
+    alloc: Global,
     space: &'a Space,
     over: &'a OverlaidSpace,
     def: &IndexDef,
     key: &Bytes,
-) -> Option<&'a [u8]>
+) -> Result<Option<&'a [u8]>, AllocError>
     ensures { (schema : Option described.Schema) (all : plain.Tuples) (written : OwnWrites) (long : ℕ) (wanted : Key) → StoresIndexed schema space.now all
         → StoresWritten schema over.now written → AreLong long all → AreLong long (under written finite.empty) → index_with def.now.id.0 space.now.schema.indexes ≡ Some def.now
         → HoldsOneEach def.now all → HoldsOneEach def.now (under written all) → def.now.id.0 ≢ 0 → AreFit wanted → key.now ≡ comparable_of wanted
-        → option_copied result ≡ finite.get (tuples_by_index def.now (under written all)) wanted }
+        → IfOk result (λ found. option_copied found ≡ finite.get (tuples_by_index def.now (under written all)) wanted) }
 {
-    match unique_holder(over.own(), def, key) {
-        Some(tuple) => Some(tuple),
-        None => shown_holder(space, over, def, key),
+    match unique_holder(alloc, over.own(), def, key)? {
+        Some(tuple) => Ok(Some(tuple)),
+        None => shown_holder(alloc, space, over, def, key),
     }
 }
 
 /// The tuple of a space that has a key in a unique index of another number than 0.
-fn unique_holder<'a>(space: &'a Space, def: &IndexDef, key: &Bytes) -> Option<&'a [u8]>
+fn unique_holder<'a>(
+    alloc: Global,
+    space: &'a Space,
+    def: &IndexDef,
+    key: &Bytes,
+) -> Result<Option<&'a [u8]>, AllocError>
     ensures { (schema : Option described.Schema) (all : plain.Tuples) (long : ℕ) (wanted : Key) → StoresIndexed schema space.now all
         → AreLong long all → index_with def.now.id.0 space.now.schema.indexes ≡ Some def.now
         → HoldsOneEach def.now all → def.now.id.0 ≢ 0 → AreFit wanted → key.now ≡ comparable_of wanted
-        → option_copied result ≡ finite.get (tuples_by_index def.now all) wanted }
+        → IfOk result (λ found. option_copied found ≡ finite.get (tuples_by_index def.now all) wanted) }
 {
-    let primary = holder_key(space, def, key)?;
-    space.tuple(primary)
+    let Some(primary) = holder_key(alloc, space, def, key)? else {
+        return Ok(None);
+    };
+    Ok(space.tuple(&primary))
 }
 
 /// The tuple of a space that has a key in a unique index of another number than 0, unless the transaction
 /// wrote it. No tuple that the transaction put has the key.
 fn shown_holder<'a>(
+    alloc: Global,
     space: &'a Space,
     over: &OverlaidSpace,
     def: &IndexDef,
     key: &Bytes,
-) -> Option<&'a [u8]>
+) -> Result<Option<&'a [u8]>, AllocError>
     ensures { (schema : Option described.Schema) (all : plain.Tuples) (written : OwnWrites) (long : ℕ) (wanted : Key) → StoresIndexed schema space.now all
         → StoresWritten schema over.now written → AreLong long all → index_with def.now.id.0 space.now.schema.indexes ≡ Some def.now
         → HoldsOneEach def.now all → HoldsOneEach def.now (under written all) → def.now.id.0 ≢ 0 → AreFit wanted → key.now ≡ comparable_of wanted
         → finite.get (tuples_by_index def.now (under written finite.empty)) wanted ≡ None
-        → option_copied result ≡ finite.get (tuples_by_index def.now (under written all)) wanted }
+        → IfOk result (λ found. option_copied found ≡ finite.get (tuples_by_index def.now (under written all)) wanted) }
 {
-    let primary = holder_key(space, def, key)?;
-    if over.hides(primary) {
-        return None;
+    let Some(primary) = holder_key(alloc, space, def, key)? else {
+        return Ok(None);
+    };
+    if over.hides(&primary) {
+        return Ok(None);
     }
-    space.tuple(primary)
+    Ok(space.tuple(&primary))
 }
 
 /// The primary key of the tuple that has a key in a unique index of another number than 0.
-fn holder_key<'a>(space: &'a Space, def: &IndexDef, key: &Bytes) -> Option<&'a Bytes>
+fn holder_key(
+    alloc: Global,
+    space: &Space,
+    def: &IndexDef,
+    key: &Bytes,
+) -> Result<Option<Bytes>, AllocError>
     ensures { (schema : Option described.Schema) (all : plain.Tuples) (long : ℕ) (wanted : Key) → StoresIndexed schema space.now all
         → AreLong long all → index_with def.now.id.0 space.now.schema.indexes ≡ Some def.now
-        → HoldsOneEach def.now all → def.now.id.0 ≢ 0 → AreFit wanted → key.now ≡ comparable_of wanted → MatchOption result
+        → HoldsOneEach def.now all → def.now.id.0 ≢ 0 → AreFit wanted → key.now ≡ comparable_of wanted → IfOk result (λ found. MatchOption found
         (None ≡ finite.get (tuples_by_index def.now all) wanted)
-        (λ own. IsHolder def.now all wanted own.now) }
+        (λ own. IsHolder def.now all wanted own)) }
 {
-    let index = space.index(def.id)?;
-    let (entry, primary) = index.first_from(key)?;
-    if !is_joined(entry.as_slice(), key.as_slice(), primary.as_slice()) {
-        return None;
-    }
-    Some(primary)
+    let Some(index) = space.index(def.id) else {
+        return Ok(None);
+    };
+    let Some((_, primary)) = whole_entry(index, key) else {
+        return Ok(None);
+    };
+    Ok(Some(Bytes::from_slice(alloc, primary)?))
 }

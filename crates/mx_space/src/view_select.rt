@@ -29,6 +29,7 @@ ghost use Rattle.mx_space.specs.ShownRows.{is_shown, merged, rows_left};
 use crate::index::Index;
 use crate::overlay::OverlaidSpace;
 use crate::pick::{Pick, SelectFault, Source};
+use crate::scan::Scan;
 use crate::selection::{as_fault, select_from};
 use crate::shown_rows::ShownRows;
 use crate::shown_select::select_rows;
@@ -74,7 +75,8 @@ pub(crate) fn select_shown(
         → SelectsByKey (finite.entries (tuples_by_index def.now (under written all))) def.now wanted.now found.new result }
 {
     let range = range_of_key(alloc, &def.key, wanted.iterator, wanted.key)?;
-    let Some(rows) = shown_rows(space, over, def, &range, wanted.iterator.descends()) else {
+    let down = wanted.iterator.descends();
+    let Some(rows) = shown_rows(alloc, space, over, def, &range, down) else {
         return Err(SelectFault::NoMemory);
     };
     as_fault(select_rows(alloc, rows, range, wanted, found))
@@ -82,6 +84,7 @@ pub(crate) fn select_shown(
 
 /// The rows of an index in the range of a key. The space has the index.
 fn shown_rows<'a>(
+    alloc: Global,
     space: &'a Space,
     over: &'a OverlaidSpace,
     def: &IndexDef,
@@ -97,15 +100,16 @@ fn shown_rows<'a>(
         ≡ directed down (filter (λ entry. holds range.now entry.0) (map stored_tuple (finite.entries (tuples_by_index def.now (under written all)))))) }
 {
     if def.id.0 == 0 {
-        return Some(first_rows(space, over, range, down));
+        return Some(first_rows(alloc, space, over, range, down));
     }
     let stored = space.index(def.id)?;
     let own = over.own().index(def.id)?;
-    Some(index_rows(space, over, def.unique, stored, own, range, down))
+    Some(index_rows(alloc, space, over, def.unique, stored, own, range, down))
 }
 
 /// Those of the index of the number 0.
 fn first_rows<'a>(
+    alloc: Global,
     space: &'a Space,
     over: &'a OverlaidSpace,
     range: &KeyRange,
@@ -116,15 +120,13 @@ fn first_rows<'a>(
         (filter (is_shown over.now true) (directed down (filter (λ entry. holds range.now entry.0) space.now.tuples.entries)))
         (directed down (filter (λ entry. holds range.now entry.0) over.now.own.tuples.entries)) }
 {
-    let own = over.own();
     ShownRows {
+        alloc,
         over,
         is_first: true,
         down,
-        stored: space
-            .tuples()
-            .range((range.low_bound(), range.high_bound())),
-        own: own.tuples().range((range.low_bound(), range.high_bound())),
+        stored: Scan::of_tuples(space.tuples(), range),
+        own: Scan::of_tuples(over.own().tuples(), range),
         held_stored: None,
         held_own: None,
         stored_source: Source::Entries,
@@ -134,6 +136,7 @@ fn first_rows<'a>(
 
 /// Those of another index, of which these are the stored entries and the own ones.
 fn index_rows<'a>(
+    alloc: Global,
     space: &'a Space,
     over: &'a OverlaidSpace,
     unique: bool,
@@ -148,18 +151,21 @@ fn index_rows<'a>(
         (directed down (filter (λ entry. holds range.now entry.0) own.now)) }
 {
     ShownRows {
+        alloc,
         over,
         is_first: false,
         down,
-        stored: stored.range(range.low_bound(), range.high_bound()),
-        own: own.range(range.low_bound(), range.high_bound()),
+        stored: stored.scan(range),
+        own: own.scan(range),
         held_stored: None,
         held_own: None,
         stored_source: Source::Tuples {
+            alloc,
             tuples: space.tuples(),
             unique,
         },
         own_source: Source::Tuples {
+            alloc,
             tuples: over.own().tuples(),
             unique,
         },

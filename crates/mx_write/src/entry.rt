@@ -123,7 +123,8 @@ fn primary_key_with(
     if def.id.0 == 0 {
         return Ok(Some(key));
     }
-    primary_key_of(target, target.stored.holder(def, &key))
+    let holder = target.stored.holder(target.scope.alloc, def, &key)?;
+    primary_key_of(target, holder)
 }
 
 fn primary_key_of(target: &Target<'_>, holder: Option<&[u8]>) -> Result<Option<Bytes>, AllocError>

@@ -60,7 +60,7 @@ fn duplicate_in(
     let alloc = target.scope.alloc;
     let key = parts_or_none(alloc, &def.key, tuple)?;
     notes.note_key(alloc, target.scope.space, def.id, key.as_slice())?;
-    let Some(holder) = target.stored.holder(def, &key) else {
+    let Some(holder) = target.stored.holder(alloc, def, &key)? else {
         return Ok(None);
     };
     if !is_another(target, replaced, holder)? {

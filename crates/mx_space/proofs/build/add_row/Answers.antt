@@ -30,7 +30,7 @@ returns c = λ before long own built other absent is_long fit is.
     ] in
     let key : c.extend_from_slice.new.self ≡ comparable_of (kept_key def own tuple) =
     c.in_ok-extend_from_slice.ensures ∙ (λ i. k.3 i ++ (c.as_slice-2.ensures ∙ is) i) ∙ sym (keys_joined k.0 own) ∙ ap (λ p. comparable_of (p ++ own)) (sym parts) in
-    let its_own : c.in_ok-primary.primary ≡ comparable_of own = c.in_ok-primary.ensures ∙ c.as_slice-3.ensures ∙ is in (
+    let its_own : c.as_slice-3.result.now ≡ comparable_of own = c.as_slice-3.ensures ∙ is in (
       no_row_fault def long before c.args.index.now built other own absent is_long tuple k.0 k.1 new,
       one_built def long before c.args.index.now built other own absent is_long tuple k.0 k.1 new
           (subst (λ p. AreFit (p ++ own)) (sym parts) (fit_joined k.0 own k.2 fit)) c.insert.new.self

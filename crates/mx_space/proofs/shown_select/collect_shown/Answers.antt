@@ -6,7 +6,7 @@ pub loop-left-preserved : goal.loop-left-preserved
 loop-left-preserved c =
     let is = c.loop-left.invariant in
     let more : 0 < c.loop-left.left = search rules in
-    let next = c.in-Some.ensures in
+    let next = (rw c.in-Some.is at c.in_ok-key.ensures) in
     let pushed : c.push.new.self ≡ c.loop-left.tuples ++ c.in-Some.tuple.now ∷ [] = search rules in
     let size = c.in_ok-bytes.ensures in
     rw (pushed, size.0) (

@@ -1,31 +1,25 @@
-use Rattle.std.proofs.Common.{ap, sym, ◌∙◌, true≢false}
+use Rattle.std.proofs.Common.{ap, sym, ◌∙◌, subst}
 use Rattle.std.specs.Option.{option_copied, option_map}
-use Rattle.mx_space.proofs.HolderLaws.{held_by_none, held_by_other, no_index}
+use Rattle.mx_space.specs.Entries.{LeadsTo}
+use Rattle.mx_space.specs.Overlays.{IsHolder}
+use Rattle.mx_space.proofs.HolderLaws.{no_index, none_holds_key}
 use Rattle.mx_space.proofs.ViewLaws.{holder_is}
 use Rattle.mx_space.proofs.view.holder_key.Goals as goal
 
-pub returns-in_err-index : goal.returns-in_err-index
-returns-in_err-index c = λ schema all long wanted stores whole there one_each apart fit is.
+pub returns-in_default : goal.returns-in_default
+returns-in_default c = λ schema all long wanted stores whole there one_each apart fit is.
     absurd (no_index schema c.args.space.now all c.args.def.now wanted stores long whole there one_each fit apart (option_copied c.index.result) c.index.ensures
-    (ap option_copied c.in_err-index.was))
+    (ap option_copied c.in_default.is))
 
-pub returns-in_err-entry : goal.returns-in_err-entry
-returns-in_err-entry c = λ schema all long wanted stores whole there one_each apart fit is.
-    rw c.from_residual-in_err-entry.ensures
-    (held_by_none schema c.args.space.now all c.args.def.now wanted stores long whole there one_each fit apart (option_copied c.index.result) c.index.ensures
-    c.in_ok-index.index.now (ap option_copied c.in_ok-index.was) c.args.key.now is
-    (sym c.first_from.ensures ∙ ap (option_map (λ entry. (entry.0.now, entry.1.now))) c.in_err-entry.was))
-
-pub returns-then-not-is_joined : goal.returns-then-not-is_joined
-returns-then-not-is_joined c = λ schema all long wanted stores whole there one_each apart fit is.
-    held_by_other schema c.args.space.now all c.args.def.now wanted stores long whole there one_each fit apart (option_copied c.index.result) c.index.ensures
-    c.in_ok-index.index.now (ap option_copied c.in_ok-index.was) c.args.key.now c.in_ok-entry.entry.now c.in_ok-entry.primary.now is
-    (sym c.first_from.ensures ∙ ap (option_map (λ entry. (entry.0.now, entry.1.now))) c.in_ok-entry.was)
-    (λ joined. absurd (true≢false (sym (c.is_joined.ensures.1 (rw (c.as_slice.ensures, c.as_slice-2.ensures, c.as_slice-3.ensures) joined)) ∙ c.if-not-is_joined.true)))
+pub returns-in_default-whole_entry : goal.returns-in_default-whole_entry
+returns-in_default-whole_entry c = λ schema all long wanted stores whole there one_each apart fit is.
+    none_holds_key schema c.args.space.now all c.args.def.now wanted stores long whole there one_each fit apart (option_copied c.index.result) c.index.ensures
+    c.in-Some.index.now (ap option_copied c.in-Some.is) c.args.key.now is
+    (subst (LeadsTo c.args.key.now c.in-Some.index.now) (ap (option_map (λ entry. entry.1.now)) c.in_default-whole_entry.is) c.whole_entry.ensures.primary)
 
 pub returns : goal.returns
 returns c = λ schema all long wanted stores whole there one_each apart fit is.
-    holder_is schema c.args.space.now all c.args.def.now wanted stores long whole there one_each apart fit
-    c.in_ok-index.index.now (ap option_copied (sym c.in_ok-index.was) ∙ c.index.ensures) c.args.key.now c.in_ok-entry.entry.now c.in_ok-entry.primary.now is
-    (sym c.first_from.ensures ∙ ap (option_map (λ entry. (entry.0.now, entry.1.now))) c.in_ok-entry.was)
-    (rw (c.as_slice.ensures, c.as_slice-2.ensures, c.as_slice-3.ensures) at (c.is_joined.ensures.0 c.if-not-is_joined.false))
+    subst (IsHolder c.args.def.now all wanted) (sym c.in_ok-from_slice.ensures)
+    (holder_is schema c.args.space.now all c.args.def.now wanted stores long whole there one_each apart fit
+    c.in-Some.index.now (ap option_copied (sym c.in-Some.is) ∙ c.index.ensures) c.args.key.now c.in-Some-whole_entry.primary.now is
+    (subst (LeadsTo c.args.key.now c.in-Some.index.now) (ap (option_map (λ entry. entry.1.now)) c.in-Some-whole_entry.is) c.whole_entry.ensures.primary))

@@ -20,6 +20,6 @@ returns c = λ schema all written long stores writes whole whole_seen there have
     let (key, fits, fit, edges) = c.in_ok-range.ensures.picked in
     let rows : rows_left c.in-Some.rows ≡ directed (descends wanted.iterator) (filter (λ entry. holds c.in_ok-range.range entry.0) (map stored_tuple entries)) =
     c.in-Some.ensures schema all written long wanted.iterator key stores writes whole whole_seen there have one_each fit (array_short def.key wanted.key.now key fits) edges
-    ∙ ap (λ down. directed down (filter (λ entry. holds c.in_ok-range.range entry.0) (map stored_tuple entries))) c.descends.ensures in
+    ∙ ap (λ down. directed down (filter (λ entry. holds c.in_ok-range.range entry.0) (map stored_tuple entries))) c.descends-down.ensures in
     let read = c.select_rows.ensures entries key (seen_fits schema c.args.space.now c.args.over.now all written def long stores writes whole whole_seen there have one_each) fit edges rows in
     selects_told entries def wanted c.select_rows.new.found key fits fit c.select_rows.result c.as_fault.result c.as_fault.ensures read

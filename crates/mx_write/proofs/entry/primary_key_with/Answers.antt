@@ -12,8 +12,8 @@ returns c = λ before wanted target there unique fit is.
     let t = c.args.target.now in
     let def = c.args.def.now in
     let primary = t.primary.now in
-    let held = held_so before t target def wanted c.args.key (option_copied c.holder.result) there unique
-    (λ schema tuples shows here alone. c.holder.ensures.shown schema tuples wanted shows here alone fit is) in
+    let held = held_so before t target def wanted c.args.key (option_copied c.in_ok-holder.holder) there unique
+    (λ schema tuples shows here alone. c.in_ok-holder.ensures.shown schema tuples wanted shows here alone fit is) in
     subst (λ o. IfOk c.primary_key_of.result (λ found. IsKeyOf found o))
     (ap (primary_key_of primary) held
     ∙ ap (λ b. if b then Some wanted else primary_key_of primary (holder_of before t.scope.space.0 def wanted)) (sym (ne_eqb def.id.0 0 c.if-def-eq0.false))) c.primary_key_of.ensures

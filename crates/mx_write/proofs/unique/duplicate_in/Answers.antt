@@ -12,8 +12,8 @@ returns-in_default-clause-finds c = λ before key target replaced there unique.
     let tuple = c.args.tuple.now in
     free_by before t.scope.space.0 t.schema.now t.primary.now key tuple def None None
     (ap option_copied (sym c.in_default.is)
-    ∙ held_so before t target def (own_key def tuple) c.in_ok-key.key (option_copied c.holder.result) there (unique_is def unique)
-    (λ schema tuples shows here alone. c.holder.ensures.shown schema tuples (own_key def tuple) shows here alone c.in_ok-key.ensures.1 c.in_ok-key.ensures.0))
+    ∙ held_so before t target def (own_key def tuple) c.in_ok-key.key (option_copied c.in_ok-holder.field-0) there (unique_is def unique)
+    (λ schema tuples shows here alone. c.in_ok-holder.ensures.shown schema tuples (own_key def tuple) shows here alone c.in_ok-key.ensures.1 c.in_ok-key.ensures.0))
     (none_held before t.scope.space.0 t.schema.now t.primary.now key tuple def)
 
 pub returns-then-not-branch-clause-finds : goal.returns-then-not-branch-clause-finds
@@ -24,8 +24,8 @@ returns-then-not-branch-clause-finds c = λ before key target replaced there uni
     let held = c.in-Some.holder.now in
     free_by before t.scope.space.0 t.schema.now t.primary.now key tuple def None (Some held)
     (ap option_copied (sym c.in-Some.is)
-    ∙ held_so before t target def (own_key def tuple) c.in_ok-key.key (option_copied c.holder.result) there (unique_is def unique)
-    (λ schema tuples shows here alone. c.holder.ensures.shown schema tuples (own_key def tuple) shows here alone c.in_ok-key.ensures.1 c.in_ok-key.ensures.0))
+    ∙ held_so before t target def (own_key def tuple) c.in_ok-key.key (option_copied c.in_ok-holder.field-0) there (unique_is def unique)
+    (λ schema tuples shows here alone. c.in_ok-holder.ensures.shown schema tuples (own_key def tuple) shows here alone c.in_ok-key.ensures.1 c.in_ok-key.ensures.0))
     (held_by_same before t.scope.space.0 t.schema.now t.primary.now key tuple def held _ (c.in_ok-is_another.ensures key replaced) c.if-not-branch.true)
 
 pub returns-clause-finds : goal.returns-clause-finds
@@ -36,7 +36,7 @@ returns-clause-finds c = λ before key target replaced there unique.
     let held = c.in-Some.holder.now in
     free_by before t.scope.space.0 t.schema.now t.primary.now key tuple def (Some c.in_ok-duplicate_refusal.field-0) (Some held)
     (ap option_copied (sym c.in-Some.is)
-    ∙ held_so before t target def (own_key def tuple) c.in_ok-key.key (option_copied c.holder.result) there (unique_is def unique)
-    (λ schema tuples shows here alone. c.holder.ensures.shown schema tuples (own_key def tuple) shows here alone c.in_ok-key.ensures.1 c.in_ok-key.ensures.0))
+    ∙ held_so before t target def (own_key def tuple) c.in_ok-key.key (option_copied c.in_ok-holder.field-0) there (unique_is def unique)
+    (λ schema tuples shows here alone. c.in_ok-holder.ensures.shown schema tuples (own_key def tuple) shows here alone c.in_ok-key.ensures.1 c.in_ok-key.ensures.0))
     (held_by_another before t.scope.space.0 t.schema.now t.primary.now key tuple def held c.in_ok-is_another.field-0 c.in_ok-duplicate_refusal.field-0
     (c.in_ok-is_another.ensures key replaced) c.if-not-branch.false c.in_ok-duplicate_refusal.ensures)

@@ -1,0 +1,14 @@
+use Rattle.std.proofs.Common.{ap, ◌∙◌}
+use Rattle.std.specs.BTreeMap.Range.{entries_between}
+use Rattle.std.specs.Cmp.Lexicographic.{slice_cmp}
+use Rattle.std.specs.Ordering.{nat_cmp}
+use Rattle.mx_space.specs.Entries.{entries_split}
+use Rattle.mx_space.proofs.PickLaws.{entries_held}
+use Rattle.mx_space.proofs.SplitLaws.{split_held}
+use Rattle.mx_space.proofs.scan.Scan.of_index.Goals as goal
+
+pub returns : goal.returns
+returns c =
+    ap entries_split (c.range.ensures.between tt
+    ∙ (λ i. entries_between (slice_cmp nat_cmp) (c.low_bound.ensures i) (c.high_bound.ensures i) c.args.begins.now.entries) ∙ entries_held c.args.range.now c.args.begins.now.entries)
+    ∙ split_held c.args.range.now c.args.begins.now.entries

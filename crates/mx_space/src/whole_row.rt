@@ -1,0 +1,80 @@
+//! The tuple that has a whole key in a unique index.
+
+ghost use Rattle.std.specs.Prelude.{◌≡◌, ◌⊎◌, ◌<◌, ℕ, List, length, map, Some, None, Ok, true, IfOk, IfSome, MatchOption};
+ghost use Rattle.std.specs.Option.{option_map};
+ghost use Rattle.mx_msgpack.specs.Items.{IsArray};
+ghost use Rattle.mx_key.specs.declared.edge.Edge.TheVariants as edges;
+ghost use Rattle.mx_key.specs.declared.iterator.IterKind.TheVariants as iterators;
+ghost use Rattle.mx_key.specs.Comparable.{edges_of};
+ghost use Rattle.mx_key.specs.Keys.{Key, AreFit};
+ghost use Rattle.mx_key.specs.Parts.{key_of_array};
+ghost use Rattle.mx_key.specs.Ranges.{range_of};
+ghost use Rattle.mx_schema.specs.Picks.{Indexed};
+ghost use Rattle.mx_schema.specs.Stored.{stored_tuple};
+ghost use Rattle.mx_space.specs.Entries.{LeadsTo};
+ghost use Rattle.mx_space.specs.Scans.{Selects};
+ghost use Rattle.mx_space.specs.Selecting.{AreFitEntries, found_in, one_found, tuple_stored};
+
+use crate::entries::whole_entry;
+use crate::pick::{Pick, SelectStop, collect_one, tuple_stored};
+use crate::selection::{exact_key, has_all_parts, read_to};
+use crate::tree_index::TreeIndex;
+use mx_key::KeyRange;
+use mx_msgpack::{Bytes, Tuples};
+use mx_schema::IndexDef;
+use std::alloc::{AllocError, Global};
+use std::collections::BTreeMap;
+
+/// The key with which a range of EQ or REQ begins, where it is a whole key of a unique index.
+pub(crate) fn whole_key<'a>(
+    def: &IndexDef,
+    range: &'a KeyRange,
+    wanted: &Pick<'_>,
+) -> Option<&'a Bytes>
+    requires array { IsArray wanted.now.key.now }
+    ensures { IfSome result (λ key. (def.now.unique ≡ true) × (range.now.low ≡ edges.Inclusive key.now) × ((wanted.now.iterator ≡ iterators.Eq) ⊎ (wanted.now.iterator ≡ iterators.Req))
+        × ((fitting : Key) → key_of_array def.now.key wanted.now.key.now ≡ Ok fitting → length fitting ≡ length def.now.key)) }
+{
+    if !def.unique || !has_all_parts(def, wanted.key) {
+        return None;
+    }
+    exact_key(range, wanted.iterator)
+}
+
+/// The entry of a whole key in a unique index: that key and the tuple that it leads to.
+pub(crate) fn find_row<'a>(
+    alloc: Global,
+    index: &'a TreeIndex,
+    tuples: &'a BTreeMap<Bytes, Bytes>,
+    key: &Bytes,
+) -> Result<Option<(&'a [u8], &'a [u8])>, AllocError>
+    ensures { IfOk result (λ found. MatchOption found
+        (LeadsTo key.now index.now None)
+        (λ row. (own : List ℕ) × LeadsTo key.now index.now (Some own) × (row.0.now ≡ key.now) × (row.1.now ≡ tuple_stored tuples.now.entries own))) }
+{
+    let Some((own, primary)) = whole_entry(index, key) else {
+        return Ok(None);
+    };
+    Ok(Some((own, tuple_stored(alloc, tuples, primary)?)))
+}
+
+/// As `select_entries`, of a row that is the only one in the range, if there is one.
+pub(crate) fn select_row(
+    alloc: Global,
+    row: Option<(&[u8], &[u8])>,
+    range: KeyRange,
+    wanted: &Pick<'_>,
+    found: &mut Tuples,
+) -> Result<Option<KeyRange>, SelectStop>
+    ensures { (all : List Indexed) (key : Key) → AreFitEntries all → AreFit key → range ≡ edges_of (range_of wanted.now.iterator key)
+        → (0 < wanted.now.limit → one_found wanted.now.offset (option_map (λ row. (row.0.now, row.1.now)) row.entry)
+        ≡ found_in (map stored_tuple all) range wanted.now.iterator wanted.now.offset wanted.now.limit)
+        → Selects all wanted.now key found.new result }
+{
+    found.clear();
+    if wanted.limit == 0 {
+        return Ok(None);
+    }
+    let last = collect_one(row, wanted.offset, found)?;
+    Ok(Some(read_to(alloc, range, wanted, found, last)?))
+}
