@@ -170,6 +170,7 @@ impl OpenTransactions {
     /// Ends those of a connection, each as `end` does.
     pub fn leave(&mut self, connection: ConnId)
         ensures left { (streams : Streams) → HoldsOpen streams self.old → HoldsOpen (streams_left streams connection.0) self.new }
+        ensures kept { KeepsNoOthers self.old.kept self.new.kept }
         ensures trimmed { IsTrimmed self.old → IsTrimmed self.new }
         ensures unread { (slot : ℕ) → KeepsNoUnread self.old self.new slot }
     {

@@ -10,6 +10,7 @@ use Rattle.mx_transactions.proofs.open.OpenTransactions.leave.Goals as goal
 pub loop-named-init : goal.loop-named-init
 loop-named-init c = record {
   left = λ streams holds. none_left c.args.connection.0 streams c.args.self.now holds;
+  kept = λ commits one is. is;
   trimmed = λ trimmed. trimmed;
   unread = all_read c.args.self.now;
 }
@@ -34,6 +35,7 @@ loop-named-preserved c =
     let ends = c.end.ensures in
     record {
       left = λ streams holds. one_left c.args.connection.0 streams _ _ c.in-Some.named.name first.of ends.left (c.loop-named.invariant.left streams holds);
+      kept = λ commits one is. c.loop-named.invariant.kept commits one (ends.kept commits one is);
       trimmed = λ trimmed. ends.trimmed;
       unread = none_unread c.args.self.now c.loop-named.self c.end.new.self c.in-Some.named.slot ends.slots ends.kept ends.unread c.loop-named.invariant.unread;
     }
@@ -42,6 +44,9 @@ pub returns-clause-left : goal.returns-clause-left
 returns-clause-left c = λ streams holds.
     all_left c.args.connection.0 streams _ (c.loop-named.invariant.left streams holds)
     (subst (λ (all : Open). find (λ (one : Named). one.name.conn.0 == c.args.connection.0) all.names ≡ None) c.self.view_is (sym c.find_of.ensures ∙ c.in_default.is))
+
+pub returns-clause-kept : goal.returns-clause-kept
+returns-clause-kept c = c.loop-named.invariant.kept
 
 pub returns-clause-trimmed : goal.returns-clause-trimmed
 returns-clause-trimmed c = c.loop-named.invariant.trimmed
