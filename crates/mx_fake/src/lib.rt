@@ -13,6 +13,3 @@ mod tables;
 pub use dir::MemoryDir;
 pub use sink::MemorySink;
 pub use source::MemorySource;
-
-#[cfg(test)]
-mod tests;

@@ -3,15 +3,16 @@
 use crate::arguments::Arguments;
 use crate::fault::{Fault, Stop};
 use crate::{
-    base, frame, hash, key, msgpack, reply, request, row, schema, tracker, tuple, txn, update,
-    vclock, xlog,
+    base, fake, frame, hash, key, msgpack, real, reply, request, row, schema, session, tracker,
+    tuple, txn, update, vclock, xlog,
 };
-use std::alloc::{AllocError, Global};
+use std::alloc::AllocError;
 
 /// The answer to the call in a line of this number, or what is wrong with it, as a whole line.
-pub fn line_of(alloc: Global, number: usize, line: &str) -> Result<String, Stop> {
+pub fn line_of(host: &HostRuntime, number: usize, line: &str) -> Result<String, Stop> {
+    let alloc = host.alloc();
     let (name, rest) = line.split_once(' ').unwrap_or((line, ""));
-    let answer = match answer_of(name, Arguments::of(alloc, rest)) {
+    let answer = match answer_of(host, name, Arguments::of(alloc, rest)) {
         Ok(answer) => format!(in alloc; "{answer}\n"),
         Err(Fault::NoCall) => format!(in alloc; "error: line {number}: no call {name:?}\n"),
         Err(Fault::Wrong(what)) => format!(in alloc; "error: line {number}: {what}\n"),
@@ -21,14 +22,22 @@ pub fn line_of(alloc: Global, number: usize, line: &str) -> Result<String, Stop>
 }
 
 /// The answer of a call to exactly these arguments.
-fn answer_of(name: &str, mut arguments: Arguments<'_>) -> Result<String, Fault> {
-    let answer = called(name, &mut arguments)?;
+fn answer_of(
+    host: &HostRuntime,
+    name: &str,
+    mut arguments: Arguments<'_>,
+) -> Result<String, Fault> {
+    let answer = called(host, name, &mut arguments)?;
     arguments.end()?;
     Ok(answer)
 }
 
 /// The answer of a call, which counts only where the arguments have no fault.
-fn called(name: &str, arguments: &mut Arguments<'_>) -> Result<String, AllocError> {
+fn called(
+    host: &HostRuntime,
+    name: &str,
+    arguments: &mut Arguments<'_>,
+) -> Result<String, AllocError> {
     let (crate_name, call) = name.split_once('.').unwrap_or(("", name));
     match crate_name {
         "msgpack" => msgpack::answer(call, arguments),
@@ -46,6 +55,9 @@ fn called(name: &str, arguments: &mut Arguments<'_>) -> Result<String, AllocErro
         "hash" => hash::answer(call, arguments),
         "txn" => txn::answer(call, arguments),
         "tracker" => tracker::answer(call, arguments),
+        "session" => session::answer(call, arguments),
+        "fake" => fake::answer(call, arguments),
+        "real" => real::answer(host, call, arguments),
         _ => no_call(arguments),
     }
 }

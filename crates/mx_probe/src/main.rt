@@ -4,16 +4,21 @@
 mod answers;
 mod arguments;
 mod base;
+mod dir;
 mod display;
+mod fake;
 mod fault;
 mod frame;
 mod hash;
 mod key;
 mod msgpack;
+mod real;
 mod reply;
 mod request;
 mod row;
 mod schema;
+mod session;
+mod streams;
 mod tracker;
 mod tuple;
 mod txn;
@@ -22,12 +27,11 @@ mod vclock;
 mod xlog;
 
 use fault::Stop;
-use std::alloc::Global;
 use std::io::{Read, Write};
 use std::process::ExitCode;
 
 fn main(rt: HostRuntime) -> ExitCode {
-    match answer_all(rt.alloc(), rt.stdin(), rt.stdout()) {
+    match answer_all(&rt, rt.stdin(), rt.stdout()) {
         Ok(()) => ExitCode::SUCCESS,
         Err(stop) => ExitCode::from(stop.number()),
     }
@@ -35,11 +39,11 @@ fn main(rt: HostRuntime) -> ExitCode {
 
 /// Answers each line of the input that has a call. Lines that are empty or begin with `#` have none.
 fn answer_all<I: Read + Drop, O: Write + Drop>(
-    alloc: Global,
+    host: &HostRuntime,
     mut input: I,
     mut output: O,
 ) -> Result<(), Stop> {
-    let mut text = String::new(alloc);
+    let mut text = String::new(host.alloc());
     if let Err(error) = input.read_to_string(&mut text) {
         return Err(Stop::of_read(error.kind()));
     }
@@ -49,7 +53,7 @@ fn answer_all<I: Read + Drop, O: Write + Drop>(
         if line.is_empty() || line.starts_with('#') {
             continue;
         }
-        let answer = answers::line_of(alloc, number, line)?;
+        let answer = answers::line_of(host, number, line)?;
         if output.write_all(answer.as_bytes()).is_err() {
             return Err(Stop::WriteFault);
         }

@@ -3,7 +3,9 @@
 use crate::answers::no_call;
 use crate::arguments::Arguments;
 use crate::display::Hex;
-use mx_row::{RowRef, read_tx_in_place, row_size, to_owned, write_row, write_tx};
+use mx_row::{
+    RowFault, RowRef, read_tx, read_tx_in_place, row_size, to_owned, write_row, write_tx,
+};
 use std::alloc::AllocError;
 use std::fmt;
 
@@ -13,6 +15,7 @@ pub fn answer(call: &str, arguments: &mut Arguments<'_>) -> Result<String, Alloc
         "read" => read(arguments),
         "size" => sized(arguments),
         "rewrite" => rewritten(arguments),
+        "tx" => begun(arguments),
         "write" => written(arguments),
         _ => no_call(arguments),
     }
@@ -52,6 +55,19 @@ fn read(arguments: &mut Arguments<'_>) -> Result<String, AllocError> {
             Ok(answer)
         }
         None => String::from_str(alloc, "none"),
+    }
+}
+
+/// How many bytes the transaction takes that stands first, that the bytes end inside one, or the place of the
+/// row that none has.
+fn begun(arguments: &mut Arguments<'_>) -> Result<String, AllocError> {
+    let alloc = arguments.alloc();
+    let bytes = arguments.bytes();
+    match read_tx(alloc, bytes.as_slice()) {
+        Ok(Some((_, size))) => format!(in alloc; "ok {size}"),
+        Ok(None) => String::from_str(alloc, "cut"),
+        Err(RowFault::Bad { at }) => format!(in alloc; "bad {at}"),
+        Err(RowFault::NoMemory) => Err(AllocError),
     }
 }
 

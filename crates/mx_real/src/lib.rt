@@ -9,6 +9,3 @@ mod streams;
 pub use folder::FolderDir;
 pub use open_fault::OpenFault;
 pub use streams::{ReaderSource, WriterSink};
-
-#[cfg(test)]
-mod tests;

@@ -9,6 +9,3 @@ mod session;
 pub use job::{AskRef, Job, JobRef};
 pub use laws::jobs_are_those_of_the_stream;
 pub use session::{Next, NextRef, Session};
-
-#[cfg(test)]
-mod tests;
