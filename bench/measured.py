@@ -14,6 +14,8 @@ sys.path.append(str(ROOT / "tests"))
 
 
 def build():
+    if not PROGRAM.exists():
+        print("mx_measure isn't built: it and the crates below it are proved first, which may take an hour", file=sys.stderr)
     run = subprocess.run(["rt", "run", "--", "0"], cwd=CRATE, stdin=subprocess.DEVNULL, capture_output=True)
     if run.returncode != 0:
         sys.exit(run.stdout.decode(errors="replace") + run.stderr.decode(errors="replace"))

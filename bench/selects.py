@@ -3,48 +3,66 @@
 
 Each input sets keys, and then has SELECTs, once and twice as many. What the latter costs more is
 divided by the number of SELECTs. First they begin at a key in the middle of 1,000 and go up, by
-limits of 1, 10 and 100. Then single keys are looked up, the same ones among 1,000 keys and among
-16,000: where a look-up goes down a tree it costs little more among 16 times as many.
+limits of 1, 10 and 100, by the primary index and by another one. Then single keys are looked up by
+the primary index and by a hash index, the same ones among 1,000 keys and among 16,000: where a
+look-up goes down a tree it costs little more among 16 times as many.
 """
 
 import argparse
 import math
 import sys
 
-from requests import KEYS, STEP, instructions, is_built, select, setting, units
+from requests import KEYS, STEP, Wide, instructions, is_built, replace, request, units
 
 LIMITS = (1, 10, 100)
 MORE_KEYS = 16 * KEYS
+# With one of these a tuple's second field is its key again.
+BY_TREE = [512, 1, "again", "tree", {}, [[1, "unsigned"]]]
+BY_HASH = [512, 1, "again", "hash", {}, [[1, "unsigned"]]]
 
 
-def cost(keys, selects):
+def select(sync, key, index, iterator="EQ", limit=1):
+    """A SELECT of so many tuples at most, by the primary index or by another one."""
+    named = {} if index is None else {"index": 1}
+    return request("SELECT", Wide(sync, 4), space=512, limit=limit, iterator=iterator, key=[key], **named)
+
+
+def setting(keys, index):
+    """The requests that make an index, where there is one, and set so many keys."""
+    if index is None:
+        return [replace(key, key, 0) for key in range(keys)]
+    return [request("INSERT", 0, space=288, tuple=index)] + [replace(key, key, key) for key in range(keys)]
+
+
+def cost(keys, index, selects):
     """What one of these SELECTs costs after so many keys were set."""
+    before = setting(keys, index)
     totals = []
     for asked in (selects, selects + selects):
-        total, answered = instructions(setting(keys) + units(asked))
-        if answered != keys + len(asked):
-            print(f"    only {answered:,} of {keys + len(asked):,} requests have a reply of tuples")
+        total, answered = instructions(units(before) + units(asked))
+        if answered != len(before) + len(asked):
+            print(f"    only {answered:,} of {len(before) + len(asked):,} requests have a reply of tuples")
         totals.append(total)
     once, twice = totals
     return (twice - once) / len(selects)
 
 
-def measure_limits(count):
+def measure_limits(count, name, index):
     """Prints what a SELECT costs by each limit, and what a tuple adds."""
-    print(f"GE of key {KEYS // 2:,} among {KEYS:,} keys:")
+    print(f"GE of key {KEYS // 2:,} among {KEYS:,} keys, by {name}:")
     costs = {}
     for limit in LIMITS:
-        costs[limit] = cost(KEYS, [select(sync, KEYS // 2, "GE", limit) for sync in range(count)])
+        costs[limit] = cost(KEYS, index, [select(sync, KEYS // 2, index, "GE", limit) for sync in range(count)])
         print(f"  limit {limit:>3}: {costs[limit]:>10,.1f} instructions a SELECT", flush=True)
     few, many = min(LIMITS), max(LIMITS)
     print(f"  a tuple more: {(costs[many] - costs[few]) / (many - few):,.1f} instructions")
 
 
-def measure_look_ups(count):
+def measure_look_ups(count, name, index):
     """Prints what a look-up costs among few keys and among many, and how it grows."""
-    print("EQ of one key, by a limit of 1:")
-    look_ups = [select(at, at * STEP % KEYS, limit=1) for at in range(count)]
-    few, many = cost(KEYS, look_ups), cost(MORE_KEYS, look_ups)
+    print(f"EQ of one key, by {name}:")
+    look_ups = [select(at, at * STEP % KEYS, index) for at in range(count)]
+    few, many = cost(KEYS, index, look_ups), cost(MORE_KEYS, index, look_ups)
     for keys, one in ((KEYS, few), (MORE_KEYS, many)):
         print(f"  {keys:>6,} keys: {one:>10,.1f} instructions a SELECT")
     doublings = math.log2(MORE_KEYS / KEYS)
@@ -60,8 +78,10 @@ def main():
         parser.error("a run has 1 SELECT at least")
     if not is_built():
         sys.exit("the program is not built")
-    measure_limits(count)
-    measure_look_ups(count)
+    measure_limits(count, "the primary index", None)
+    measure_limits(count, "another unique index", BY_TREE)
+    measure_look_ups(count, "the primary index", None)
+    measure_look_ups(count, "a hash index", BY_HASH)
 
 
 if __name__ == "__main__":

@@ -1,6 +1,6 @@
 #!/usr/bin/env python3
-"""Lets one allocation of the built program fail, each in turn, while transactions are asked, and checks that nothing
-is lost or done twice.
+"""Lets one allocation of the built program fail, each in turn, while transactions are asked, and while tuples with long
+primary keys are asked by other indexes, and checks that nothing is lost or done twice.
 
 A request that is answered out of memory is asked again, and has to be answered then as if it had been asked once; so
 the replies to all requests, but for the failed ones, are the same whichever allocation fails. Where the program ends
@@ -16,11 +16,12 @@ import shutil
 import subprocess
 import sys
 import tempfile
+from dataclasses import dataclass
 from pathlib import Path
 
 from iproto import GREETING_BYTES, SEED, Reader, input_unit, packets_in, read_reply, request
 from program import PROGRAM, TRACE, environment, expect, run_checks
-from steps import INDEXES, TEST, index_row
+from steps import INDEXES, SPACES, TEST, index_row, space_row
 
 SECONDS = 60
 SCRATCH = Path(tempfile.mkdtemp(prefix="vurandy-"))
@@ -72,59 +73,117 @@ def control(name, stream=1, connection=1):
     return connection, name, stream, {}
 
 
+@dataclass(frozen=True)
+class Conversation:
+    """Requests with the replies that are due: the number of a refusal, or tuples; None is OK without any."""
+
+    name: str
+    # What is asked before an allocation fails.
+    before: tuple
+    asked: tuple
+    due: tuple
+    # The places of the requests that commit, and the tuples that are there before all of them and after each one.
+    commits: tuple
+    states: tuple
+    # What is read in the end.
+    read: tuple
+
+
 # The tuple of a text that has no place in a short key or a short tuple.
 LONG = "x" * 100
 # The row of a second index, which is unique.
 INDEX = index_row(TEST, 1, "name", [[1, "string"]])
-# Two transactions that write, beside one that is rolled back and a reader that a commit overlaps.
-ASKED = (
-    statement("INSERT", 0, space=INDEXES, tuple=INDEX),
-    statement("REPLACE", 0, tuple=[1, "one", 1]),
-    control("BEGIN"),
-    statement("REPLACE", tuple=[2, LONG, 2]),
-    statement("UPDATE", key=[1], operations=[["+", 2, 1]]),
-    statement("INSERT", tuple=[2, "again", 0]),
-    control("BEGIN", 2),
-    statement("SELECT", 2, key=[1], limit=10),
-    statement("UPSERT", tuple=[3, "three", 3], operations=[["=", 2, 4]]),
-    statement("DELETE", key=[9]),
-    statement("SELECT", key=[], limit=10, iterator="ALL"),
-    control("BEGIN", 1, 2),
-    statement("REPLACE", 1, 2, tuple=[5, "five", 5]),
-    control("COMMIT"),
-    statement("SELECT", 2, key=[1], limit=10),
-    control("ROLLBACK", 1, 2),
-    statement("REPLACE", 0, tuple=[4, LONG * 2, 4]),
-    control("COMMIT", 2),
-)
 ONE, ONE_MORE, TWO, THREE = [1, "one", 1], [1, "one", 2], [2, LONG, 2], [3, "three", 3]
 FOUR, FIVE = [4, LONG * 2, 4], [5, "five", 5]
-# The replies: the number of a refusal, or tuples; None is OK without any.
-DUE = (
-    [INDEX],
-    [ONE],
-    None,
-    [TWO],
-    [ONE_MORE],
-    3,
-    None,
-    [ONE],
-    [],
-    [],
-    [ONE_MORE, TWO, THREE],
-    None,
-    [FIVE],
-    None,
-    [ONE],
-    None,
-    [FOUR],
-    None,
+# Two transactions that write, beside one that is rolled back and a reader that a commit overlaps.
+TRANSACTIONS = Conversation(
+    name="transactions",
+    before=(),
+    asked=(
+        statement("INSERT", 0, space=INDEXES, tuple=INDEX),
+        statement("REPLACE", 0, tuple=[1, "one", 1]),
+        control("BEGIN"),
+        statement("REPLACE", tuple=[2, LONG, 2]),
+        statement("UPDATE", key=[1], operations=[["+", 2, 1]]),
+        statement("INSERT", tuple=[2, "again", 0]),
+        control("BEGIN", 2),
+        statement("SELECT", 2, key=[1], limit=10),
+        statement("UPSERT", tuple=[3, "three", 3], operations=[["=", 2, 4]]),
+        statement("DELETE", key=[9]),
+        statement("SELECT", key=[], limit=10, iterator="ALL"),
+        control("BEGIN", 1, 2),
+        statement("REPLACE", 1, 2, tuple=[5, "five", 5]),
+        control("COMMIT"),
+        statement("SELECT", 2, key=[1], limit=10),
+        control("ROLLBACK", 1, 2),
+        statement("REPLACE", 0, tuple=[4, LONG * 2, 4]),
+        control("COMMIT", 2),
+    ),
+    due=(
+        [INDEX],
+        [ONE],
+        None,
+        [TWO],
+        [ONE_MORE],
+        3,
+        None,
+        [ONE],
+        [],
+        [],
+        [ONE_MORE, TWO, THREE],
+        None,
+        [FIVE],
+        None,
+        [ONE],
+        None,
+        [FOUR],
+        None,
+    ),
+    commits=(0, 1, 13, 16),
+    states=([], [], [ONE], [ONE_MORE, TWO, THREE], [ONE_MORE, TWO, THREE, FOUR]),
+    read=statement("SELECT", 0, key=[], limit=10, iterator="ALL"),
 )
-# The places of the requests that commit, and the tuples that are there before all of them and after each one.
-COMMITS = (0, 1, 13, 16)
-STATES = ([], [], [ONE], [ONE_MORE, TWO, THREE], [ONE_MORE, TWO, THREE, FOUR])
-# What is read in the end.
-READ = statement("SELECT", 0, key=[], limit=10, iterator="ALL")
+
+TEXTS = 600
+# The keys of these have no place in a short key, so that a search by another index takes memory.
+A, A_MORE = ["a" * 40, 1, 5], ["a" * 40, 1, 6]
+B, C = ["b" * 40, 2, 5], ["c" * 40, 3, 5]
+
+
+def of_texts(name, stream=1, **fields):
+    return statement(name, stream, space=TEXTS, **fields)
+
+
+# Statements by a unique index of numbers, and by one of groups that isn't unique: by themselves and in a transaction.
+LONG_KEYS = Conversation(
+    name="long keys",
+    before=(
+        statement("INSERT", 0, space=SPACES, tuple=space_row(TEXTS, "texts")),
+        statement("INSERT", 0, space=INDEXES, tuple=index_row(TEXTS, 0, "primary", [[0, "string"]])),
+        statement("INSERT", 0, space=INDEXES, tuple=index_row(TEXTS, 1, "number", [[1, "unsigned"]])),
+        statement("INSERT", 0, space=INDEXES, tuple=[TEXTS, 2, "group", "tree", {"unique": False}, [[2, "unsigned"]]]),
+        of_texts("INSERT", 0, tuple=A),
+        of_texts("INSERT", 0, tuple=B),
+    ),
+    asked=(
+        of_texts("SELECT", 0, index=2, key=[5], limit=10),
+        of_texts("SELECT", 0, index=1, key=[2], limit=10),
+        of_texts("UPDATE", 0, index=1, key=[1], operations=[["+", 2, 1]]),
+        of_texts("INSERT", 0, tuple=["d" * 40, 2, 5]),
+        control("BEGIN"),
+        of_texts("REPLACE", tuple=C),
+        of_texts("DELETE", index=1, key=[2]),
+        of_texts("SELECT", index=2, key=[], limit=10, iterator="ALL"),
+        of_texts("SELECT", index=1, key=[2], limit=10),
+        of_texts("INSERT", tuple=["d" * 40, 3, 5]),
+        control("COMMIT"),
+        of_texts("SELECT", 0, index=2, key=[], limit=10, iterator="REQ"),
+    ),
+    due=([A, B], [B], [A_MORE], 3, None, [C], [B], [C, A_MORE], [], 3, None, [A_MORE, C]),
+    commits=(2, 10),
+    states=([A, B], [A_MORE, B], [A_MORE, C]),
+    read=of_texts("SELECT", 0, key=[], limit=10, iterator="ALL"),
+)
 
 
 # How many requests were asked again, and how many runs ended for want of memory: neither may be none.
@@ -210,23 +269,25 @@ def new_folder():
     return Path(tempfile.mkdtemp(dir=SCRATCH))
 
 
-def state_of(folder):
+def state_of(conversation, folder):
     """What a further run finds."""
     with Run(folder) as run:
-        found = run.ask(*READ)
+        found = run.ask(*conversation.read)
         expect("status of the further run", (0, ""), run.end()[:2])
     return found
 
 
-def check_whole(folder, failing):
+def check_whole(conversation, folder, failing):
     """Asks all, and checks the replies and what a further run finds."""
-    done = 0
+    done, states = 0, conversation.states
     with Run(folder, failing) as run:
         try:
-            for at, (asked, due) in enumerate(zip(ASKED, DUE)):
+            for asked in conversation.before:
+                expect(f"reply to {asked[1]} before", False, isinstance(run.ask(*asked), int))
+            for at, (asked, due) in enumerate(zip(conversation.asked, conversation.due, strict=True)):
                 expect(f"reply to {asked[1]}, request {at}", due, ask_again(run, asked))
                 done = at + 1
-            expect("tuples in the end", STATES[-1], ask_again(run, READ))
+            expect("tuples in the end", states[-1], ask_again(run, conversation.read))
             status, said, _ = run.end()
             expect("status", (0, ""), (status, said))
         except Ended:
@@ -234,15 +295,15 @@ def check_whole(folder, failing):
             status, said, _ = run.end()
             expect("status of a run that ended before its input", STATUS_NO_MEMORY, status)
             assert "NoMemory" in said, f"standard error: {said!r}"
-    least = sum(place < done for place in COMMITS)
-    most = least if status == 0 else sum(place <= done for place in COMMITS)
-    found = state_of(folder)
-    assert found in STATES[least : most + 1], f"after {done} requests the next run finds {found}"
+    least = sum(place < done for place in conversation.commits)
+    most = least if status == 0 else sum(place <= done for place in conversation.commits)
+    found = state_of(conversation, folder)
+    assert found in states[least : most + 1], f"after {done} requests the next run finds {found}"
 
 
-def check_failing(failing):
+def check_failing(conversation, failing):
     folder = new_folder()
-    check_whole(folder, failing)
+    check_whole(conversation, folder, failing)
     shutil.rmtree(folder)
 
 
@@ -259,12 +320,14 @@ def count_of(requests):
 
 
 def failures():
-    """The checks: one for each allocation that the requests make."""
-    first, last = count_of(()), count_of(ASKED)
-    assert first < last, f"allocations: {first} before, {last} in all"
-    yield "no allocation fails", check_failing, None
-    for number in range(first + 1, last + 1):
-        yield f"allocation {number} of {first + 1} to {last} fails", check_failing, number
+    """The checks: one for each allocation that the requests of a conversation make."""
+    for conversation in (TRANSACTIONS, LONG_KEYS):
+        before = conversation.before
+        first, last = count_of(before), count_of(before + conversation.asked)
+        assert first < last, f"allocations: {first} before, {last} in all"
+        yield f"{conversation.name}: no allocation fails", check_failing, conversation, None
+        for number in range(first + 1, last + 1):
+            yield f"{conversation.name}: allocation {number} of {first + 1} to {last} fails", check_failing, conversation, number
     yield "failures are seen", check_seen
 
 
