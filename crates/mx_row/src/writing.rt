@@ -1,6 +1,6 @@
 //! Transactions of a journal, written in their shortest spelling.
 
-ghost use Rattle.std.specs.Prelude.{◌≡◌, ◌≤◌, ◌<◌, ◌+◌, ℕ, ◌∷◌, ◌++◌, Some, length, map, slice_get, take, MatchResult};
+ghost use Rattle.std.specs.Prelude.{◌≡◌, ◌≤◌, ◌<◌, ◌+◌, ◌∷◌, ◌++◌, Some, length, map, slice_get, take, MatchResult};
 ghost use Rattle.std.specs.List.{concat};
 ghost use Rattle.mx_msgpack.specs.Spelling.{shortest_unsigned};
 ghost use Rattle.mx_base.specs.Keys.{base_key, row_number_key};

@@ -1,4 +1,4 @@
-use Rattle.std.proofs.Common.{◌≡◌, ◌≤◌, ◌-◌, ℕ, List, length, drop, Err, Some, Option, sym, ap, ◌∙◌, subst, arith}
+use Rattle.std.proofs.Common.{◌≡◌, ◌-◌, ℕ, length, Err, Some, Option, sym, ap, ◌∙◌, subst, arith}
 use Rattle.std.specs.Prelude.{Result}
 use Rattle.std.specs.Option.{option_map}
 use Rattle.mx_row.specs.declared.row_fault.RowFault.{RowFault}
