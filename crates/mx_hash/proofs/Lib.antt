@@ -1,2 +1,2 @@
 mod OrderLaws
-mod TableLaws
+pub mod TableLaws

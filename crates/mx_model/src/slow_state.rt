@@ -138,7 +138,7 @@ fn move_spaces(
 fn move_space(alloc: Global, space: Space) -> Result<SlowSpace, AllocError>
     ensures { IfOk result (λ moved. MovesSpace space moved) }
 {
-    let (schema, mut left) = space.into_parts();
+    let (schema, mut left) = space.into_parts(alloc)?;
     let mut tuples = Vec::new(alloc);
     while let Some((key, tuple)) = left.pop_first() {
         tuples.push(Keyed { key, tuple })?;

@@ -6,12 +6,12 @@ use Rattle.std.specs.declared.cmp.Ordering.TheVariants.{Less, Equal, Greater}
 use Rattle.std.specs.BTreeMap.{insert_entry, is_at}
 use Rattle.std.specs.Cmp.{tied_itself}
 use Rattle.std.specs.Cmp.Lexicographic.{slice_cmp}
-use Rattle.std.specs.FinMap.{FinMap, empty, entries, entries-insert, entries_sorted, get, get-entries, get-remove, insert, len-empty, len-entries, remove}
-use Rattle.std.specs.FinMap.Entries.{below_all, by_order, find, find-where_key, is_sorted, is_sorted-where_key, put, same_entries, where_key}
+use Rattle.std.specs.FinMap.{FinMap, empty, entries, entries-insert, entries_sorted, get, get-entries, insert, len-empty, len-entries, remove}
+use Rattle.std.specs.FinMap.Entries.{below_all, by_order, find, is_sorted, put, where_key}
 use Rattle.std.specs.List.{AllByRecursion}
 use Rattle.std.specs.Map.{lookup, remove_entry}
 use Rattle.std.specs.Option.{option_map}
-use Rattle.std.specs.Ordering.{eq_by_cmp, is_eq, is_lt, match_ordering, nat_cmp, ordering_reverse}
+use Rattle.std.specs.Ordering.{eq_by_cmp, is_eq, is_lt, match_ordering, nat_cmp}
 use Rattle.std.proofs.lemmas.Cmp.{nat_list_cmp_total}
 use Rattle.std.proofs.lemmas.List.{nil_from_length}
 use Rattle.mx_key.specs.Keys.{Key, AreFit, key_cmp}
@@ -23,6 +23,7 @@ use Rattle.mx_space.specs.Changes.{with_added, without_key}
 use Rattle.mx_space.specs.Entries.{IndexEntry, has_entry, with_entry}
 use Rattle.mx_space.specs.Kept.{StoresEntries, entry_bytes}
 use Rattle.mx_space.proofs.EntriesLaws.{tied_is}
+use Rattle.mx_space.proofs.SortedLaws.{entries_without}
 
 abbrev Pairs : Type 0
 Pairs = List (Key × Key)
@@ -89,31 +90,12 @@ module _ (key primary : Key) (fit : AreFit key) where
 
 -- ---- one less
 
-eq_reverse : (o : Ordering) → is_eq (ordering_reverse o) ≡ is_eq o
-eq_reverse Less = refl
-eq_reverse Equal = refl
-eq_reverse Greater = refl
-
-flipped : {X : Type 0} (b : Bool) (x : Option X) → cond b None x ≡ cond (not b) x None
-flipped true x = refl
-flipped false x = refl
-
 module _ (key : Key) (fit : AreFit key) where
   abbrev apart : Key → Bool
   apart other = not (eq_by_cmp key_cmp key other)
 
   entries_removed : (all : Kept) → entries (remove all key) ≡ where_key key_cmp apart (entries all)
-  entries_removed all =
-      same_entries key_cmp key_cmp_total key_cmp-IsAntisymmetric (entries (remove all key)) (where_key key_cmp apart (entries all))
-      (entries_sorted (remove all key)) (is_sorted-where_key key_cmp apart (entries all) (entries_sorted all))
-      (λ q. sym (get-entries (remove all key) q) ∙ get-remove key_cmp_total all key q ∙ by_tie q
-      ∙ sym (find-where_key key_cmp apart q (λ x e. ap apart (sym (key_cmp-IsAntisymmetric q x e))) (entries all)))
-    where
-      by_tie : (q : Key) → cond (eq_by_cmp key_cmp q key) None (get all q) ≡ cond (not (eq_by_cmp key_cmp key q)) (find key_cmp q (entries all)) None
-      by_tie q =
-          ap (λ (b : Bool). cond b None (get all q)) (ap is_eq (key_cmp_total.antisymm q key) ∙ eq_reverse (key_cmp key q))
-          ∙ flipped (eq_by_cmp key_cmp key q) (get all q)
-          ∙ ap (λ (o : Option Key). cond (not (eq_by_cmp key_cmp key q)) o None) (get-entries all q)
+  entries_removed all = entries_without key_cmp_total key_cmp-IsAntisymmetric all key
 
   -- no key ties above one that does
   kept_above : (entry : Key × Key) (all : Pairs) → key_cmp key entry.0 ≡ Equal → T (below_all key_cmp entry.0 all) → where_key key_cmp apart all ≡ all

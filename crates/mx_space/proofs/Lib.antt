@@ -7,6 +7,8 @@ pub mod ContentLaws
 pub mod CopyLaws
 pub mod EntriesLaws
 pub mod FirstLaws
+pub mod FirstTupleLaws
+pub mod HashLaws
 pub mod HeldLaws
 pub mod HolderLaws
 pub mod IndexScanLaws
@@ -35,6 +37,7 @@ pub mod ReserveLaws
 pub mod ScanLaws
 pub mod ShownLaws
 pub mod ShownRowLaws
+pub mod SortedLaws
 pub mod SoundLaws
 pub mod SpaceLaws
 pub mod SplitLaws

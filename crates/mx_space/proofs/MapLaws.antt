@@ -1,6 +1,6 @@
 -- The map that a SELECT reads: the tuples of a space, or those under their keys in another index.
-use Rattle.std.proofs.Common.{◌≡◌, Bool, not, List, [], ◌∷◌, ℕ, length, Option, Some, None, sym, ap, ◌∙◌, subst, true≢false}
-use Rattle.std.specs.Prelude.{◌≢◌, IsTrue, MatchOption, is_some}
+use Rattle.std.proofs.Common.{◌≡◌, List, [], ◌∷◌, ℕ, length, Option, Some, None, sym, ◌∙◌, subst}
+use Rattle.std.specs.Prelude.{◌≢◌, MatchOption}
 use Rattle.std.specs.List.{AllByRecursion}
 use Rattle.mx_key.specs.Keys.{Key}
 use Rattle.mx_schema.specs.declared.index_def.IndexDef.{IndexDef}
@@ -24,8 +24,3 @@ module _ {X : Type 0} (view : X → List StoredTuple) (def : IndexDef) (all : Tu
       let theirs : StoresTuples (view kept) all = subst (λ one. StoresTuples (view one) all) (sym same) keeps in
       subst (StoresTuples (view kept)) (sym (primary_index def all first)) theirs
   kept_stored (Some found) keeps other same = subst (λ one. StoresTuples (view one) (tuples_by_index def all)) (sym same) other.1
-
-  pub is_first : (indexed : Option X) (is : Bool) → is_some indexed ≡ not is → IsTrue is
-      → MatchOption indexed (def.id.0 ≡ 0) (λ found. (def.id.0 ≢ 0) × StoresTuples (view found) (tuples_by_index def all)) → def.id.0 ≡ 0
-  is_first None is same here first = first
-  is_first (Some found) is same here other = absurd (true≢false (same ∙ ap not here))

@@ -249,6 +249,14 @@ seen_fits schema space over all written def long stores writes whole whole_seen 
         index_fits def (under written all) long whole_seen other have one_each (map entry_bytes (entries (kept_entries def (under written all))))
         (keeps_seen schema over written writes all space.tuples.entries stores.holds.keeps def other long whole whole_seen have one_each index.0 own_index.0 keeps keeps_own)
 
+-- the primary keys of what is seen
+pub first_fits : (schema : Option Schema) (space : Space) (over : OverlaidSpace) (all : Tuples) (written : OwnWrites) (def : IndexDef) (long : ℕ) → StoresIndexed schema space all
+    → StoresWritten schema over written → AreLong long all → AreLong long (under written all) → index_with def.id.0 space.schema.indexes ≡ Some def
+    → HaveKeys def (under written all) → (def.unique ≡ true → AreUnique def (under written all)) → def.id.0 ≡ 0 → AreFitEntries (entries (under written all))
+first_fits schema space over all written def long stores writes whole whole_seen there have one_each first =
+    subst (λ (t : Tuples). AreFitEntries (entries t)) (primary_index def (under written all) first)
+    (seen_fits schema space over all written def long stores writes whole whole_seen there have one_each)
+
 -- the primary keys of what is seen have as many parts as the primary index
 pub seen_long : (schema : Option Schema) (space : Space) (over : OverlaidSpace) (all : Tuples) (written : OwnWrites) (primary : IndexDef) → StoresIndexed schema space all
     → StoresWritten schema over written → index_with 0 space.schema.indexes ≡ Some primary → AreLong (length primary.key) (under written all)

@@ -17,7 +17,7 @@ use Rattle.mx_schema.specs.declared.schema.Schema.{Schema}
 use Rattle.mx_schema.specs.Catalogues.{StandByKey, index_with}
 use Rattle.mx_schema.specs.Picks.{Indexed}
 use Rattle.mx_schema.specs.State.{Tuples, key_in}
-use Rattle.mx_schema.specs.Stored.{StandByPrimary, StoresSpace}
+use Rattle.mx_schema.specs.Stored.{StandByPrimary, StoredTuple, StoresSpace, StoresTuples, stored_tuple}
 use Rattle.mx_schema.proofs.StateLaws.{none_stand, stands_after}
 use Rattle.mx_schema.proofs.StoredLaws.{no_entries, stores_put}
 use Rattle.mx_schema.proofs.StoredLaws as stored
@@ -46,6 +46,10 @@ nothing_kept def kept none = by_number (def.id.0 == 0)
     by_number : (first : Bool) → StoresByNumber first def empty kept
     by_number true = none
     by_number false = subst (StoresEntries kept) (sym (no_kept def)) (stores_none kept none)
+
+-- and nothing is kept of no tuples
+pub nothing_stored : (kept : List StoredTuple) (all : Tuples) → StoresTuples kept all → all ≡ empty → kept ≡ []
+nothing_stored kept all keeps none = sym keeps.same ∙ ap (λ (t : Tuples). map stored_tuple (entries t)) none ∙ ap (map stored_tuple) no_entries
 
 -- a new space
 pub new_space : (space : Space) (schema : Schema) → space.schema ≡ schema → space.tuples.entries ≡ [] → AllZip (StoresIndex empty) schema.indexes space.indexes.items

@@ -6,7 +6,7 @@ use Rattle.std.specs.Cmp.Lexicographic.{slice_cmp}
 use Rattle.std.specs.BTreeMap.{is_at}
 use Rattle.std.specs.List.{AllByRecursion}
 use Rattle.std.specs.Option.{option_to_list, option_map, ok_or}
-use Rattle.std.specs.FinMap.{entries, entries_sorted}
+use Rattle.std.specs.FinMap.{entries, entries_sorted, get}
 use Rattle.std.specs.FinMap.Entries.{below_all, is_sorted}
 use Rattle.std.specs.Map.{lookup, lookup_key, lookup_entry}
 use Rattle.std.specs.Bool.{IsTrue}
@@ -33,11 +33,14 @@ use Rattle.mx_key.proofs.EncodingLaws.{bytes_order}
 use Rattle.mx_key.proofs.RangeLaws.{range_holds}
 use Rattle.mx_schema.specs.State.{Tuples}
 use Rattle.mx_schema.specs.Picks.{Indexed, directed, window}
-use Rattle.mx_schema.specs.Stored.{StoredTuple, stored_tuple}
+use Rattle.mx_schema.specs.Stored.{StoredTuple, StoresTuples, stored_tuple}
+use Rattle.mx_schema.proofs.TakenLaws.{stored_get}
 use Rattle.mx_space.specs.Selecting.{AreFitEntries, found_in, one_found}
+use Rattle.mx_space.specs.TupleMaps.{under_key}
 use Rattle.mx_schema.proofs.OrderLaws.{both, eq_is, first_of, lt_is}
 use Rattle.mx_schema.proofs.PartLaws.{first_part}
 use Rattle.mx_space.proofs.PickLaws.{kept_in_range}
+use Rattle.mx_space.proofs.SortedLaws.{entry_of}
 
 -- ---- how many parts a key has
 
@@ -227,3 +230,8 @@ whole_found tuples fits kept same iterator (part ∷ parts) fit whole exact rang
     by_iterator : (iterator ≡ Eq) ⊎ (iterator ≡ Req) → range_of iterator (part ∷ parts) ≡ prefix_range (part ∷ parts)
     by_iterator (inl same) = ap (λ i. range_by i (part ∷ parts)) same
     by_iterator (inr same) = ap (λ i. range_by i (part ∷ parts)) same
+
+-- the row of a key among tuples
+pub row_stored : (kept : List StoredTuple) (all : Tuples) (wanted : Key) (bytes : List ℕ) → StoresTuples kept all → AreFit wanted → bytes ≡ comparable_of wanted
+    → lookup_entry (is_at (slice_cmp nat_cmp bytes)) kept ≡ option_map (under_key bytes) (get all wanted)
+row_stored kept all wanted bytes keeps fit is = entry_of bytes kept ∙ ap (option_map (under_key bytes)) (stored_get kept all wanted bytes keeps fit is)

@@ -2,6 +2,7 @@ pub mod Builds
 pub mod Built
 pub mod Changes
 pub mod Entries
+pub mod HashViews
 pub mod Kept
 pub mod KeptKeys
 pub mod KeptStates
@@ -16,3 +17,5 @@ pub mod Selecting
 pub mod ShownRows
 pub mod Spaces
 pub mod Stored
+pub mod TupleMaps
+pub mod TupleViews

@@ -18,6 +18,7 @@ ghost use Rattle.mx_space.specs.Kept.{StoresEntries, StoresIndex, kept_entries};
 use crate::entries::whole_entry;
 use crate::index::Index;
 use crate::tree_index::TreeIndex;
+use crate::tuple_map::TupleMap;
 use mx_key::{KeyFault, NoKey, key_of_tuple};
 use mx_msgpack::Bytes;
 use mx_schema::{IndexDef, array_or_empty};
@@ -50,7 +51,7 @@ impl From<AllocError> for BuildFault {
 pub(crate) fn new_entries(
     alloc: Global,
     def: &IndexDef,
-    tuples: &BTreeMap<Bytes, Bytes>,
+    tuples: &TupleMap,
 ) -> Result<TreeIndex, BuildFault>
     ensures { (all : plain.Tuples) (long : ℕ) → StoresTuples tuples.now.entries all → (def.now.id.0 ≡ 0 → all ≡ finite.empty) → (def.now.id.0 ≢ 0 → AreLong long all) → MatchResult result
         (λ index. (build_fault def.now all ≡ None) × StoresIndex all def.now index)
@@ -59,7 +60,8 @@ pub(crate) fn new_entries(
     if def.id.0 == 0 {
         return Ok(TreeIndex::new(alloc));
     }
-    build(alloc, def, tuples)
+    let ordered = tuples.in_order(alloc)?;
+    build(alloc, def, ordered.as_map())
 }
 
 /// The entries of an index of another number than 0.

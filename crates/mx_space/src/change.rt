@@ -8,10 +8,10 @@ ghost use Rattle.mx_space.specs.Changes.{all_changed, all_without, with_added, w
 
 use crate::index::Index;
 use crate::tree_index::TreeIndex;
+use crate::tuple_map::TupleMap;
 use mx_msgpack::Bytes;
 use mx_schema::Keyed;
 use std::alloc::{AllocError, Global};
-use std::collections::BTreeMap;
 
 /// What a write changes in an index: the key of the entry that it adds, and that of the one that it removes.
 #[derive(Drop)]
@@ -26,7 +26,7 @@ pub(crate) struct Change {
 /// Out of memory. Nothing changed then.
 pub(crate) fn put_all(
     alloc: Global,
-    tuples: &mut BTreeMap<Bytes, Bytes>,
+    tuples: &mut TupleMap,
     indexes: &mut [TreeIndex],
     changes: &[Change],
     keyed: Keyed,

@@ -1,6 +1,6 @@
 //! The keys that a write needs in each index, which are made before anything is changed.
 
-ghost use Rattle.std.specs.Prelude.{◌≡◌, List, ℕ, Option, Some, None, ◌==◌, IfOk};
+ghost use Rattle.std.specs.Prelude.{◌≡◌, Option, Some, None, ◌==◌, IfOk};
 ghost use Rattle.std.specs.List.{AllZip};
 ghost use Rattle.std.specs.Option.{option_copied};
 ghost use Rattle.mx_key.specs.Comparable.{comparable_of};

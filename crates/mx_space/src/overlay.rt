@@ -30,7 +30,7 @@ impl OverlaidSpace {
         ensures { IfOk result (λ over. StoresWritten (Some schema) over finite.empty) }
     {
         Ok(OverlaidSpace {
-            own: Space::new(alloc, schema)?,
+            own: Space::of_trees(alloc, schema)?,
             removed: BTreeSet::new(alloc),
         })
     }

@@ -1,6 +1,6 @@
 //! A transaction's own writes in all spaces.
 
-ghost use Rattle.std.specs.Prelude.{◌≡◌, ℕ, List, [], ◌∷◌, ◌++◌, Option, Some, None, Ok, IfOk, OnOk, OnErr};
+ghost use Rattle.std.specs.Prelude.{◌≡◌, ℕ, List, [], ◌∷◌, ◌++◌, map, Option, Some, None, Ok, IfOk, OnOk, OnErr};
 ghost use Rattle.std.specs.Cmp.Lexicographic.{slice_cmp};
 ghost use Rattle.std.specs.FinMap as finite;
 ghost use Rattle.std.specs.List.{AllByRecursion, AllZip};
@@ -17,7 +17,7 @@ ghost use Rattle.mx_schema.specs.State as plain;
 ghost use Rattle.mx_schema.specs.State.{key_in};
 ghost use Rattle.mx_space.specs.Overlays.{StoresWritten};
 ghost use Rattle.mx_space.specs.OwnChanges.{HoldsOwn, overlaid, state_with_own};
-ghost use Rattle.mx_space.specs.OwnCommit.{AreOrdered, changes_in, puts_in, removals_in};
+ghost use Rattle.mx_space.specs.OwnCommit.{AreOrdered, changes_in, put_change, removals_in};
 ghost use Rattle.mx_space.specs.Reserves.{AreApart, MayStand, PlainChange, SpellsChange, state_with_all};
 ghost use Rattle.mx_space.specs.Stored.{HoldsBy};
 
@@ -120,7 +120,7 @@ impl Overlay {
     {
         let mut changes = TupleChanges::new(alloc);
         for (space, over) in &self.spaces {
-            add_changes(SpaceId(*space), over, &mut changes)?;
+            add_changes(alloc, SpaceId(*space), over, &mut changes)?;
         }
         Ok(changes)
     }
@@ -135,6 +135,7 @@ fn first_writes(alloc: Global, stored: &Space) -> Result<OverlaidSpace, AllocErr
 
 /// Adds the changes of one space.
 fn add_changes(
+    alloc: Global,
     space: SpaceId,
     over: &OverlaidSpace,
     changes: &mut TupleChanges,
@@ -142,22 +143,23 @@ fn add_changes(
     ensures adds { OnOk result (changes.new ≡ changes.old ++ changes_in (space.0, over.now)) }
     ensures ordered { OnOk result (AreOrdered over.now) }
 {
-    let puts = over.own().tuples().len();
-    changes.reserve(puts.saturating_add(over.removed().len()))?;
-    add_puts(space, over, changes)?;
+    let puts = over.own().tuples().in_order(alloc)?;
+    let count = puts.as_map().len().saturating_add(over.removed().len());
+    changes.reserve(count)?;
+    add_puts(space, puts.as_map(), changes)?;
     add_removals(space, over, changes)?;
     Ok(())
 }
 
 fn add_puts(
     space: SpaceId,
-    over: &OverlaidSpace,
+    puts: &BTreeMap<Bytes, Bytes>,
     changes: &mut TupleChanges,
 ) -> Result<(), AllocError>
-    ensures adds { OnOk result (changes.new ≡ changes.old ++ puts_in space.0 over.now) }
-    ensures ordered { OnOk result (IsStrictlySortedBy (slice_cmp nat_cmp) (keys_of over.now.own.tuples.entries)) }
+    ensures adds { OnOk result (changes.new ≡ changes.old ++ map (put_change space.0) puts.now.entries) }
+    ensures ordered { OnOk result (IsStrictlySortedBy (slice_cmp nat_cmp) (keys_of puts.now.entries)) }
 {
-    for (key, tuple) in over.own().tuples() {
+    for (key, tuple) in puts {
         changes.push(TupleChange {
             space,
             key: key.clone()?,

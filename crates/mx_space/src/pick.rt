@@ -8,10 +8,10 @@ ghost use Rattle.mx_schema.specs.Picks.{directed, max_result_size};
 ghost use Rattle.mx_space.specs.Selecting.{IsCollected, IsStopped, key_in_index, one_found, row_of, select_fault_of, stop_fault_of, tuple_stored};
 
 use crate::scan::Scan;
+use crate::tuple_map::TupleMap;
 use mx_key::{IterKind, Misfit, RangeFault};
 use mx_msgpack::{Bytes, Tuples};
 use std::alloc::{AllocError, Global};
-use std::collections::BTreeMap;
 
 /// The maximum size of a SELECT's result, in bytes.
 pub const MAX_RESULT_SIZE: usize = 16_777_216;
@@ -94,7 +94,7 @@ pub(crate) enum Source<'a> {
     /// Among these, under the primary keys that the entries of an index have.
     Tuples {
         alloc: Global,
-        tuples: &'a BTreeMap<Bytes, Bytes>,
+        tuples: &'a TupleMap,
         unique: bool,
     },
 }
@@ -136,7 +136,7 @@ fn key_in_index<'a>(unique: bool, key: &'a [u8], primary: &[u8]) -> &'a [u8]
 /// The tuple under a primary key; no bytes where there is none.
 pub(crate) fn tuple_stored<'a>(
     alloc: Global,
-    tuples: &'a BTreeMap<Bytes, Bytes>,
+    tuples: &'a TupleMap,
     primary: &[u8],
 ) -> Result<&'a [u8], AllocError>
     ensures { IfOk result (λ tuple. tuple.now ≡ tuple_stored tuples.now.entries primary.now) }

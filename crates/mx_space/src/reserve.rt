@@ -1,19 +1,15 @@
 //! A change of a space in two steps: first all that takes memory, then all that doesn't.
 
 ghost use Rattle.std.specs.Prelude.{◌≡◌, Option, IfOk, OnOk, OnErr, is_some, not};
-ghost use Rattle.std.specs.BTreeMap.{is_at};
-ghost use Rattle.std.specs.Cmp.Lexicographic.{slice_cmp};
-ghost use Rattle.std.specs.Map.{set_value};
-ghost use Rattle.std.specs.Ordering.{nat_cmp};
 ghost use Rattle.mx_space.specs.Changes.{all_without, with_added, without_key};
 ghost use Rattle.mx_space.specs.Reserved.{added_keys, all_added, is_removal, removed_keys, with_put, with_removal, without_put};
 
 use crate::change::{Change, add, take_out};
 use crate::prepared::TupleStep;
 use crate::tree_index::TreeIndex;
+use crate::tuple_map::TupleMap;
 use mx_msgpack::Bytes;
 use std::alloc::{AllocError, Global};
-use std::collections::BTreeMap;
 
 /// Adds the new entries of a change, and puts its tuple under this key.
 ///
@@ -21,7 +17,7 @@ use std::collections::BTreeMap;
 /// Out of memory. Nothing changed then.
 pub(crate) fn reserve_parts(
     alloc: Global,
-    tuples: &mut BTreeMap<Bytes, Bytes>,
+    tuples: &mut TupleMap,
     indexes: &mut [TreeIndex],
     edits: &[Change],
     key: &Bytes,
@@ -100,7 +96,7 @@ fn add_new(
 /// # Errors
 /// Out of memory. Nothing changed then.
 fn put_tuple(
-    tuples: &mut BTreeMap<Bytes, Bytes>,
+    tuples: &mut TupleMap,
     key: &Bytes,
     tuple: Option<Bytes>,
 ) -> Result<TupleStep, AllocError>
@@ -119,36 +115,23 @@ fn put_tuple(
 }
 
 /// Takes the tuple of a removal out.
-pub(crate) fn remove_tuple(tuples: &mut BTreeMap<Bytes, Bytes>, key: &Bytes, step: &TupleStep)
+pub(crate) fn remove_tuple(tuples: &mut TupleMap, key: &Bytes, step: &TupleStep)
     ensures { tuples.new.entries ≡ with_removal step.now key.now tuples.old.entries }
 {
     match step {
-        TupleStep::Removal => {
-            tuples.remove(key);
-        }
+        TupleStep::Removal => tuples.remove(key),
         TupleStep::Insertion | TupleStep::Replacement(_) => {}
     }
 }
 
 /// Undoes what was done to the tuple under a key when a step was made ready.
-pub(crate) fn put_back(tuples: &mut BTreeMap<Bytes, Bytes>, key: &Bytes, step: TupleStep)
+pub(crate) fn put_back(tuples: &mut TupleMap, key: &Bytes, step: TupleStep)
     ensures { tuples.new.entries ≡ without_put step key.now tuples.old.entries }
 {
     match step {
         TupleStep::Removal => {}
-        TupleStep::Insertion => {
-            tuples.remove(key);
-        }
-        TupleStep::Replacement(old) => set_tuple(tuples, key, old),
-    }
-}
-
-/// Puts a tuple in the place of the one under this key, where there is one.
-fn set_tuple(tuples: &mut BTreeMap<Bytes, Bytes>, key: &Bytes, tuple: Bytes)
-    ensures { tuples.new.entries ≡ set_value (is_at (slice_cmp nat_cmp key.now)) tuples.old.entries tuple }
-{
-    if let Some(place) = tuples.get_mut(key) {
-        *place = tuple;
+        TupleStep::Insertion => tuples.remove(key),
+        TupleStep::Replacement(old) => tuples.set(key, old),
     }
 }
 

@@ -1,22 +1,20 @@
 //! What a SELECT picks of an index.
 
-ghost use Rattle.std.specs.Prelude.{◌≡◌, ◌≢◌, ◌⊎◌, ◌<◌, List, [], length, map, Some, Ok, IfOk, IfSome, IsTrue, MatchOption, MatchResult};
+ghost use Rattle.std.specs.Prelude.{◌≡◌, ◌≢◌, ◌⊎◌, ◌<◌, List, [], length, map, Some, Ok, IfOk, IfSome, IsTrue, MatchOption, MatchResult, false};
 ghost use Rattle.std.specs.BTreeMap.Range.{IsLeBy, IsLtBy};
 ghost use Rattle.std.specs.Cmp.Lexicographic.{slice_cmp};
 ghost use Rattle.std.specs.FinMap as finite;
-ghost use Rattle.std.specs.BTreeMap.{is_at};
 ghost use Rattle.std.specs.List.{AllByRecursion};
-ghost use Rattle.std.specs.Map.{lookup_entry};
 ghost use Rattle.std.specs.Option.{option_map};
 ghost use Rattle.std.specs.Ordering.{nat_cmp};
 ghost use Rattle.std.specs.Range.Bound.{IsForward};
 ghost use Rattle.mx_msgpack.specs.Items.{IsArray};
 ghost use Rattle.mx_key.specs.declared.edge.Edge.TheVariants as edges;
 ghost use Rattle.mx_key.specs.declared.iterator.IterKind.TheVariants as iterators;
-ghost use Rattle.mx_key.specs.Comparable.{bound_of, comparable_of, edges_of};
+ghost use Rattle.mx_key.specs.Comparable.{bound_of, edges_of};
 ghost use Rattle.mx_key.specs.Keys.{Key, AreFit};
 ghost use Rattle.mx_key.specs.Parts.{key_of_array};
-ghost use Rattle.mx_key.specs.Ranges.{range_of};
+ghost use Rattle.mx_key.specs.Ranges.{descends, range_of};
 ghost use Rattle.mx_schema.specs.Picks.{Indexed, tuples_by_index, indexed_with};
 ghost use Rattle.mx_schema.specs.State as plain;
 ghost use Rattle.mx_schema.specs.Stored.{StoresTuples, stored_tuple};
@@ -25,9 +23,11 @@ ghost use Rattle.mx_space.specs.Selecting.{AreFitEntries, IsCollected, IsStopped
 
 use crate::copy::set_entry;
 use crate::index::Index;
-use crate::pick::{Pick, SelectFault, SelectStop, Source, collect, collect_one};
+use crate::pick::{Pick, SelectFault, SelectStop, Source, collect};
 use crate::scan::Scan;
 use crate::tree_index::TreeIndex;
+use crate::tuple_map::TupleMap;
+use crate::whole_row::{primary_key, select_row, stored_row};
 use mx_key::{Edge, IterKind, KeyRange, range_of_key};
 use mx_msgpack::{Bytes, Tuples, known_array};
 use mx_schema::{IndexDef, Keyed, index_tuple};
@@ -38,7 +38,7 @@ use std::collections::BTreeMap;
 /// where `is_own`.
 pub(crate) fn select_from(
     alloc: Global,
-    tuples: &BTreeMap<Bytes, Bytes>,
+    tuples: &TupleMap,
     is_own: bool,
     def: &IndexDef,
     wanted: &Pick<'_>,
@@ -50,10 +50,20 @@ pub(crate) fn select_from(
         → SelectsByKey (finite.entries (tuples_by_index def.now all)) def.now wanted.now found.new result }
 {
     let range = range_of_key(alloc, &def.key, wanted.iterator, wanted.key)?;
-    let indexed = other_index(alloc, def, tuples)?;
-    let is_whole = is_whole_key(is_own, indexed.is_none(), def, wanted.key);
-    let kept = first_map(&indexed, tuples);
-    as_fault(select_range(alloc, kept, range, is_whole, wanted, found))
+    if is_own {
+        if let Some(key) = primary_key(def, &range, wanted) {
+            let row = stored_row(tuples, key);
+            return as_fault(select_row(alloc, row, range, wanted, found));
+        }
+    }
+    if def.id.0 == 0 && is_all(&range, wanted.iterator) {
+        let first = tuples.first(alloc, wanted.offset as usize + wanted.limit as usize)?;
+        return as_fault(select_range(alloc, first.as_map(), range, wanted, found));
+    }
+    let ordered = tuples.in_order(alloc)?;
+    let indexed = other_index(alloc, def, ordered.as_map())?;
+    let kept = first_map(&indexed, ordered.as_map());
+    as_fault(select_range(alloc, kept, range, wanted, found))
 }
 
 /// The tuples under their keys in an index of another number than 0.
@@ -95,14 +105,6 @@ fn first_map<'a>(
     }
 }
 
-/// Whether a key, which is an array, has all parts of the keys of a space's own tuples in its first index.
-fn is_whole_key(is_own: bool, is_first: bool, def: &IndexDef, key: &[u8]) -> bool
-    requires array { IsArray key.now }
-    ensures { IsTrue result → IsTrue is_own × IsTrue is_first × ((fitting : Key) → key_of_array def.now.key key.now ≡ Ok fitting → length fitting ≡ length def.now.key) }
-{
-    is_own && is_first && has_all_parts(def, key)
-}
-
 /// Whether a key, which is an array, has as many parts as the index.
 pub(crate) fn has_all_parts(def: &IndexDef, key: &[u8]) -> bool
     requires array { IsArray key.now }
@@ -128,25 +130,31 @@ fn index_tuples(
     Ok(indexed)
 }
 
-/// The range is that of a key, which has all parts of the entries' keys where `is_whole`.
+/// Whether an iterator goes through all keys, from the first one on.
+fn is_all(range: &KeyRange, iterator: IterKind) -> bool
+    ensures { IsTrue result → (range.now.low ≡ edges.Open) × (range.now.high ≡ edges.Open) × (descends iterator ≡ false) }
+{
+    matches!(range.low, Edge::Open) && matches!(range.high, Edge::Open) && !iterator.descends()
+}
+
+/// As `select_from`, of the tuples in the range of a key.
 fn select_range(
     alloc: Global,
     kept: &BTreeMap<Bytes, Bytes>,
     range: KeyRange,
-    is_whole: bool,
     wanted: &Pick<'_>,
     found: &mut Tuples,
 ) -> Result<Option<KeyRange>, SelectStop>
     requires { IsForward (IsLeBy (slice_cmp nat_cmp)) (IsLtBy (slice_cmp nat_cmp)) (bound_of range.low) (bound_of range.high) }
-    ensures { (all : plain.Tuples) (key : Key) → StoresTuples kept.now.entries all → AreFit key
-        → (IsTrue is_whole → AllByRecursion (λ (entry : Indexed). length entry.0 ≡ length key) (finite.entries all))
-        → range ≡ edges_of (range_of wanted.now.iterator key) → Selects (finite.entries all) wanted.now key found.new result }
+    ensures { (all : List Indexed) (key : Key) → AreFitEntries all → AreFit key → range ≡ edges_of (range_of wanted.now.iterator key)
+        → found_in kept.now.entries range wanted.now.iterator wanted.now.offset wanted.now.limit ≡ found_in (map stored_tuple all) range wanted.now.iterator wanted.now.offset wanted.now.limit
+        → Selects all wanted.now key found.new result }
 {
     found.clear();
     if wanted.limit == 0 {
         return Ok(None);
     }
-    let last = collect_found(kept, &range, is_whole, wanted, found)?;
+    let last = collect_found(kept, &range, wanted, found)?;
     Ok(Some(read_to(alloc, range, wanted, found, last)?))
 }
 
@@ -217,37 +225,19 @@ fn collect_rows<'a>(
 fn collect_found<'a>(
     kept: &'a BTreeMap<Bytes, Bytes>,
     range: &KeyRange,
-    is_whole: bool,
     wanted: &Pick<'_>,
     found: &mut Tuples,
 ) -> Result<Option<&'a [u8]>, SelectStop>
     requires none { found.old ≡ [] }
     requires forward { IsForward (IsLeBy (slice_cmp nat_cmp)) (IsLtBy (slice_cmp nat_cmp)) (bound_of range.now.low) (bound_of range.now.high) }
-    requires more { 0 < wanted.now.limit }
-    ensures { (all : plain.Tuples) (key : Key) → StoresTuples kept.now.entries all → AreFit key
-        → (IsTrue is_whole → AllByRecursion (λ (entry : Indexed). length entry.0 ≡ length key) (finite.entries all))
-        → range.now ≡ edges_of (range_of wanted.now.iterator key) → MatchResult result
+    ensures { MatchResult result
         (λ last. IsCollected found.new (found_in kept.now.entries range.now wanted.now.iterator wanted.now.offset wanted.now.limit) (option_map (λ key. key.now) last))
         (λ stop. IsStopped stop (found_in kept.now.entries range.now wanted.now.iterator wanted.now.offset wanted.now.limit)) }
 {
-    if is_whole {
-        if let Some(key) = exact_key(range, wanted.iterator) {
-            let row = stored_row(kept, key);
-            return collect_one(row, wanted.offset, found);
-        }
-    }
     let down = wanted.iterator.descends();
     let mut entries = Scan::of_tuples(kept, range);
     entries.pass_over(down, wanted.offset);
     collect(&mut entries, down, Source::Entries, wanted.limit, found)
-}
-
-/// The key of an entry, and its tuple.
-fn stored_row<'a>(kept: &'a BTreeMap<Bytes, Bytes>, key: &Bytes) -> Option<(&'a [u8], &'a [u8])>
-    ensures { option_map (λ row. (row.0.now, row.1.now)) result ≡ lookup_entry (is_at (slice_cmp nat_cmp key.now)) kept.now.entries }
-{
-    let (key, tuple) = kept.get_key_value(key)?;
-    Some((key.as_slice(), tuple.as_slice()))
 }
 
 /// The key with which a range of EQ or REQ begins.

@@ -1,13 +1,9 @@
 //! What a SELECT picks of the entries that a view shows.
 
-ghost use Rattle.std.specs.Prelude.{◌≡◌, ◌++◌, List, IfSome, [], drop, map, take, MatchResult};
-ghost use Rattle.std.specs.BTreeMap.Range.{IsLeBy, IsLtBy};
-ghost use Rattle.std.specs.Cmp.Lexicographic.{slice_cmp};
+ghost use Rattle.std.specs.Prelude.{◌≡◌, List, [], map, take, MatchResult};
 ghost use Rattle.std.specs.List.{filter};
 ghost use Rattle.std.specs.Option.{option_map};
-ghost use Rattle.std.specs.Ordering.{nat_cmp};
-ghost use Rattle.std.specs.Range.Bound.{IsForward};
-ghost use Rattle.mx_key.specs.Comparable.{bound_of, edges_of, holds};
+ghost use Rattle.mx_key.specs.Comparable.{edges_of, holds};
 ghost use Rattle.mx_key.specs.Keys.{Key, AreFit};
 ghost use Rattle.mx_key.specs.Ranges.{descends, range_of};
 ghost use Rattle.mx_schema.specs.Picks.{Indexed, directed};

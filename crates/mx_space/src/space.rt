@@ -27,7 +27,7 @@ ghost use Rattle.mx_space.specs.Scans.{SelectsByKey};
 use crate::build::{BuildFault, new_entries};
 use crate::change::{Change, put_all, remove_all};
 use crate::changes::{changes_of, edits_of, removals_of};
-use crate::copy::{copy_of_entries, copy_of_indexes};
+use crate::copy::copy_of_indexes;
 use crate::pick::{Pick, SelectFault, Source};
 use crate::places::{
     clear_all, find_index, insert_index, place_behind, remove_index, remove_indexes,
@@ -37,11 +37,12 @@ use crate::reserve::{put_back, remove_added, remove_replaced, remove_tuple, rese
 use crate::selection::{as_fault, select_entries};
 use crate::tree_index::TreeIndex;
 use crate::tuple_changes::TupleChange;
+use crate::tuple_map::TupleMap;
 use crate::whole_row::{find_row, select_row, whole_key};
 use mx_base::IndexId;
 use mx_key::{KeyRange, range_of_key};
 use mx_msgpack::{Bytes, Tuples};
-use mx_schema::{IndexDef, Keyed, Schema};
+use mx_schema::{IndexDef, IndexKind, Keyed, Schema};
 use std::alloc::{AllocError, Global};
 use std::collections::BTreeMap;
 
@@ -50,13 +51,27 @@ use std::collections::BTreeMap;
 #[derive(Drop)]
 pub struct Space {
     schema: Schema,
-    tuples: BTreeMap<Bytes, Bytes>,
+    tuples: TupleMap,
     indexes: Vec<TreeIndex>,
 }
 
 impl Space {
     /// A space that is described so, without tuples.
     pub fn new(alloc: Global, schema: Schema) -> Result<Space, AllocError>
+        ensures { IfOk result (λ space. StoresIndexed (Some schema) space finite.empty) }
+    {
+        let kind = primary_kind(&schema);
+        Space::of_kind(alloc, schema, kind)
+    }
+
+    /// The same, where the tuples are kept in order whatever the type of the primary index.
+    pub(crate) fn of_trees(alloc: Global, schema: Schema) -> Result<Space, AllocError>
+        ensures { IfOk result (λ space. StoresIndexed (Some schema) space finite.empty) }
+    {
+        Space::of_kind(alloc, schema, IndexKind::Tree)
+    }
+
+    fn of_kind(alloc: Global, schema: Schema, kind: IndexKind) -> Result<Space, AllocError>
         ensures { IfOk result (λ space. StoresIndexed (Some schema) space finite.empty) }
     {
         let mut indexes = Vec::new(alloc);
@@ -67,7 +82,7 @@ impl Space {
         }
         Ok(Space {
             schema,
-            tuples: BTreeMap::new(alloc),
+            tuples: TupleMap::new(alloc, kind),
             indexes,
         })
     }
@@ -78,7 +93,7 @@ impl Space {
     {
         Ok(Space {
             schema: self.schema.copy(alloc)?,
-            tuples: copy_of_entries(&self.tuples)?,
+            tuples: self.tuples.copy()?,
             indexes: copy_of_indexes(alloc, self.indexes.as_slice())?,
         })
     }
@@ -91,17 +106,17 @@ impl Space {
     }
 
     /// The tuples by the comparable bytes of their primary keys.
-    pub(crate) fn tuples(&self) -> &BTreeMap<Bytes, Bytes>
+    pub(crate) fn tuples(&self) -> &TupleMap
         ensures { result.now ≡ self.now.tuples }
     {
         &self.tuples
     }
 
-    /// What describes the space, and its tuples.
-    pub fn into_parts(self) -> (Schema, BTreeMap<Bytes, Bytes>)
-        ensures { (result.0 ≡ self.schema) × (result.1 ≡ self.tuples) }
+    /// What describes the space, and its tuples by the comparable bytes of their primary keys.
+    pub fn into_parts(self, alloc: Global) -> Result<(Schema, BTreeMap<Bytes, Bytes>), AllocError>
+        ensures { IfOk result (λ parts. (parts.0 ≡ self.schema) × (parts.1.entries ≡ self.tuples.entries)) }
     {
-        (self.schema, self.tuples)
+        Ok((self.schema, self.tuples.into_ordered(alloc)?))
     }
 
     /// The tuple whose primary key has these comparable bytes.
@@ -208,10 +223,15 @@ impl Space {
     {
         let index = new_entries(alloc, &def, &self.tuples)?;
         let place = place_behind(self.schema.indexes.as_slice(), def.id);
+        let is_primary = def.id.0 == 0;
+        let kind = def.kind;
         insert_index(&mut self.indexes, place, index)?;
         if let Err(fault) = self.schema.indexes.insert(def) {
             remove_index(&mut self.indexes, place);
             return Err(BuildFault::from(fault));
+        }
+        if is_primary {
+            self.tuples = TupleMap::new(alloc, kind);
         }
         Ok(())
     }
@@ -355,5 +375,13 @@ impl Space {
         ensures { option_copied result ≡ index_kept id.0 self.now.schema.indexes self.now.indexes.items }
     {
         find_index(self.schema.indexes.as_slice(), self.indexes.as_slice(), id)
+    }
+}
+
+/// The type of the primary index; a tree where there is none.
+fn primary_kind(schema: &Schema) -> IndexKind {
+    match schema.index(IndexId(0)) {
+        Some(primary) => primary.kind,
+        None => IndexKind::Tree,
     }
 }

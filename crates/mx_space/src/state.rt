@@ -30,12 +30,12 @@ use crate::selection::select_from;
 use crate::space::Space;
 use crate::spaces::{SpaceEntry, Spaces};
 use crate::tuple_changes::TupleChanges;
+use crate::tuple_map::TupleMap;
 use mx_base::{IndexId, SpaceId};
 use mx_key::KeyRange;
 use mx_msgpack::{Bytes, Tuples};
-use mx_schema::{Catalogue, IndexDef, IndexDefs, Keyed, Schema, SpaceDef, source_of};
+use mx_schema::{Catalogue, IndexDef, IndexDefs, IndexKind, Keyed, Schema, SpaceDef, source_of};
 use std::alloc::{AllocError, Global};
-use std::collections::BTreeMap;
 
 /// The spaces of a database by their numbers.
 #[derive(Drop)]
@@ -216,7 +216,7 @@ impl State {
         if is_own && def.id.0 != 0 {
             return space.select(alloc, def, wanted, found);
         }
-        let none = BTreeMap::new(alloc);
+        let none = TupleMap::new(alloc, IndexKind::Tree);
         let tuples = match self.source_tuples(id, space) {
             Some(tuples) => tuples,
             None => &none,
@@ -225,11 +225,7 @@ impl State {
     }
 
     /// The tuples that a space has or shows; `None` where it shows those of a space that isn't there.
-    fn source_tuples<'a>(
-        &'a self,
-        id: SpaceId,
-        space: &'a Space,
-    ) -> Option<&'a BTreeMap<Bytes, Bytes>>
+    fn source_tuples<'a>(&'a self, id: SpaceId, space: &'a Space) -> Option<&'a TupleMap>
         ensures { (state : plain.State) → Holds self.now state → HoldsSpace (schema_of state id.0) (Some space.now) (tuples_in state id.0)
             → MatchOption result
             (tuples_in state (source_of id.0) ≡ finite.empty)

@@ -17,13 +17,13 @@ use crate::own_changes::Overlay;
 use crate::pick::{Pick, SelectFault};
 use crate::selection::select_from;
 use crate::state::State;
+use crate::tuple_map::TupleMap;
 use crate::view::SpaceView;
 use mx_base::SpaceId;
 use mx_key::KeyRange;
 use mx_msgpack::Tuples;
-use mx_schema::{IndexDef, source_of};
+use mx_schema::{IndexDef, IndexKind, source_of};
 use std::alloc::Global;
-use std::collections::BTreeMap;
 
 /// A state under a transaction's own writes, where it has any. None of them is of a row that describes a
 /// space or an index.
@@ -94,7 +94,7 @@ fn select_rows_of(
     requires array { IsArray wanted.now.key.now }
     ensures { (base : plain.State) → Holds state.now base → SelectsByKey (finite.entries (tuples_by_index def.now (tuples_in base source.0))) def.now wanted.now found.new result }
 {
-    let none = BTreeMap::new(alloc);
+    let none = TupleMap::new(alloc, IndexKind::Tree);
     let tuples = match state.space(source) {
         Some(space) => space.tuples(),
         None => &none,

@@ -5,10 +5,11 @@ ghost use Rattle.std.specs.BTreeMap.Range.{IsLeBy, IsLtBy};
 ghost use Rattle.std.specs.Cmp.Lexicographic.{slice_cmp};
 ghost use Rattle.std.specs.FinMap as finite;
 ghost use Rattle.std.specs.List.{filter};
+ghost use Rattle.std.specs.Option.{option_map};
 ghost use Rattle.std.specs.Ordering.{nat_cmp};
 ghost use Rattle.std.specs.Range.Bound.{IsForward};
 ghost use Rattle.mx_key.specs.declared.iterator.IterKind as kind;
-ghost use Rattle.mx_key.specs.Comparable.{bound_of, edges_of, holds};
+ghost use Rattle.mx_key.specs.Comparable.{bound_of, comparable_of, edges_of, holds};
 ghost use Rattle.mx_key.specs.Keys.{Key, AreFit};
 ghost use Rattle.mx_key.specs.Ranges.{range_of};
 ghost use Rattle.mx_msgpack.specs.Items.{IsArray};
@@ -22,23 +23,26 @@ ghost use Rattle.mx_space.specs.declared.pick.Source.TheVariants as source;
 ghost use Rattle.mx_space.specs.Built.{AreLong};
 ghost use Rattle.mx_space.specs.Kept.{StoresIndexed};
 ghost use Rattle.mx_space.specs.Overlays.{OwnWrites, StoresWritten, under};
-ghost use Rattle.mx_space.specs.Scans.{SelectsByKey};
-ghost use Rattle.mx_space.specs.Selecting.{indexed_row, row_of};
+ghost use Rattle.mx_space.specs.Scans.{Selects, SelectsByKey};
+ghost use Rattle.mx_space.specs.Selecting.{AreFitEntries, indexed_row, row_of};
 ghost use Rattle.mx_space.specs.ShownRows.{is_shown, merged, rows_left};
+ghost use Rattle.mx_space.specs.TupleMaps.{under_key};
 
 use crate::index::Index;
 use crate::overlay::OverlaidSpace;
-use crate::pick::{Pick, SelectFault, Source};
+use crate::pick::{Pick, SelectFault, SelectStop, Source};
 use crate::scan::Scan;
 use crate::selection::{as_fault, select_from};
 use crate::shown_rows::ShownRows;
 use crate::shown_select::select_rows;
 use crate::space::Space;
 use crate::tree_index::TreeIndex;
+use crate::whole_row::{primary_key, select_row, stored_row};
 use mx_key::{KeyRange, range_of_key};
-use mx_msgpack::Tuples;
+use mx_msgpack::{Bytes, Tuples};
 use mx_schema::IndexDef;
 use std::alloc::Global;
+use std::collections::BTreeMap;
 
 /// As `SpaceView::select`, without writes.
 pub(crate) fn select_stored(
@@ -75,15 +79,59 @@ pub(crate) fn select_shown(
         → SelectsByKey (finite.entries (tuples_by_index def.now (under written all))) def.now wanted.now found.new result }
 {
     let range = range_of_key(alloc, &def.key, wanted.iterator, wanted.key)?;
+    if let Some(key) = primary_key(def, &range, wanted) {
+        let row = shown_row(space, over, key);
+        return as_fault(select_row(alloc, row, range, wanted, found));
+    }
+    if def.id.0 == 0 {
+        return as_fault(select_first(alloc, space, over, range, wanted, found));
+    }
     let down = wanted.iterator.descends();
-    let Some(rows) = shown_rows(alloc, space, over, def, &range, down) else {
+    let Some(rows) = other_rows(alloc, space, over, def, &range, down) else {
         return Err(SelectFault::NoMemory);
     };
     as_fault(select_rows(alloc, rows, range, wanted, found))
 }
 
-/// The rows of an index in the range of a key. The space has the index.
-fn shown_rows<'a>(
+/// The tuple under a primary key that is seen under writes, with the key.
+fn shown_row<'a>(
+    space: &'a Space,
+    over: &'a OverlaidSpace,
+    key: &Bytes,
+) -> Option<(&'a [u8], &'a [u8])>
+    ensures { (schema : Option described.Schema) (all : plain.Tuples) (written : OwnWrites) (wanted : Key) → StoresIndexed schema space.now all
+        → StoresWritten schema over.now written → AreFit wanted → key.now ≡ comparable_of wanted
+        → option_map (λ row. (row.0.now, row.1.now)) result ≡ option_map (under_key key.now) (finite.get (under written all) wanted) }
+{
+    if over.hides(key) {
+        return stored_row(over.own().tuples(), key);
+    }
+    stored_row(space.tuples(), key)
+}
+
+/// As `select_shown`, by the index of the number 0, of the range of a key.
+fn select_first(
+    alloc: Global,
+    space: &Space,
+    over: &OverlaidSpace,
+    range: KeyRange,
+    wanted: &Pick<'_>,
+    found: &mut Tuples,
+) -> Result<Option<KeyRange>, SelectStop>
+    requires forward { IsForward (IsLeBy (slice_cmp nat_cmp)) (IsLtBy (slice_cmp nat_cmp)) (bound_of range.low) (bound_of range.high) }
+    ensures { (schema : Option described.Schema) (all : plain.Tuples) (written : OwnWrites) (key : Key) → StoresIndexed schema space.now all → StoresWritten schema over.now written
+        → AreFit key → range ≡ edges_of (range_of wanted.now.iterator key) → AreFitEntries (finite.entries (under written all))
+        → Selects (finite.entries (under written all)) wanted.now key found.new result }
+{
+    let stored = space.tuples().in_order(alloc)?;
+    let own = over.own().tuples().in_order(alloc)?;
+    let down = wanted.iterator.descends();
+    let rows = first_rows(alloc, over, stored.as_map(), own.as_map(), &range, down);
+    select_rows(alloc, rows, range, wanted, found)
+}
+
+/// The rows of an index of another number than 0 in the range of a key. The space has the index.
+fn other_rows<'a>(
     alloc: Global,
     space: &'a Space,
     over: &'a OverlaidSpace,
@@ -95,13 +143,10 @@ fn shown_rows<'a>(
     ensures { (schema : Option described.Schema) (all : plain.Tuples) (written : OwnWrites) (long : ℕ) (iterator : kind.IterKind) (key : Key) → StoresIndexed schema space.now all
         → StoresWritten schema over.now written → AreLong long all → AreLong long (under written all) → index_with def.now.id.0 space.now.schema.indexes ≡ Some def.now
         → HaveKeys def.now (under written all) → (def.now.unique ≡ true → AreUnique def.now (under written all))
-        → AreFit key → length key ≤ length def.now.key → range.now ≡ edges_of (range_of iterator key)
+        → AreFit key → length key ≤ length def.now.key → range.now ≡ edges_of (range_of iterator key) → def.now.id.0 ≢ 0
         → IfSome result (λ rows. rows_left rows
         ≡ directed down (filter (λ entry. holds range.now entry.0) (map stored_tuple (finite.entries (tuples_by_index def.now (under written all)))))) }
 {
-    if def.id.0 == 0 {
-        return Some(first_rows(alloc, space, over, range, down));
-    }
     let stored = space.index(def.id)?;
     let own = over.own().index(def.id)?;
     Some(index_rows(alloc, space, over, def.unique, stored, own, range, down))
@@ -110,23 +155,24 @@ fn shown_rows<'a>(
 /// Those of the index of the number 0.
 fn first_rows<'a>(
     alloc: Global,
-    space: &'a Space,
     over: &'a OverlaidSpace,
+    stored: &'a BTreeMap<Bytes, Bytes>,
+    own: &'a BTreeMap<Bytes, Bytes>,
     range: &KeyRange,
     down: bool,
 ) -> ShownRows<'a>
     requires forward { IsForward (IsLeBy (slice_cmp nat_cmp)) (IsLtBy (slice_cmp nat_cmp)) (bound_of range.now.low) (bound_of range.now.high) }
     ensures { rows_left result ≡ merged down (row_of source.Entries) (row_of source.Entries)
-        (filter (is_shown over.now true) (directed down (filter (λ entry. holds range.now entry.0) space.now.tuples.entries)))
-        (directed down (filter (λ entry. holds range.now entry.0) over.now.own.tuples.entries)) }
+        (filter (is_shown over.now true) (directed down (filter (λ entry. holds range.now entry.0) stored.now.entries)))
+        (directed down (filter (λ entry. holds range.now entry.0) own.now.entries)) }
 {
     ShownRows {
         alloc,
         over,
         is_first: true,
         down,
-        stored: Scan::of_tuples(space.tuples(), range),
-        own: Scan::of_tuples(over.own().tuples(), range),
+        stored: Scan::of_tuples(stored, range),
+        own: Scan::of_tuples(own, range),
         held_stored: None,
         held_own: None,
         stored_source: Source::Entries,

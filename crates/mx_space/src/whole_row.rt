@@ -1,7 +1,11 @@
-//! The tuple that has a whole key in a unique index.
+//! The tuple that has a whole key in a unique index, or in that of the number 0.
 
 ghost use Rattle.std.specs.Prelude.{◌≡◌, ◌⊎◌, ◌<◌, ℕ, List, length, map, Some, None, Ok, true, IfOk, IfSome, MatchOption};
+ghost use Rattle.std.specs.BTreeMap.{is_at};
+ghost use Rattle.std.specs.Cmp.Lexicographic.{slice_cmp};
+ghost use Rattle.std.specs.Map.{lookup_entry};
 ghost use Rattle.std.specs.Option.{option_map};
+ghost use Rattle.std.specs.Ordering.{nat_cmp};
 ghost use Rattle.mx_msgpack.specs.Items.{IsArray};
 ghost use Rattle.mx_key.specs.declared.edge.Edge.TheVariants as edges;
 ghost use Rattle.mx_key.specs.declared.iterator.IterKind.TheVariants as iterators;
@@ -19,11 +23,11 @@ use crate::entries::whole_entry;
 use crate::pick::{Pick, SelectStop, collect_one, tuple_stored};
 use crate::selection::{exact_key, has_all_parts, read_to};
 use crate::tree_index::TreeIndex;
+use crate::tuple_map::TupleMap;
 use mx_key::KeyRange;
 use mx_msgpack::{Bytes, Tuples};
 use mx_schema::IndexDef;
 use std::alloc::{AllocError, Global};
-use std::collections::BTreeMap;
 
 /// The key with which a range of EQ or REQ begins, where it is a whole key of a unique index.
 pub(crate) fn whole_key<'a>(
@@ -41,11 +45,27 @@ pub(crate) fn whole_key<'a>(
     exact_key(range, wanted.iterator)
 }
 
+/// The key with which a range of EQ or REQ begins, where it has all parts of a primary key.
+pub(crate) fn primary_key<'a>(
+    def: &IndexDef,
+    range: &'a KeyRange,
+    wanted: &Pick<'_>,
+) -> Option<&'a Bytes>
+    requires array { IsArray wanted.now.key.now }
+    ensures { IfSome result (λ key. (def.now.id.0 ≡ 0) × (range.now.low ≡ edges.Inclusive key.now) × ((wanted.now.iterator ≡ iterators.Eq) ⊎ (wanted.now.iterator ≡ iterators.Req))
+        × ((fitting : Key) → key_of_array def.now.key wanted.now.key.now ≡ Ok fitting → length fitting ≡ length def.now.key)) }
+{
+    if def.id.0 != 0 || !has_all_parts(def, wanted.key) {
+        return None;
+    }
+    exact_key(range, wanted.iterator)
+}
+
 /// The entry of a whole key in a unique index: that key and the tuple that it leads to.
 pub(crate) fn find_row<'a>(
     alloc: Global,
     index: &'a TreeIndex,
-    tuples: &'a BTreeMap<Bytes, Bytes>,
+    tuples: &'a TupleMap,
     key: &Bytes,
 ) -> Result<Option<(&'a [u8], &'a [u8])>, AllocError>
     ensures { IfOk result (λ found. MatchOption found
@@ -56,6 +76,14 @@ pub(crate) fn find_row<'a>(
         return Ok(None);
     };
     Ok(Some((own, tuple_stored(alloc, tuples, primary)?)))
+}
+
+/// The tuple under a primary key, with the key.
+pub(crate) fn stored_row<'a>(kept: &'a TupleMap, key: &Bytes) -> Option<(&'a [u8], &'a [u8])>
+    ensures { option_map (λ row. (row.0.now, row.1.now)) result ≡ lookup_entry (is_at (slice_cmp nat_cmp key.now)) kept.now.entries }
+{
+    let (key, tuple) = kept.get_key_value(key)?;
+    Some((key.as_slice(), tuple.as_slice()))
 }
 
 /// As `select_entries`, of a row that is the only one in the range, if there is one.

@@ -1,6 +1,7 @@
-use Rattle.std.proofs.Common.{ne_eqb, sym, subst}
+use Rattle.std.proofs.Common.{ne_eqb, sym, ◌∙◌, subst}
 use Rattle.std.proofs.lemmas.Result.{MatchResult-weaker}
 use Rattle.mx_schema.specs.State.{Tuples}
+use Rattle.mx_schema.specs.Stored.{StoresTuples}
 use Rattle.mx_space.specs.Kept.{StoresByNumber, StoresIndex}
 use Rattle.mx_space.proofs.AlterLaws.{none_at_fault}
 use Rattle.mx_space.proofs.SpaceLaws.{nothing_kept}
@@ -16,5 +17,5 @@ pub returns : goal.returns
 returns c = λ all long stores none whole.
     let def = c.args.def.now in
     let other = ne_eqb def.id.0 0 c.if-def-eq0.false in
-    MatchResult-weaker c.build.result (c.build.ensures all long stores (whole c.if-def-eq0.false) other)
+    MatchResult-weaker c.build.result (c.build.ensures all long (subst (λ kept. StoresTuples kept all) (sym (c.as_map.ensures ∙ c.in_ok-ordered.ensures)) stores) (whole c.if-def-eq0.false) other)
     (λ index made. (made.0, subst (λ b. StoresByNumber b def all index) (sym other) made.1)) (λ why said. said)

@@ -1,15 +1,20 @@
-use Rattle.std.proofs.Common.{◌≡◌, map, ap, ◌∙◌}
+use Rattle.std.proofs.Common.{◌≡◌, length, map, Some, refl, sym, ap, ◌∙◌, subst}
 use Rattle.std.specs.FinMap as finite
 use Rattle.std.specs.List.{filter}
 use Rattle.mx_key.specs.Comparable.{holds}
 use Rattle.mx_key.specs.Ranges.{descends}
+use Rattle.mx_schema.specs.Catalogues.{index_with}
 use Rattle.mx_schema.specs.Picks.{directed, tuples_by_index}
 use Rattle.mx_schema.specs.Stored.{stored_tuple}
+use Rattle.mx_schema.proofs.StoredLaws.{primary_index}
 use Rattle.mx_space.specs.Overlays.{under}
+use Rattle.mx_space.specs.Scans.{SelectsByKey}
 use Rattle.mx_space.specs.ShownRows.{rows_left}
 use Rattle.mx_space.proofs.IndexScanLaws.{array_short}
-use Rattle.mx_space.proofs.ShownRowLaws.{seen_fits}
+use Rattle.mx_space.proofs.ShownRowLaws.{first_fits, seen_fits, seen_long}
+use Rattle.mx_space.proofs.MapLaws.{all_as_long}
 use Rattle.mx_space.proofs.StopLaws.{selects_told}
+use Rattle.mx_space.proofs.WholeKeyLaws.{row_stored, whole_bytes, whole_found}
 use Rattle.mx_space.proofs.view_select.select_shown.Goals as goal
 
 pub returns : goal.returns
@@ -18,8 +23,42 @@ returns c = λ schema all written long stores writes whole whole_seen there have
     let wanted = c.args.wanted.now in
     let entries = finite.entries (tuples_by_index def (under written all)) in
     let (key, fits, fit, edges) = c.in_ok-range.ensures.picked in
-    let rows : rows_left c.in-Some.rows ≡ directed (descends wanted.iterator) (filter (λ entry. holds c.in_ok-range.range entry.0) (map stored_tuple entries)) =
-    c.in-Some.ensures schema all written long wanted.iterator key stores writes whole whole_seen there have one_each fit (array_short def.key wanted.key.now key fits) edges
+    let rows : rows_left c.in-Some-other_rows.rows ≡ directed (descends wanted.iterator) (filter (λ entry. holds c.in_ok-range.range entry.0) (map stored_tuple entries)) =
+    c.in-Some-other_rows.ensures schema all written long wanted.iterator key stores writes whole whole_seen there have one_each fit (array_short def.key wanted.key.now key fits) edges c.if-def-eq0.false
     ∙ ap (λ down. directed down (filter (λ entry. holds c.in_ok-range.range entry.0) (map stored_tuple entries))) c.descends-down.ensures in
     let read = c.select_rows.ensures entries key (seen_fits schema c.args.space.now c.args.over.now all written def long stores writes whole whole_seen there have one_each) fit edges rows in
-    selects_told entries def wanted c.select_rows.new.found key fits fit c.select_rows.result c.as_fault.result c.as_fault.ensures read
+    selects_told entries def wanted c.select_rows.new.found key fits fit c.select_rows.result c.as_fault-2.result c.as_fault-2.ensures read
+
+pub returns-in-Some : goal.returns-in-Some
+returns-in-Some c = λ schema all written long stores writes whole whole_seen there have one_each.
+    let def = c.args.def.now in
+    let space = c.args.space.now in
+    let over = c.args.over.now in
+    let wanted = c.args.wanted.now in
+    let seen = under written all in
+    let kept = map stored_tuple (finite.entries seen) in
+    let range = c.in_ok-range.range in
+    let bytes = c.in-Some.key.now in
+    let (key, fits, fit, edges) = c.in_ok-range.ensures.picked in
+    let (first, low, exact, lengths) = c.in-Some.ensures in
+    let is = whole_bytes wanted.iterator key exact range bytes edges low in
+    let fit_seen = first_fits schema space over all written def long stores writes whole whole_seen there have one_each first in
+    let long_seen = all_as_long key (length def.key) (lengths key fits) (finite.entries seen)
+    (seen_long schema space over all written def stores writes (subst (λ n. index_with n space.schema.indexes ≡ Some def) first there)) in
+    let row = c.shown_row-row.ensures schema all written key stores writes fit is ∙ sym (row_stored kept seen key bytes (record { same = refl; fit = fit_seen }) fit is) in
+    let read = c.select_row.ensures (finite.entries seen) key fit_seen fit edges
+    (λ more. whole_found seen fit_seen kept refl wanted.iterator key fit long_seen exact range bytes edges low wanted.offset wanted.limit more _ row) in
+    subst (λ t. SelectsByKey (finite.entries t) def wanted c.select_row.new.found c.as_fault.result) (sym (primary_index def seen first))
+    (selects_told (finite.entries seen) def wanted c.select_row.new.found key fits fit c.select_row.result c.as_fault.result c.as_fault.ensures read)
+
+pub returns-then-def-eq0 : goal.returns-then-def-eq0
+returns-then-def-eq0 c = λ schema all written long stores writes whole whole_seen there have one_each.
+    let def = c.args.def.now in
+    let wanted = c.args.wanted.now in
+    let seen = under written all in
+    let first = c.if-def-eq0.true in
+    let (key, fits, fit, edges) = c.in_ok-range.ensures.picked in
+    let fit_seen = first_fits schema c.args.space.now c.args.over.now all written def long stores writes whole whole_seen there have one_each first in
+    let read = c.select_first.ensures schema all written key stores writes fit edges fit_seen in
+    subst (λ t. SelectsByKey (finite.entries t) def wanted c.select_first.new.found c.as_fault-then-def-eq0.result) (sym (primary_index def seen first))
+    (selects_told (finite.entries seen) def wanted c.select_first.new.found key fits fit c.select_first.result c.as_fault-then-def-eq0.result c.as_fault-then-def-eq0.ensures read)

@@ -5,5 +5,5 @@ use Rattle.mx_space.proofs.overlay.OverlaidSpace.new.Goals as goal
 
 pub returns : goal.returns
 returns c =
-    let over : OverlaidSpace = record { own = c.in_ok-new.field-0; removed = c.new-2.result } in
-    stores_nothing (Some c.args.schema) over c.in_ok-new.ensures c.new-2.ensures.empty
+    let over : OverlaidSpace = record { own = c.in_ok-of_trees.field-0; removed = c.new.result } in
+    stores_nothing (Some c.args.schema) over c.in_ok-of_trees.ensures c.new.ensures.empty

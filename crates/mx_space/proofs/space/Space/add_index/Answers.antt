@@ -1,10 +1,10 @@
-use Rattle.std.proofs.Common.{refl, ap, ◌∙◌}
+use Rattle.std.proofs.Common.{refl, sym, ap, ◌∙◌}
 use Rattle.std.specs.List.{remove}
 use Rattle.std.proofs.lemmas.Result.{err_from_is_err_and}
 use Rattle.mx_schema.specs.RowParts.{index_place}
 use Rattle.mx_space.specs.declared.space.Space.{Space}
 use Rattle.mx_space.proofs.AlterLaws.{put_back, space_with_index}
-use Rattle.mx_space.proofs.SpaceLaws.{primary_long, space_same}
+use Rattle.mx_space.proofs.SpaceLaws.{nothing_stored, primary_long, space_same}
 use Rattle.mx_space.proofs.space.Space.add_index.Goals as goal
 
 pub returns-in_err-index-clause-builds : goal.returns-in_err-index-clause-builds
@@ -21,14 +21,27 @@ returns-in-Err-clause-err c = λ was all stores.
     (c.remove_index.ensures ∙ ap (λ l. remove l c.place_behind-place.result) c.in_ok-insert_index.ensures.ok
     ∙ put_back c.args.self.now.indexes.items c.place_behind-place.result c.in_ok-index.index c.in_ok-insert_index.ensures.within)
 
-pub returns-clause-builds : goal.returns-clause-builds
-returns-clause-builds c = λ was all stores none first.
+pub returns-else-is_primary-clause-builds : goal.returns-else-is_primary-clause-builds
+returns-else-is_primary-clause-builds c = λ was all stores none first.
     let def = c.args.def in
     let whole = primary_long was c.args.self.now all stores in
     let made = c.in_ok-index.ensures all whole.0 stores.holds.keeps none (λ other. whole.1 (first other)) in
     let after : Space = record { schema = record { def = c.args.self.now.schema.def; indexes = c.insert.new.self }; tuples = c.args.self.now.tuples; indexes = c.insert_index.new.indexes } in (
       made.0,
       space_with_index was c.args.self.now after all stores refl def none (ap (λ defs. record { def = c.args.self.now.schema.def; indexes = defs }) c.in_default.ensures.ok)
+          c.in_ok-index.index made.1 c.place_behind-place.result (c.place_behind-place.ensures.place ∙ ap (index_place def.id.0) c.as_slice.ensures)
+          c.in_ok-insert_index.ensures.ok,
+    )
+
+pub returns-then-is_primary-clause-builds : goal.returns-then-is_primary-clause-builds
+returns-then-is_primary-clause-builds c = λ was all stores none first.
+    let def = c.args.def in
+    let whole = primary_long was c.args.self.now all stores in
+    let made = c.in_ok-index.ensures all whole.0 stores.holds.keeps none (λ other. whole.1 (first other)) in
+    let after : Space = record { schema = record { def = c.args.self.now.schema.def; indexes = c.insert.new.self }; tuples = c.new.result; indexes = c.insert_index.new.indexes } in
+    let same = c.new.ensures.empty ∙ sym (nothing_stored c.args.self.now.tuples.entries all stores.holds.keeps (none c.if-is_primary.true)) in (
+      made.0,
+      space_with_index was c.args.self.now after all stores same def none (ap (λ defs. record { def = c.args.self.now.schema.def; indexes = defs }) c.in_default.ensures.ok)
           c.in_ok-index.index made.1 c.place_behind-place.result (c.place_behind-place.ensures.place ∙ ap (index_place def.id.0) c.as_slice.ensures)
           c.in_ok-insert_index.ensures.ok,
     )

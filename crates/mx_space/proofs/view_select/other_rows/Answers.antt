@@ -1,29 +1,18 @@
-use Rattle.std.proofs.Common.{map, ne_eqb, sym, ap, ◌∙◌}
+use Rattle.std.proofs.Common.{ne_eqb, sym, ap, ◌∙◌}
 use Rattle.std.specs.FinMap as finite
-use Rattle.std.specs.List.{filter}
 use Rattle.std.specs.Option.{option_copied}
 use Rattle.mx_key.specs.Comparable.{holds}
-use Rattle.mx_schema.specs.Picks.{directed}
-use Rattle.mx_schema.specs.Stored.{stored_tuple}
-use Rattle.mx_schema.proofs.StoredLaws.{primary_index}
 use Rattle.mx_space.specs.Kept.{StoresEntries, kept_entries}
 use Rattle.mx_space.specs.Overlays.{under}
-use Rattle.mx_space.proofs.ShownRowLaws.{entries_kept, first_rows_are, index_rows_are}
+use Rattle.mx_space.proofs.ShownRowLaws.{entries_kept, index_rows_are}
 use Rattle.mx_space.proofs.ViewLaws.{index_of_own, stores_own}
-use Rattle.mx_space.proofs.view_select.shown_rows.Goals as goal
-
-pub returns-then-def-eq0 : goal.returns-then-def-eq0
-returns-then-def-eq0 c = λ schema all written long iterator key stores writes whole whole_seen there have one_each fit short edges.
-    c.first_rows.ensures ∙ first_rows_are schema c.args.over.now written writes all c.args.space.now.tuples.entries stores.holds.keeps c.args.range.now c.args.down
-    ∙ ap (λ t. directed c.args.down (filter (λ entry. holds c.args.range.now entry.0) (map stored_tuple (finite.entries t))))
-    (sym (primary_index c.args.def.now (under written all) c.if-def-eq0.true))
+use Rattle.mx_space.proofs.view_select.other_rows.Goals as goal
 
 pub returns : goal.returns
-returns c = λ schema all written long iterator key stores writes whole whole_seen there have one_each fit short edges.
+returns c = λ schema all written long iterator key stores writes whole whole_seen there have one_each fit short edges apart.
     let def = c.args.def.now in
     let space = c.args.space.now in
     let over = c.args.over.now in
-    let apart = c.if-def-eq0.false in
     let own = c.own.result.now in
     let keeps : StoresEntries c.in_ok-stored.stored.now (kept_entries def all) =
     entries_kept schema space all def stores there apart c.in_ok-stored.stored.now (ap option_copied (sym c.in_ok-stored.was) ∙ c.index.ensures) in

@@ -3,7 +3,7 @@ use Rattle.std.specs.FinMap as finite
 use Rattle.mx_space.specs.Kept.{StoresIndex}
 use Rattle.mx_space.proofs.SpaceLaws.{new_space, nothing_kept}
 use Rattle.mx_space.proofs.ZipLaws.{all_made, one_made}
-use Rattle.mx_space.proofs.space.Space.new.Goals as goal
+use Rattle.mx_space.proofs.space.Space.of_kind.Goals as goal
 
 pub loop-others-preserved : goal.loop-others-preserved
 loop-others-preserved c =

@@ -1,0 +1,7 @@
+use Rattle.std.proofs.Common.{ap, ◌∙◌}
+use Rattle.mx_space.specs.HashViews.{hash_entries}
+use Rattle.mx_space.proofs.HashLaws.{none_kept}
+use Rattle.mx_space.proofs.hash_tuples.HashTuples.new.Goals as goal
+
+pub returns : goal.returns
+returns c = ap hash_entries c.new.ensures.empty ∙ none_kept
