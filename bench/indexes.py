@@ -1,8 +1,9 @@
 #!/usr/bin/env python3
 """Counts what requests cost in a space with one index and with three, and what a tuple takes in memory.
 
-A tuple has a key, a text of 8 characters and a small number. With three indexes there is beside the primary
-one a unique index of the texts, and an index of the numbers that isn't unique. Requests of each type are
+A tuple has a key, a text of 8 characters and a small number. The one index is a tree, and then a hash index.
+With three indexes there is beside the primary one a unique index of the texts, and an index of the numbers
+that isn't unique. Requests of each type are
 asked among few tuples and among many, as in `requests.py`, by valgrind's callgrind.
 
 For memory so many tuples are put in a space with the index of the numbers beside the primary one. The next
@@ -36,6 +37,8 @@ from requests import (
 from iproto import DATA, Wide, pack  # found by `requests`
 
 SPACE, INDEXES = 512, 288
+# It takes the place of the primary index.
+PRIMARY_HASH = [SPACE, 0, "primary", "hash", {}, [[0, "unsigned"]]]
 BY_TEXT = [SPACE, 1, "text", "tree", {"unique": True}, [[1, "string"]]]
 BY_NUMBER = [SPACE, 2, "number", "tree", {"unique": False}, [[2, "unsigned"]]]
 MANY = 1_000_000
@@ -67,13 +70,18 @@ TYPES = {
 
 def filling(tuples, *indexes):
     """The requests that make these indexes, and so many tuples of the even keys from 0 on."""
-    made = [request("INSERT", 0, space=INDEXES, tuple=index) for index in indexes]
+    dropped = [request("DELETE", 0, space=INDEXES, key=index[:2]) for index in indexes if index == PRIMARY_HASH]
+    made = dropped + [request("INSERT", 0, space=INDEXES, tuple=index) for index in indexes]
     return made + [ask("INSERT", at, tuple=row(2 * at)) for at in range(tuples)]
 
 
 def measure_requests(sizes):
     """Prints the table of each number of indexes."""
-    for name, indexes in (("one index", ()), ("three indexes", (BY_TEXT, BY_NUMBER))):
+    for name, indexes in (
+        ("one index", ()),
+        ("one hash index", (PRIMARY_HASH,)),
+        ("three indexes", (BY_TEXT, BY_NUMBER)),
+    ):
         print(f"{name}: ", end="")
         measure_among(sizes, TYPES, lambda tuples: filling(tuples, *indexes))
 

@@ -20,6 +20,7 @@ BY_GROUP = '9: insert space 288 [512, 1, "group", "tree", {"unique": false}, [[1
 BY_HASH = '9: insert space 288 [512, 1, "hash", "hash", {}, [[1, "string"]]]'
 NEW_SPACE = '9: insert space 280 [600, 1, "own", "memtx", 0, {}, []]'
 NEW_PRIMARY = '9: insert space 288 [600, 0, "key", "tree", {}, [[0, "unsigned"]]]'
+NEW_HASH = '9: insert space 288 [600, 0, "key", "hash", {}, [[0, "unsigned"]]]'
 
 # What a row of an UPSERT without operations takes besides its tuple, and a tuple of a small number and a long text
 # besides the text.
@@ -1004,6 +1005,152 @@ INDEXES = (
     ),
 )
 
+PRIMARY_HASH = (
+    (
+        "a primary hash index has its tuples in key order",
+        f"""
+        {NEW_SPACE}
+        {NEW_HASH}
+        9: insert space 600 [30, "c"]
+        9: insert space 600 [10, "a"]
+        9: insert space 600 [40, "d"]
+        9: insert space 600 [20, "b"]
+        9: insert space 600 [20, "again"] -> 3
+        9: select space 600 all [] -> [10, "a"], [20, "b"], [30, "c"], [40, "d"]
+        9: select space 600 [] limit 2 -> [10, "a"], [20, "b"]
+        9: select space 600 all [] offset 1 limit 2 -> [20, "b"], [30, "c"]
+        9: select space 600 all [] offset 3 limit 2 -> [40, "d"]
+        9: select space 600 all [] offset 4 limit 1 -> none
+        9: select space 600 all [] limit 0 -> none
+        9: select space 600 [20] -> [20, "b"]
+        9: select space 600 [25] -> none
+        9: select space 600 [20] offset 1 -> none
+        9: select space 600 ge [20] -> 5
+        9: replace space 600 [20, "x"]
+        9: update space 600 [30] [["=", 1, "y"]] -> [30, "y"]
+        9: delete space 600 [10] -> [10, "a"]
+        9: upsert space 600 [40, "no"] [["=", 1, "z"]]
+        9: upsert space 600 [5, "new"] [["=", 1, "z"]]
+        9: select space 600 [] -> [5, "new"], [20, "x"], [30, "y"], [40, "z"]
+        """,
+    ),
+    (
+        "a transaction sees its own writes by a primary hash index",
+        f"""
+        {NEW_SPACE}
+        {NEW_HASH}
+        9: insert space 600 [10, "a"]
+        9: insert space 600 [20, "b"]
+        9: insert space 600 [30, "c"]
+        1.1: begin
+        1.1: delete space 600 [20] -> [20, "b"]
+        1.1: insert space 600 [25, "own"]
+        1.1: replace space 600 [10, "own"]
+        1.1: select space 600 [10] -> [10, "own"]
+        1.1: select space 600 [20] -> none
+        1.1: select space 600 [25] -> [25, "own"]
+        1.1: select space 600 [25] offset 1 -> none
+        1.1: select space 600 [30] -> [30, "c"]
+        1.1: select space 600 [40] -> none
+        1.1: select space 600 all [] -> [10, "own"], [25, "own"], [30, "c"]
+        1.1: select space 600 all [] offset 1 limit 1 -> [25, "own"]
+        1.1: delete space 600 [25] -> [25, "own"]
+        1.1: select space 600 [25] -> none
+        9: select space 600 all [] -> [10, "a"], [20, "b"], [30, "c"]
+        1.1: commit
+        9: select space 600 all [] -> [10, "own"], [30, "c"]
+        """,
+    ),
+    (
+        "a key of a primary hash index is read alone",
+        f"""
+        {NEW_SPACE}
+        {NEW_HASH}
+        1.1: begin
+        1.1: select space 600 [20] -> none
+        1.1: replace space 600 [1]
+        2: insert space 600 [15]
+        1.1: commit
+        1.1: begin
+        1.1: replace space 600 [1]
+        1.1: select space 600 [20] -> none
+        2: insert space 600 [20]
+        1.1: commit -> 97
+        """,
+    ),
+    (
+        "all of a primary hash index is read up to the last one that was answered",
+        f"""
+        {NEW_SPACE}
+        {NEW_HASH}
+        9: insert space 600 [10]
+        9: insert space 600 [20]
+        9: insert space 600 [30]
+        1.1: begin
+        1.1: select space 600 all [] limit 2 -> [10], [20]
+        1.1: replace space 600 [50]
+        2: insert space 600 [25]
+        1.1: commit
+        1.1: begin
+        1.1: select space 600 all [] limit 2 -> [10], [20]
+        1.1: replace space 600 [50]
+        2: insert space 600 [15]
+        1.1: commit -> 97
+        """,
+    ),
+    (
+        "a view reads the tuples of a primary hash index as they were",
+        f"""
+        {NEW_SPACE}
+        {NEW_HASH}
+        9: insert space 600 [10, "a"]
+        9: insert space 600 [20, "b"]
+        1.1: begin
+        1.1: select space 600 [10] -> [10, "a"]
+        2: replace space 600 [10, "x"]
+        2: delete space 600 [20] -> [20, "b"]
+        2: insert space 600 [15, "y"]
+        1.1: select space 600 [10] -> [10, "a"]
+        1.1: select space 600 all [] -> [10, "a"], [20, "b"]
+        1.1: commit
+        9: select space 600 all [] -> [10, "x"], [15, "y"]
+        """,
+    ),
+    (
+        "a primary index of the other type has its own tuples",
+        f"""
+        {NEW_SPACE}
+        {NEW_HASH}
+        9: insert space 600 [1]
+        9: delete space 288 [600, 0] -> [600, 0, "key", "hash", {{}}, [[0, "unsigned"]]]
+        {NEW_PRIMARY}
+        9: select space 600 [] -> none
+        9: insert space 600 [2]
+        9: select space 600 ge [1] -> [2]
+        9: delete space 288 [600, 0] -> [600, 0, "key", "tree", {{}}, [[0, "unsigned"]]]
+        {NEW_HASH}
+        9: insert space 600 [3]
+        9: select space 600 all [] -> [3]
+        """,
+    ),
+    (
+        "an index is made of the tuples of a primary hash index",
+        f"""
+        {NEW_SPACE}
+        {NEW_HASH}
+        9: insert space 600 [3, "a"]
+        9: insert space 600 [1, "c"]
+        9: insert space 600 [2, "b"]
+        9: insert space 288 [600, 1, "name", "tree", {{}}, [[1, "string"]]]
+        9: select space 600 index 1 all [] -> [3, "a"], [2, "b"], [1, "c"]
+        9: select space 600 index 1 ["b"] -> [2, "b"]
+        9: update space 600 index 1 ["a"] [["=", 1, "d"]] -> [3, "d"]
+        9: insert space 600 [4, "d"] -> 3
+        9: select space 600 all [] -> [1, "c"], [2, "b"], [3, "d"]
+        """,
+    ),
+)
+
 SCHEMA = (
     (
         "a dropped index dooms a read view",
@@ -1594,4 +1741,4 @@ LONG_CASES = (
     ),
 )
 
-CASES = (*GAPS, *WITHOUT_READS, *REFUSALS, *VIEWS, *INDEXES, *SCHEMA, *STREAMS, *THREE, *LIMITS)
+CASES = (*GAPS, *WITHOUT_READS, *REFUSALS, *VIEWS, *INDEXES, *PRIMARY_HASH, *SCHEMA, *STREAMS, *THREE, *LIMITS)
