@@ -21,6 +21,7 @@ BY_HASH = '9: insert space 288 [512, 1, "hash", "hash", {}, [[1, "string"]]]'
 NEW_SPACE = '9: insert space 280 [600, 1, "own", "memtx", 0, {}, []]'
 NEW_PRIMARY = '9: insert space 288 [600, 0, "key", "tree", {}, [[0, "unsigned"]]]'
 NEW_HASH = '9: insert space 288 [600, 0, "key", "hash", {}, [[0, "unsigned"]]]'
+HASH_SPACE = f"{NEW_SPACE}\n{NEW_HASH}"
 
 # What a row of an UPSERT without operations takes besides its tuple, and a tuple of a small number and a long text
 # besides the text.
@@ -1009,8 +1010,7 @@ PRIMARY_HASH = (
     (
         "a primary hash index has its tuples in key order",
         f"""
-        {NEW_SPACE}
-        {NEW_HASH}
+        {HASH_SPACE}
         9: insert space 600 [30, "c"]
         9: insert space 600 [10, "a"]
         9: insert space 600 [40, "d"]
@@ -1037,8 +1037,7 @@ PRIMARY_HASH = (
     (
         "a transaction sees its own writes by a primary hash index",
         f"""
-        {NEW_SPACE}
-        {NEW_HASH}
+        {HASH_SPACE}
         9: insert space 600 [10, "a"]
         9: insert space 600 [20, "b"]
         9: insert space 600 [30, "c"]
@@ -1064,8 +1063,7 @@ PRIMARY_HASH = (
     (
         "a key of a primary hash index is read alone",
         f"""
-        {NEW_SPACE}
-        {NEW_HASH}
+        {HASH_SPACE}
         1.1: begin
         1.1: select space 600 [20] -> none
         1.1: replace space 600 [1]
@@ -1081,8 +1079,7 @@ PRIMARY_HASH = (
     (
         "all of a primary hash index is read up to the last one that was answered",
         f"""
-        {NEW_SPACE}
-        {NEW_HASH}
+        {HASH_SPACE}
         9: insert space 600 [10]
         9: insert space 600 [20]
         9: insert space 600 [30]
@@ -1101,8 +1098,7 @@ PRIMARY_HASH = (
     (
         "a view reads the tuples of a primary hash index as they were",
         f"""
-        {NEW_SPACE}
-        {NEW_HASH}
+        {HASH_SPACE}
         9: insert space 600 [10, "a"]
         9: insert space 600 [20, "b"]
         1.1: begin
@@ -1119,8 +1115,7 @@ PRIMARY_HASH = (
     (
         "a primary index of the other type has its own tuples",
         f"""
-        {NEW_SPACE}
-        {NEW_HASH}
+        {HASH_SPACE}
         9: insert space 600 [1]
         9: delete space 288 [600, 0] -> [600, 0, "key", "hash", {{}}, [[0, "unsigned"]]]
         {NEW_PRIMARY}
@@ -1136,8 +1131,7 @@ PRIMARY_HASH = (
     (
         "an index is made of the tuples of a primary hash index",
         f"""
-        {NEW_SPACE}
-        {NEW_HASH}
+        {HASH_SPACE}
         9: insert space 600 [3, "a"]
         9: insert space 600 [1, "c"]
         9: insert space 600 [2, "b"]
