@@ -11,3 +11,4 @@ pub mod DigitLaws
 pub mod SpellingLaws
 pub mod KeyArrayLaws
 pub mod TupleFitLaws
+pub mod PrefixLaws

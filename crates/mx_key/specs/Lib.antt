@@ -5,5 +5,6 @@ pub mod Parts
 pub mod Places
 pub mod Ranges
 pub mod Comparable
+pub mod Prefixes
 pub mod Arrays
 pub mod PartViews

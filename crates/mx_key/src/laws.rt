@@ -1,6 +1,6 @@
 //! Theorems that other crates may use.
 
-ghost use Rattle.std.specs.Prelude.{◌≡◌, ◌≤◌, List, ℕ, Ok, length};
+ghost use Rattle.std.specs.Prelude.{◌≡◌, ◌≤◌, ◌++◌, List, ℕ, Ok, length};
 ghost use Rattle.std.specs.Ordering.{nat_cmp};
 ghost use Rattle.std.specs.Cmp.Lexicographic.{slice_cmp};
 ghost use Rattle.mx_msgpack.specs.Grammar.{Array, Spells, Values, max_length};
@@ -8,6 +8,7 @@ ghost use Rattle.mx_key.specs.declared.part.Part.{Part};
 ghost use Rattle.mx_key.specs.Arrays.{key_array};
 ghost use Rattle.mx_key.specs.Keys.{Key, AreFit, key_cmp, is_key_prefix, is_prefix};
 ghost use Rattle.mx_key.specs.Parts.{key_of, key_of_array};
+ghost use Rattle.mx_key.specs.Prefixes.{prefix_size};
 ghost use Rattle.mx_key.specs.Ranges.{Range, AreFitEnds, lies_in};
 ghost use Rattle.mx_key.specs.Comparable.{comparable_of, edges_of, holds};
 
@@ -34,4 +35,10 @@ pub fn a_key_is_read_from_its_array()
         → length (key_array key) ≤ max_length → key_of_array def (key_array key) ≡ Ok key }
     ensures spelled { (key : Key) → AreFit key → length (key_array key) ≤ max_length
         → (values : Values) × Spells 63 (Array values) (key_array key) }
+{}
+
+/// A theorem, which does nothing when it is called: the bytes of a key's first parts end where they are
+/// said to, whatever follows them.
+pub fn a_prefix_is_the_first_parts()
+    ensures { (key : Key) (rest : List ℕ) → prefix_size (length key) (comparable_of key ++ rest) ≡ length (comparable_of key) }
 {}

@@ -16,8 +16,20 @@ use memchr::memchr;
 use mx_msgpack::{Bytes, unsigned_at};
 use std::alloc::AllocError;
 
+/// The first byte of a Boolean, by which it stands before parts of other kinds.
+pub const BOOLEAN: u8 = 2;
+
+/// The first byte of a number.
+pub const NUMBER: u8 = 3;
+
+/// How many bytes a Boolean has, its kind included.
+pub const BOOLEAN_SIZE: usize = 2;
+
 /// How many bytes a number has, its kind included.
 pub const NUMBER_SIZE: usize = 10;
+
+/// Stands behind each byte 0 of a text or of other bytes.
+pub const ESCAPE: u8 = 255;
 
 /// How many numbers 8 bytes spell.
 const WIDE: u128 = 0x1_0000_0000_0000_0000;
@@ -114,8 +126,8 @@ fn write_before(part: PartRef<'_>, behind: usize, out: &mut Bytes) -> Result<(),
 fn write_truth(truth: bool, behind: usize, out: &mut Bytes) -> Result<(), AllocError>
     ensures { OnOk result (out.new ≡ out.old ++ part_bytes (Boolean truth)) }
 {
-    out.reserve(behind.saturating_add(2))?;
-    out.extend_from_slice(&[2, u8::from(truth)])
+    out.reserve(behind.saturating_add(BOOLEAN_SIZE))?;
+    out.extend_from_slice(&[BOOLEAN, u8::from(truth)])
 }
 
 #[inline]
@@ -123,7 +135,7 @@ fn write_number(number: i128, behind: usize, out: &mut Bytes) -> Result<(), Allo
     ensures { OnOk result (Fits64 number → out.new ≡ out.old ++ part_bytes (Integer number)) }
 {
     let above = number_above_least(number);
-    let mut spelled = [3, (above / WIDE) as u8, 0, 0, 0, 0, 0, 0, 0, 0];
+    let mut spelled = [NUMBER, (above / WIDE) as u8, 0, 0, 0, 0, 0, 0, 0, 0];
     BigEndian::write_u64(&mut spelled[2..], (above % WIDE) as u64);
     out.reserve(behind.saturating_add(NUMBER_SIZE))?;
     out.extend_from_slice(&spelled)?;
@@ -159,7 +171,7 @@ fn write_escaped(content: &[u8], out: &mut Bytes) -> Result<(), AllocError>
     while let Some(place) = memchr(0, rest) {
         let (front, zero) = rest.split_at(place);
         out.extend_from_slice(front)?;
-        out.extend_from_slice(&[0, 255])?;
+        out.extend_from_slice(&[0, ESCAPE])?;
         (_, rest) = zero.split_at(1);
     }
     out.extend_from_slice(rest)?;
