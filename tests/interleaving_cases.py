@@ -1145,6 +1145,134 @@ PRIMARY_HASH = (
     ),
 )
 
+FURTHER_HASH = (
+    (
+        "a further hash index finds whole keys, and shows all in key order",
+        f"""
+        {BY_HASH}
+        9: insert [1, "c"]
+        9: insert [2, "a"]
+        9: insert [3, "b"]
+        9: insert [4, "a"] -> 3
+        9: select index 1 ["b"] -> [3, "b"]
+        9: select index 1 ["x"] -> none
+        9: select index 1 ["b"] offset 1 -> none
+        9: select index 1 all [] -> [2, "a"], [3, "b"], [1, "c"]
+        9: select index 1 [] offset 1 limit 1 -> [3, "b"]
+        9: update index 1 ["b"] [["=", 1, "d"]] -> [3, "d"]
+        9: select index 1 ["b"] -> none
+        9: select index 1 ["d"] -> [3, "d"]
+        9: delete index 1 ["a"] -> [2, "a"]
+        9: insert [5, "a"]
+        9: select index 1 all [] -> [5, "a"], [1, "c"], [3, "d"]
+        """,
+    ),
+    (
+        "a key of a further hash index goes from one tuple to another in a transaction",
+        f"""
+        {BY_HASH}
+        9: insert [1, "a"]
+        9: insert [2, "b"]
+        1.1: begin
+        1.1: delete [1] -> [1, "a"]
+        1.1: insert [3, "a"]
+        1.1: select index 1 ["a"] -> [3, "a"]
+        1.1: update [2] [["=", 1, "c"]] -> [2, "c"]
+        1.1: insert [4, "b"]
+        1.1: commit
+        9: select index 1 ["a"] -> [3, "a"]
+        9: select index 1 ["b"] -> [4, "b"]
+        9: select index 1 all [] -> [3, "a"], [4, "b"], [2, "c"]
+        9: insert [5, "a"] -> 3
+        9: delete index 1 ["a"] -> [3, "a"]
+        9: select index 1 ["a"] -> none
+        9: insert [5, "a"]
+        9: select index 1 ["a"] -> [5, "a"]
+        1.1: begin
+        1.1: delete [4] -> [4, "b"]
+        1.1: update [5] [["=", 1, "b"]] -> [5, "b"]
+        1.1: insert [6, "a"]
+        1.1: commit
+        9: select index 1 all [] -> [6, "a"], [5, "b"], [2, "c"]
+        9: delete [5] -> [5, "b"]
+        9: select index 1 ["b"] -> none
+        """,
+    ),
+    (
+        "a transaction sees its own writes by a further hash index",
+        f"""
+        {BY_HASH}
+        9: insert [1, "a"]
+        9: insert [2, "b"]
+        9: insert [3, "c"]
+        1.1: begin
+        1.1: update [1] [["=", 1, "x"]] -> [1, "x"]
+        1.1: delete [2] -> [2, "b"]
+        1.1: insert [4, "d"]
+        1.1: select index 1 ["a"] -> none
+        1.1: select index 1 ["x"] -> [1, "x"]
+        1.1: select index 1 ["b"] -> none
+        1.1: select index 1 ["c"] -> [3, "c"]
+        1.1: select index 1 ["d"] -> [4, "d"]
+        1.1: select index 1 ["d"] offset 1 -> none
+        1.1: select index 1 ["d"] limit 0 -> none
+        1.1: select index 1 all [] -> [3, "c"], [4, "d"], [1, "x"]
+        1.1: rollback
+        9: select index 1 all [] -> [1, "a"], [2, "b"], [3, "c"]
+        """,
+    ),
+    (
+        "a key of a further hash index is read alone",
+        f"""
+        {BY_HASH}
+        1.1: begin
+        1.1: insert [9, "z"]
+        1.1: select index 1 ["m"] -> none
+        2: insert [1, "l"]
+        1.1: commit
+        1.1: begin
+        1.1: insert [8, "y"]
+        1.1: select index 1 ["m"] -> none
+        2: insert [2, "m"]
+        1.1: commit -> 97
+        """,
+    ),
+    (
+        "a view reads a further hash index as it was",
+        f"""
+        {BY_HASH}
+        9: insert [1, "a"]
+        1.1: begin
+        1.1: select index 1 ["a"] -> [1, "a"]
+        2: update [1] [["=", 1, "b"]] -> [1, "b"]
+        3: insert [2, "a"]
+        1.1: select index 1 ["a"] -> [1, "a"]
+        1.1: select index 1 ["b"] -> none
+        1.1: commit
+        9: select index 1 ["a"] -> [2, "a"]
+        """,
+    ),
+    (
+        "a further hash index of two fields tells all their parts apart",
+        """
+        9: insert space 288 [512, 1, "hash", "hash", {}, [[1, "string"], [2, "scalar"]]]
+        9: insert [1, "a", 1]
+        9: insert [2, "a\\u0000", 1]
+        9: insert [3, "a", true]
+        9: insert [4, "", "a"]
+        9: insert [5, "a", 1] -> 3
+        9: select index 1 ["a", 1] -> [1, "a", 1]
+        9: select index 1 ["a\\u0000", 1] -> [2, "a\\u0000", 1]
+        9: select index 1 ["a", true] -> [3, "a", true]
+        9: select index 1 ["", "a"] -> [4, "", "a"]
+        9: select index 1 ["a", "a"] -> none
+        9: select index 1 ["a"] -> 19
+        9: delete index 1 ["a", 1] -> [1, "a", 1]
+        9: select index 1 all [] -> [4, "", "a"], [3, "a", true], [2, "a\\u0000", 1]
+        """,
+    ),
+)
+
 SCHEMA = (
     (
         "a dropped index dooms a read view",
@@ -1735,4 +1863,4 @@ LONG_CASES = (
     ),
 )
 
-CASES = (*GAPS, *WITHOUT_READS, *REFUSALS, *VIEWS, *INDEXES, *PRIMARY_HASH, *SCHEMA, *STREAMS, *THREE, *LIMITS)
+CASES = (*GAPS, *WITHOUT_READS, *REFUSALS, *VIEWS, *INDEXES, *PRIMARY_HASH, *FURTHER_HASH, *SCHEMA, *STREAMS, *THREE, *LIMITS)

@@ -34,11 +34,16 @@ from program import build_histories, history_answers, is_built, spelled_twice
 from steps import TEST
 
 HISTORIES, PER_DATABASE = 30_000, 100
-# The indexes of the space beside the primary one: a unique one on field 1, and one on field 2 that isn't.
+# The indexes of the space beside the primary one: a unique one on field 1, one on field 2 that isn't, and a hash index
+# on field 1.
 BY_NUMBER = '9: insert space 288 [512, 2, "number", "tree", {"unique": false}, [[2, "unsigned"]]]'
-KEY, NAME, NUMBER = range(3)
+BY_HASH = '9: insert space 288 [512, 3, "hash", "hash", {}, [[1, "string"]]]'
+INDEXES = BY_NAME, BY_NUMBER, BY_HASH
+KEY, NAME, NUMBER, HASH = range(4)
+# The field of each index.
+FIELDS = KEY, NAME, NUMBER, NAME
 KINDS = (int, str, int)
-SETTING = [read_step(step) for step in (BY_NAME, BY_NUMBER)]
+SETTING = [read_step(step) for step in INDEXES]
 DUE = [step.due for step in SETTING]
 # The names of open transactions, each with its connection and stream, and a connection outside of streams.
 STREAMS, PLAIN = ((1, 1), (2, 1), (1, 2)), (9, None)
@@ -46,7 +51,7 @@ KEYS, NAMES, NUMBERS = range(5), "abcde", range(3)
 ITERATORS = ("EQ", "EQ", "EQ", "REQ", "ALL", "LT", "LE", "GE", "GT")
 DESCENDING = ("REQ", "LT", "LE")
 # Refusals.
-DUPLICATE, KEY_COUNT, WRONG_TYPE, BAD_ARGUMENT, NO_INDEX = 3, 19, 23, 29, 35
+DUPLICATE, UNSUPPORTED, KEY_COUNT, WRONG_TYPE, BAD_ARGUMENT, NO_INDEX = 3, 5, 19, 23, 29, 35
 NO_FIELD, NOT_UNIQUE, KEY_CHANGED, CONFLICT = 39, 41, 94, 97
 
 # ---- statements by themselves
@@ -54,7 +59,7 @@ NO_FIELD, NOT_UNIQUE, KEY_CHANGED, CONFLICT = 39, 41, 94, 97
 
 def index_key(index, row):
     """A tuple's key in an index, with the primary key behind it in the one that isn't unique."""
-    return (row[NUMBER], row[KEY]) if index == NUMBER else (row[index],)
+    return (row[NUMBER], row[KEY]) if index == NUMBER else (row[FIELDS[index]],)
 
 
 class Span:
@@ -76,7 +81,8 @@ class Span:
 
 def point(index, row):
     """A tuple's key in a unique index."""
-    return Span(index, (row[index],), (row[index],))
+    key = index_key(index, row)
+    return Span(index, key, key)
 
 
 def span_of(index, iterator, key):
@@ -98,8 +104,10 @@ class Answer:
 
 
 def select(tuples, index, iterator, key, limit, offset):
-    if index > NUMBER:
+    if index > HASH:
         return Answer(NO_INDEX)
+    if index == HASH and iterator != "EQ" and (key or iterator != "ALL"):
+        return Answer(UNSUPPORTED)
     if len(key) > 1:
         return Answer(KEY_COUNT)
     if limit == 0:
@@ -138,14 +146,15 @@ def insert(tuples, row):
         return Answer(fault)
     if row[KEY] in tuples:
         return Answer(DUPLICATE, (point(KEY, row),))
-    reads = point(KEY, row), point(NAME, row)
-    return Answer(DUPLICATE, reads) if is_taken(tuples, row) else Answer((row,), reads, (row[KEY], row))
+    return put(tuples, row, (point(KEY, row),), (row,))
 
 
 def put(tuples, row, reads, reply):
-    """A tuple is put in the place of the one of its key."""
+    """A tuple is put in the place of the one of its key. Of two indexes on a field the lower one tells a duplicate."""
     reads = *reads, point(NAME, row)
-    return Answer(DUPLICATE, reads) if is_taken(tuples, row) else Answer(reply, reads, (row[KEY], row))
+    if is_taken(tuples, row):
+        return Answer(DUPLICATE, reads)
+    return Answer(reply, (*reads, point(HASH, row)), (row[KEY], row))
 
 
 def replace(tuples, row):
@@ -177,7 +186,7 @@ def put_in_place(tuples, old, new, reads, reply):
 
 
 def found_by(tuples, index, key):
-    return next((row for row in tuples.values() if row[index] == key), None)
+    return next((row for row in tuples.values() if row[FIELDS[index]] == key), None)
 
 
 def update(tuples, index, key, operations):
@@ -241,7 +250,7 @@ def touched(answers, states):
     """The keys in each index of the tuples that come or go, one change after the other."""
     changes = [one.change for one in answers if one.change is not None]
     rows = [row for before, (key, new) in zip(states, changes) for row in (before.get(key), new) if row is not None]
-    return [(index, index_key(index, row)) for row in rows for index in (KEY, NAME, NUMBER)]
+    return [(index, index_key(index, row)) for row in rows for index in (KEY, NAME, NUMBER, HASH)]
 
 
 # ---- the lines
@@ -313,18 +322,19 @@ def some_operations(random):
 
 
 def some_key(random, index):
-    return random.choice((KEYS, NAMES, NUMBERS)[index])
+    return random.choice((KEYS, NAMES, NUMBERS, NAMES)[index])
 
 
 def some_select(random):
-    index = random.choice((KEY, KEY, NAME, NUMBER, NUMBER))
+    index = random.choice((KEY, KEY, NAME, NUMBER, NUMBER, HASH))
     key = () if random.random() < 0.2 else (some_key(random, index),)
     if index == NUMBER and key and random.random() < 0.05:
         key = (*key, random.choice(KEYS))
     if random.random() < 0.02:
         index = 5
     limit = random.choice((0, 1, 1, 2, 2, 100, 100, 100))
-    return "select", index, random.choice(ITERATORS), key, limit, random.choice((0, 0, 0, 1))
+    iterator = "EQ" if index == HASH and random.random() < 0.9 else random.choice(ITERATORS)
+    return "select", index, iterator, key, limit, random.choice((0, 0, 0, 1))
 
 
 def some_statement(random):
@@ -337,7 +347,7 @@ def some_statement(random):
         return "replace", some_row(random)
     if kind < 15:
         return "upsert", some_row(random), some_operations(random)
-    index = random.choice((KEY, KEY, NAME) if random.random() < 0.97 else (NUMBER,))
+    index = random.choice((KEY, KEY, NAME, HASH) if random.random() < 0.97 else (NUMBER,))
     if kind < 17:
         return "delete", index, some_key(random, index)
     return "update", index, some_key(random, index), some_operations(random)
@@ -510,7 +520,7 @@ def shown_step(name, step, line):
 
 def show(seed, number, before, steps, answers, why):
     print(f"FAILED  history {number} of seed {seed}: {why}")
-    for line in (BY_NAME, BY_NUMBER, *(f"9: insert {json.dumps(row)}" for row in before.values())):
+    for line in (*INDEXES, *(f"9: insert {json.dumps(row)}" for row in before.values())):
         print("   ", line)
     for (name, step), line in zip(steps, answers):
         print("   ", shown_step(name, step, line))

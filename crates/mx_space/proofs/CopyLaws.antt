@@ -8,14 +8,14 @@ use Rattle.mx_space.specs.Reserved.{Content, content_of, content_under, entry_co
 use Rattle.mx_space.specs.Spaces.{IsAscending, space_under}
 
 -- clones of entries that are those entries
-pub same_entries : {X : Type 0} (all copies : List (List ℕ × X)) → AllZip (λ (entry copy : List ℕ × X). (copy.0 ≡ entry.0) × (copy.1 ≡ entry.1)) all copies → copies ≡ all
+pub same_entries : {K X : Type 0} (all copies : List (K × X)) → AllZip (λ (entry copy : K × X). (copy.0 ≡ entry.0) × (copy.1 ≡ entry.1)) all copies → copies ≡ all
 same_entries [] [] each = refl
 same_entries [] (copy ∷ copies) each = absurd each
 same_entries (entry ∷ all) [] each = absurd each
 same_entries (entry ∷ all) (copy ∷ copies) (same, each) = λ i. (same.0 i, same.1 i) ∷ same_entries all copies each i
 
-pub where_cloned : {X M E : Type 0} (F : E → Type 0) (entries_of : M → List (List ℕ × X)) (all : List (List ℕ × X)) (made : Result M E)
-    → MatchResult made (λ copies. AllZip (λ (entry copy : List ℕ × X). (copy.0 ≡ entry.0) × (copy.1 ≡ entry.1)) all (entries_of copies)) F
+pub where_cloned : {K X M E : Type 0} (F : E → Type 0) (entries_of : M → List (K × X)) (all : List (K × X)) (made : Result M E)
+    → MatchResult made (λ copies. AllZip (λ (entry copy : K × X). (copy.0 ≡ entry.0) × (copy.1 ≡ entry.1)) all (entries_of copies)) F
     → IfOk made (λ copies. entries_of copies ≡ all)
 where_cloned F entries_of all (Ok copies) each = same_entries all (entries_of copies) each
 where_cloned F entries_of all (Err fault) each = tt

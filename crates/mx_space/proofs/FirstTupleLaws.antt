@@ -1,15 +1,16 @@
 -- The first so many entries in order: with one entry more, and where a SELECT reads no others.
-use Rattle.std.proofs.Common.{◌≡◌, ℕ, zero, suc, ◌+◌, ◌-◌, ◌<◌, ◌≤◌, Bool, true, false, cond, List, [], ◌∷◌, ◌++◌, length, map, filter, drop, take, Option, Some, None, refl, sym, ap, ◌∙◌, arith}
+use Rattle.std.proofs.Common.{◌≡◌, ℕ, zero, suc, ◌+◌, ◌<◌, ◌≤◌, Bool, true, false, cond, List, [], ◌∷◌, ◌++◌, length, filter, take, Option, Some, None, refl, sym, ap, ◌∙◌, arith}
 use Rattle.std.specs.Prelude.{IfSome, IsSome}
 use Rattle.std.specs.declared.cmp.Ordering.{Ordering}
 use Rattle.std.specs.declared.cmp.Ordering.TheVariants.{Less, Equal, Greater}
 use Rattle.std.specs.BTreeMap.{insert_entry}
 use Rattle.std.specs.Cmp.Lexicographic.{slice_cmp}
-use Rattle.std.specs.List.{All, AllByRecursion}
+use Rattle.std.specs.List.{All, AllByRecursion, slice_get}
 use Rattle.std.specs.Map.{keys_of}
 use Rattle.std.specs.Ordering.{is_lt, match_ordering, nat_cmp, ordering_reverse}
 use Rattle.std.proofs.lemmas.Cmp.{nat_list_cmp_total}
 use Rattle.std.proofs.lemmas.List.{length-append}
+use Rattle.mx_msgpack.proofs.Options.{same_some}
 use Rattle.mx_key.specs.declared.edge.Edge.TheVariants as edge
 use Rattle.mx_key.specs.declared.edge.KeyRange.{KeyRange}
 use Rattle.mx_key.specs.declared.iterator.IterKind.{IterKind}
@@ -130,6 +131,16 @@ pub all_above : (key last : List ℕ) (all : List StoredTuple) → slice_cmp nat
 all_above key last [] less none_greater = tt
 all_above key last (entry ∷ all) less none_greater =
     (above_last key last entry.0 less (none_greater 0 [] (omega arith)), all_above key last all less (λ k d within. none_greater (suc k) d (omega (arith, within))))
+
+-- and above the last one, a member
+pub above_one : (key last : List ℕ) (place : ℕ) (tuple : List ℕ) (all : List StoredTuple) → AllByRecursion (λ (entry : StoredTuple). slice_cmp nat_cmp key entry.0 ≡ Greater) all
+    → slice_get all place ≡ Some (last, tuple) → slice_cmp nat_cmp last key ≡ Less
+above_one key last place tuple [] above there = absurd cc
+above_one key last zero tuple (entry ∷ all) above there =
+    nat_list_cmp_total.antisymm last key
+    ∙ ap (λ k. ordering_reverse (slice_cmp nat_cmp key k)) (sym (ap (λ (e : StoredTuple). e.0) (same_some entry (last, tuple) there)))
+    ∙ ap ordering_reverse above.0
+above_one key last (suc place) tuple (entry ∷ all) above there = above_one key last place tuple all above.1 there
 
 -- ---- what a SELECT of all keys reads
 

@@ -55,7 +55,7 @@ first_bytes wanted fit (entry ∷ all) fits =
     by_test true later = refl
     by_test false later = later
 
-same_parts : (one other rest more : Key) → length one ≡ length other → one ++ rest ≡ other ++ more → one ≡ other
+pub same_parts : (one other rest more : Key) → length one ≡ length other → one ++ rest ≡ other ++ more → one ≡ other
 same_parts one other rest more long same =
     sym (take_at one rest (length one) refl) ∙ ap (take (length one)) same ∙ take_at other more (length one) (sym long)
 
@@ -220,8 +220,8 @@ module _ (schema : Option Schema) (space : Space) (all : Tuples) (def : IndexDef
   other : (def.id.0 == 0) ≡ false
   other = ne_eqb def.id.0 0 apart
 
-  unique : (def.unique ≡ true) × AreUnique def all × HaveKeys def all
-  unique = by_case one_each
+  pub unique_in : (def.unique ≡ true) × AreUnique def all × HaveKeys def all
+  unique_in = by_case one_each
     where
       by_case : HoldsOneEach def all → (def.unique ≡ true) × AreUnique def all × HaveKeys def all
       by_case (inl same) = absurd (apart same)
@@ -238,10 +238,10 @@ module _ (schema : Option Schema) (space : Space) (all : Tuples) (def : IndexDef
   no_index found is none = let index = index_found found is in not_none index.0 (sym index.1 ∙ none)
 
   module _ (found : Option (List IndexEntry)) (is : found ≡ index_kept def.id.0 space.schema.indexes space.indexes.items) (kept : List IndexEntry) (has : found ≡ Some kept) where
-    keeps : StoresEntries kept (kept_entries def all)
-    keeps =
+    pub keeps_in : StoresEntries kept (kept_entries def all)
+    keeps_in =
         let index = index_found found is in
         subst (λ one. StoresEntries one (kept_entries def all)) (same_some index.0 kept (sym index.1 ∙ has)) index.2
 
     pub none_holds_key : (key : List ℕ) → key ≡ comparable_of wanted → LeadsTo key kept None → None ≡ get (tuples_by_index def all) wanted
-    none_holds_key key key_is none = none_has def unique.0 all unique.1 unique.2 wanted long whole other fit kept keeps key key_is none
+    none_holds_key key key_is none = none_has def unique_in.0 all unique_in.1 unique_in.2 wanted long whole other fit kept keeps_in key key_is none

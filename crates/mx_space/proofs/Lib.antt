@@ -1,3 +1,4 @@
+pub mod AloneLaws
 pub mod AlterLaws
 pub mod BuildLaws
 pub mod BytesLaws
@@ -8,6 +9,10 @@ pub mod CopyLaws
 pub mod EntriesLaws
 pub mod FirstLaws
 pub mod FirstTupleLaws
+pub mod FrontedLaws
+pub mod HashFindLaws
+pub mod HashIndexLaws
+pub mod WaitingLaws
 pub mod HashLaws
 pub mod HeldLaws
 pub mod HolderLaws
@@ -17,9 +22,11 @@ pub mod ItemLaws
 pub mod JoinLaws
 pub mod KeptStateLaws
 pub mod KeyMapLaws
+pub mod LeadLaws
 pub mod MapLaws
 pub mod MemberLaws
 pub mod MergedLaws
+pub mod OrderedLaws
 pub mod OverlayLaws
 pub mod OwnApartLaws
 pub mod OwnChangeLaws

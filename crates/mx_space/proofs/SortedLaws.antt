@@ -1,5 +1,5 @@
 -- Lists of entries in the order of their keys: one entry more, another value, one less.
-use Rattle.std.proofs.Common.{◌≡◌, ℕ, Bool, true, false, cond, not, T, List, [], ◌∷◌, Option, Some, None, refl, sym, ap, ◌∙◌, subst}
+use Rattle.std.proofs.Common.{◌≡◌, ◌&&◌, ℕ, Bool, true, false, cond, not, T, List, [], ◌∷◌, Option, Some, None, refl, sym, ap, ◌∙◌, subst}
 use Rattle.std.specs.declared.cmp.Ordering.{Ordering}
 use Rattle.std.specs.declared.cmp.Ordering.TheVariants.{Less, Equal, Greater}
 use Rattle.std.specs.BTreeMap.{insert_entry, is_at}
@@ -7,11 +7,17 @@ use Rattle.std.specs.Cmp.{IsTotalOrder}
 use Rattle.std.specs.Cmp.Lexicographic.{slice_cmp}
 use Rattle.std.specs.FinMap.{FinMap, IsAntisymmetric, entries, entries_sorted, get, get-entries, get-remove, nat_cmp-IsAntisymmetric, remove, slice_cmp-IsAntisymmetric}
 use Rattle.std.specs.FinMap.Entries.{below_all, by_order, find, find-where_key, is_sorted, is_sorted-where_key, put, same_entries, where_key}
-use Rattle.std.specs.Map.{lookup, lookup_entry, remove_entry, set_value}
+use Rattle.std.specs.List.{AllByRecursion}
+use Rattle.std.specs.List.Sorted.{IsStrictlySortedBy}
+use Rattle.std.specs.Map.{keys_of, lookup, lookup_entry, remove_entry, set_value}
 use Rattle.std.specs.Option.{option_map}
 use Rattle.std.specs.Ordering.{eq_by_cmp, is_eq, is_lt, match_ordering, nat_cmp, ordering_reverse}
 use Rattle.std.proofs.lemmas.Cmp.{nat_list_cmp_total}
 use Rattle.mx_schema.proofs.OrderLaws.{both, lt_is}
+
+both_hold : (a b : Bool) → T a → T b → T (a && b)
+both_hold true b p q = q
+both_hold false b p q = absurd p
 
 -- ---- a map without a key
 
@@ -39,6 +45,19 @@ module _ {K X : Type 0} {R : K → K → Ordering} (total : IsTotalOrder R) (ant
       same_entries R total antisymmetric (entries (remove all key)) (where_key R differs (entries all)) (entries_sorted (remove all key)) (is_sorted-where_key R differs (entries all) (entries_sorted all))
       (λ q. sym (get-entries (remove all key) q) ∙ get-remove total all key q ∙ by_tie q
       ∙ sym (find-where_key R differs q (λ x e. ap differs (sym (antisymmetric q x e))) (entries all)))
+
+-- ---- ascending keys
+
+module _ {K X : Type 0} (R : K → K → Ordering) where
+  below_each : (low : K) (all : List (K × X)) → AllByRecursion (λ k. R low k ≡ Less) (keys_of all) → T (below_all R low all)
+  below_each low [] each = tt
+  below_each low (entry ∷ all) each = rw each.0 (below_each low all each.1)
+
+  -- entries whose keys ascend are sorted
+  pub ascending : (all : List (K × X)) → IsStrictlySortedBy R (keys_of all) → T (is_sorted R all)
+  unfolding IsStrictlySortedBy
+  ascending [] sorted = tt
+  ascending (entry ∷ all) sorted = both_hold _ _ (below_each entry.0 all sorted.0) (ascending all sorted.1)
 
 -- ---- keys that are bytes
 

@@ -1,10 +1,10 @@
 -- Entries that are kept by their keys and the places in them where the primary keys begin.
-use Rattle.std.proofs.Common.{◌≡◌, ℕ, Bool, true, false, cond, not, List, [], ◌∷◌, drop, filter, Some, refl, sym, ap, ◌∙◌, true≢false}
+use Rattle.std.proofs.Common.{◌≡◌, ℕ, suc, Bool, true, false, cond, not, List, [], ◌∷◌, drop, filter, length, Some, refl, sym, ap, ◌∙◌, true≢false}
 use Rattle.std.specs.declared.cmp.Ordering.{Ordering}
 use Rattle.std.specs.declared.cmp.Ordering.TheVariants.{Less, Equal, Greater}
 use Rattle.std.specs.BTreeMap.{insert_entry, is_at}
 use Rattle.std.specs.Cmp.Lexicographic.{slice_cmp}
-use Rattle.std.specs.Map.{lookup, remove_entry}
+use Rattle.std.specs.Map.{keys_of, lookup, remove_entry}
 use Rattle.std.specs.Option.{is_some, option_map}
 use Rattle.std.specs.Ordering.{match_ordering, nat_cmp, is_eq, is_lt}
 use Rattle.mx_key.specs.declared.edge.KeyRange.{KeyRange}
@@ -21,6 +21,15 @@ split_has key (entry ∷ kept) = by_test (is_at (slice_cmp nat_cmp key) entry.0)
         ≡ is_some (cond b (Some entry.1) (lookup (is_at (slice_cmp nat_cmp key)) kept))
     by_test true others = refl
     by_test false others = others
+
+-- they stand under the same keys
+pub split_keys : (kept : List (List ℕ × ℕ)) → keys_of (entries_split kept) ≡ keys_of kept
+split_keys [] = refl
+split_keys (entry ∷ kept) = ap (λ (l : List (List ℕ)). entry.0 ∷ l) (split_keys kept)
+
+pub split_length : (kept : List (List ℕ × ℕ)) → length (entries_split kept) ≡ length kept
+split_length [] = refl
+split_length (entry ∷ kept) = ap suc (split_length kept)
 
 -- one is inserted where there is none under its key
 split_insert : (key : List ℕ) (begin : ℕ) (kept : List (List ℕ × ℕ)) → has_entry key kept ≡ false

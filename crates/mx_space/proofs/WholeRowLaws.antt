@@ -38,15 +38,11 @@ entry_passes test (one ∷ kept) entry is = by_test (test one.0) refl is (entry_
     by_test true passes is others = ap (λ (e : StoredTuple). test e.0) (sym (same_some one entry is)) ∙ passes
     by_test false fails is others = others is
 
-module _ (def : IndexDef) (unique : def.unique ≡ true) (all : Tuples) (one_each : AreUnique def all) (have : HaveKeys def all) (long : ℕ) (whole : AreLong long all)
-    (apart : def.id.0 ≢ 0) (kept : List IndexEntry) (keeps : StoresEntries kept (kept_entries def all)) where
+module _ (def : IndexDef) (unique : def.unique ≡ true) (all : Tuples) (one_each : AreUnique def all) (have : HaveKeys def all) (apart : def.id.0 ≢ 0) where
   abbrev indexed : Tuples
   indexed = tuples_by_index def all
 
-  other : (def.id.0 == 0) ≡ false
-  other = ne_eqb def.id.0 0 apart
-
-  -- each key has all parts
+  -- each key in a unique index has all parts
   pub keys_long : AllByRecursion (λ (entry : Indexed). length entry.0 ≡ length def.key) (entries indexed)
   keys_long = through (entries indexed) (each_is_found indexed)
     where
@@ -59,17 +55,25 @@ module _ (def : IndexDef) (unique : def.unique ≡ true) (all : Tuples) (one_eac
       through [] found = tt
       through (entry ∷ some) found = (one_long entry found.0, through some found.1)
 
-  pub fits : AreFitEntries (entries indexed)
+module _ (def : IndexDef) (unique : def.unique ≡ true) (all : Tuples) (one_each : AreUnique def all) (have : HaveKeys def all) (long : ℕ) (whole : AreLong long all)
+    (apart : def.id.0 ≢ 0) (kept : List IndexEntry) (keeps : StoresEntries kept (kept_entries def all)) where
+  abbrev by_index : Tuples
+  by_index = tuples_by_index def all
+
+  other : (def.id.0 == 0) ≡ false
+  other = ne_eqb def.id.0 0 apart
+
+  pub fits : AreFitEntries (entries by_index)
   fits = index_fits def all long whole other have (λ _. one_each) kept keeps
 
   module _ (wanted : Key) (fit : AreFit wanted) (bytes : List ℕ) (is : bytes ≡ comparable_of wanted) where
     abbrev looked_up : Option StoredTuple
-    looked_up = lookup_entry (is_at (slice_cmp nat_cmp bytes)) (map stored_tuple (entries indexed))
+    looked_up = lookup_entry (is_at (slice_cmp nat_cmp bytes)) (map stored_tuple (entries by_index))
 
-    row_is : (tuple : Option (List ℕ)) → tuple ≡ get indexed wanted → option_map (λ t. (bytes, t)) tuple ≡ looked_up
+    row_is : (tuple : Option (List ℕ)) → tuple ≡ get by_index wanted → option_map (λ t. (bytes, t)) tuple ≡ looked_up
     row_is tuple there =
-        by_entry looked_up refl tuple (there ∙ sym (stored_get (map stored_tuple (entries indexed)) indexed wanted bytes (record { same = refl; fit = fits }) fit is)
-        ∙ value_of_entry (is_at (slice_cmp nat_cmp bytes)) (map stored_tuple (entries indexed)))
+        by_entry looked_up refl tuple (there ∙ sym (stored_get (map stored_tuple (entries by_index)) by_index wanted bytes (record { same = refl; fit = fits }) fit is)
+        ∙ value_of_entry (is_at (slice_cmp nat_cmp bytes)) (map stored_tuple (entries by_index)))
       where
         by_entry : (found : Option StoredTuple) → looked_up ≡ found → (tuple : Option (List ℕ)) → tuple ≡ option_map (λ entry. entry.1) found
             → option_map (λ t. (bytes, t)) tuple ≡ found
@@ -77,10 +81,10 @@ module _ (def : IndexDef) (unique : def.unique ≡ true) (all : Tuples) (one_eac
         by_entry (Some entry) found tuple there =
             let same : bytes ≡ entry.0 =
             slice_cmp-IsAntisymmetric nat_cmp-IsAntisymmetric bytes entry.0
-            (eq_is (slice_cmp nat_cmp bytes entry.0) (entry_passes (is_at (slice_cmp nat_cmp bytes)) (map stored_tuple (entries indexed)) entry found)) in
+            (eq_is (slice_cmp nat_cmp bytes entry.0) (entry_passes (is_at (slice_cmp nat_cmp bytes)) (map stored_tuple (entries by_index)) entry found)) in
             ap (option_map (λ t. (bytes, t))) there ∙ (λ i. Some (same i, entry.1))
 
-    a_row : (own : List ℕ) → LeadsTo bytes kept (Some own) → (tuples : List StoredTuple) → StoresTuples tuples all → Some (tuple_stored tuples own) ≡ get indexed wanted
+    a_row : (own : List ℕ) → LeadsTo bytes kept (Some own) → (tuples : List StoredTuple) → StoresTuples tuples all → Some (tuple_stored tuples own) ≡ get by_index wanted
     a_row own leads tuples stores =
         let holder = one_has def unique all one_each have wanted long whole other fit kept keeps bytes is own leads in
         ap (λ o. Some (unwrap_or o [])) (stored_get tuples all holder.0 own stores holder.1 holder.2 ∙ holder.5) ∙ sym holder.5 ∙ holder.3

@@ -1,5 +1,5 @@
 -- The entries of an index as a list, under keys that are bytes, in the order of the keys.
-use Rattle.std.specs.Prelude.{◌≡◌, ◌≢◌, ◌++◌, ℕ, Bool, not, List, drop, map, Option, Some, None, is_some, if◌then◌else◌}
+use Rattle.std.specs.Prelude.{◌≡◌, ◌≢◌, ◌++◌, ℕ, Bool, true, not, List, drop, map, Option, Some, None, is_some, if◌then◌else◌}
 use Rattle.std.specs.BTreeMap.{insert_entry, is_at}
 use Rattle.std.specs.Cmp.Lexicographic.{slice_cmp}
 use Rattle.std.specs.List.{find}
@@ -24,6 +24,11 @@ LeadsTo key entries (Some own) = first_from key entries ≡ Some (key ++ own, ow
 -- an entry stands under a key
 abbrev pub has_entry : {X : Type 0} → (key : List ℕ) → List (List ℕ × X) → Bool
 has_entry key entries = is_some (lookup (is_at (slice_cmp nat_cmp key)) entries)
+
+-- where a key has an entry, in which only its primary key stands behind it, no other entry's key begins with it
+abbrev pub LeadsOnce : (key : List ℕ) → List IndexEntry → Type 0
+LeadsOnce key entries =
+    (own rest : List ℕ) → lookup (is_at (slice_cmp nat_cmp (key ++ own))) entries ≡ Some own → has_entry (key ++ rest) entries ≡ true → rest ≡ own
 
 -- the entries with one more, unless one stands under its key
 abbrev pub with_entry : {X : Type 0} → (key : List ℕ) → X → List (List ℕ × X) → List (List ℕ × X)

@@ -2,7 +2,9 @@ pub mod Builds
 pub mod Built
 pub mod Changes
 pub mod Entries
+pub mod HashIndexes
 pub mod HashViews
+pub mod IndexViews
 pub mod Kept
 pub mod KeptKeys
 pub mod KeptStates

@@ -15,9 +15,8 @@ ghost use Rattle.mx_space.specs.Builds.{build_fault, build_fault_of, row_fault};
 ghost use Rattle.mx_space.specs.Built.{AreLong, IsBuilt};
 ghost use Rattle.mx_space.specs.Kept.{StoresEntries, StoresIndex, kept_entries};
 
-use crate::entries::whole_entry;
 use crate::index::Index;
-use crate::tree_index::TreeIndex;
+use crate::space_index::SpaceIndex;
 use crate::tuple_map::TupleMap;
 use mx_key::{KeyFault, NoKey, key_of_tuple};
 use mx_msgpack::Bytes;
@@ -52,13 +51,13 @@ pub(crate) fn new_entries(
     alloc: Global,
     def: &IndexDef,
     tuples: &TupleMap,
-) -> Result<TreeIndex, BuildFault>
+) -> Result<SpaceIndex, BuildFault>
     ensures { (all : plain.Tuples) (long : ℕ) → StoresTuples tuples.now.entries all → (def.now.id.0 ≡ 0 → all ≡ finite.empty) → (def.now.id.0 ≢ 0 → AreLong long all) → MatchResult result
         (λ index. (build_fault def.now all ≡ None) × StoresIndex all def.now index)
         (λ why. (build_fault def.now all ≡ Some why) ⊎ (why ≡ fault.NoMemory)) }
 {
     if def.id.0 == 0 {
-        return Ok(TreeIndex::new(alloc));
+        return Ok(SpaceIndex::new(alloc, def.kind, def.key.len()));
     }
     let ordered = tuples.in_order(alloc)?;
     build(alloc, def, ordered.as_map())
@@ -72,12 +71,12 @@ fn build(
     alloc: Global,
     def: &IndexDef,
     tuples: &BTreeMap<Bytes, Bytes>,
-) -> Result<TreeIndex, BuildFault>
+) -> Result<SpaceIndex, BuildFault>
     ensures { (all : plain.Tuples) (long : ℕ) → StoresTuples tuples.now.entries all → AreLong long all → (def.now.id.0 == 0) ≡ false → MatchResult result
         (λ index. (build_fault def.now all ≡ None) × StoresEntries index (kept_entries def.now all))
         (λ why. (build_fault def.now all ≡ Some why) ⊎ (why ≡ fault.NoMemory)) }
 {
-    let mut index = TreeIndex::new(alloc);
+    let mut index = SpaceIndex::new(alloc, def.kind, def.key.len());
     for (primary, tuple) in tuples {
         add_row(alloc, def, &mut index, primary, tuple)?;
     }
@@ -88,7 +87,7 @@ fn build(
 fn add_row(
     alloc: Global,
     def: &IndexDef,
-    index: &mut TreeIndex,
+    index: &mut SpaceIndex,
     primary: &Bytes,
     tuple: &Bytes,
 ) -> Result<(), BuildFault>
@@ -107,11 +106,11 @@ fn add_row(
 }
 
 /// Whether an entry has this key and behind it only a primary key.
-fn has_key(index: &TreeIndex, key: &Bytes) -> bool
+fn has_key(index: &SpaceIndex, key: &Bytes) -> bool
     ensures { (def : indexed.IndexDef) (before : plain.Tuples) (long : ℕ) (wanted : Key) → IsBuilt def long before index.now → (def.id.0 == 0) ≡ false → def.unique ≡ true
         → AreFit wanted → key.now ≡ comparable_of wanted → result ≡ is_some (finite.get (tuples_by_index def before) wanted) }
 {
-    whole_entry(index, key).is_some()
+    index.find(key).is_some()
 }
 
 fn index_key(alloc: Global, def: &IndexDef, tuple: &[u8]) -> Result<Bytes, BuildFault>

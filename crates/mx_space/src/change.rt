@@ -7,7 +7,7 @@ ghost use Rattle.std.specs.Ordering.{nat_cmp};
 ghost use Rattle.mx_space.specs.Changes.{all_changed, all_without, with_added, without_key};
 
 use crate::index::Index;
-use crate::tree_index::TreeIndex;
+use crate::space_index::SpaceIndex;
 use crate::tuple_map::TupleMap;
 use mx_msgpack::Bytes;
 use mx_schema::Keyed;
@@ -27,7 +27,7 @@ pub(crate) struct Change {
 pub(crate) fn put_all(
     alloc: Global,
     tuples: &mut TupleMap,
-    indexes: &mut [TreeIndex],
+    indexes: &mut [SpaceIndex],
     changes: &[Change],
     keyed: Keyed,
 ) -> Result<(), AllocError>
@@ -59,7 +59,7 @@ pub(crate) fn put_all(
 }
 
 /// Takes an entry out of each index, where a key says which.
-pub(crate) fn remove_all(indexes: &mut [TreeIndex], keys: &[Option<Bytes>])
+pub(crate) fn remove_all(indexes: &mut [SpaceIndex], keys: &[Option<Bytes>])
     ensures { indexes.new ≡ all_without keys.now indexes.old }
 {
     let Some((key, other_keys)) = keys.split_first() else {
@@ -78,7 +78,7 @@ pub(crate) fn remove_all(indexes: &mut [TreeIndex], keys: &[Option<Bytes>])
 /// Out of memory, or the key doesn't end with the primary key. Nothing changed then.
 pub(crate) fn add(
     alloc: Global,
-    index: &mut TreeIndex,
+    index: &mut SpaceIndex,
     added: &Option<Bytes>,
     primary: &[u8],
 ) -> Result<bool, AllocError>
@@ -94,7 +94,7 @@ pub(crate) fn add(
 }
 
 /// Takes the entry under a key out, where there is a key.
-pub(crate) fn take_out(index: &mut TreeIndex, key: &Option<Bytes>)
+pub(crate) fn take_out(index: &mut SpaceIndex, key: &Option<Bytes>)
     ensures { index.new ≡ without_key key.now index.old }
 {
     if let Some(key) = key {

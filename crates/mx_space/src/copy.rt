@@ -5,7 +5,7 @@ ghost use Rattle.std.specs.BTreeMap.{insert_entry};
 ghost use Rattle.std.specs.Cmp.Lexicographic.{slice_cmp};
 ghost use Rattle.std.specs.Ordering.{nat_cmp};
 
-use crate::tree_index::TreeIndex;
+use crate::space_index::SpaceIndex;
 use mx_msgpack::Bytes;
 use std::alloc::{AllocError, Global};
 use std::collections::BTreeMap;
@@ -42,8 +42,8 @@ pub(crate) fn set_entry(
 
 pub(crate) fn copy_of_indexes(
     alloc: Global,
-    indexes: &[TreeIndex],
-) -> Result<Vec<TreeIndex>, AllocError>
+    indexes: &[SpaceIndex],
+) -> Result<Vec<SpaceIndex>, AllocError>
     ensures { IfOk result (λ copies. copies.items ≡ indexes.now) }
 {
     let mut copies = Vec::with_capacity(alloc, indexes.len())?;

@@ -1,6 +1,6 @@
 //! Tuples that are found by the hash of their primary keys.
 
-ghost use Rattle.std.specs.Prelude.{◌≡◌, List, [], take, IfOk, IsSome, IsTrue, OnOk, OnErr};
+ghost use Rattle.std.specs.Prelude.{◌≡◌, ◌↔◌, List, [], take, IfOk, IsSome, IsTrue, OnOk, OnErr};
 ghost use Rattle.std.specs.BTreeMap.{insert_entry, is_at};
 ghost use Rattle.std.specs.Cmp.Lexicographic.{slice_cmp};
 ghost use Rattle.std.specs.declared.cmp.Ordering.TheVariants.{Greater};
@@ -178,7 +178,7 @@ fn add_first(
 
 /// Whether a key is greater than all those of tuples.
 fn is_above(tuples: &BTreeMap<Bytes, Bytes>, key: &Bytes) -> bool
-    ensures { IsTrue result → AllByRecursion (λ (entry : StoredTuple). slice_cmp nat_cmp key.now entry.0 ≡ Greater) tuples.now.entries }
+    ensures { IsTrue result ↔ AllByRecursion (λ (entry : StoredTuple). slice_cmp nat_cmp key.now entry.0 ≡ Greater) tuples.now.entries }
 {
     match tuples.last_key_value() {
         Some((last, _)) => last.cmp(key).is_lt(),

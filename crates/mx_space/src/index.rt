@@ -1,19 +1,13 @@
 //! The entries of an index.
 
-ghost use Rattle.std.specs.Prelude.{◌≡◌, List, [], not, IfOk, OnOk, OnErr};
+ghost use Rattle.std.specs.Prelude.{◌≡◌, List, [], not, IfOk, IfSome, OnOk, OnErr};
 ghost use Rattle.std.specs.BTreeMap.{is_at};
-ghost use Rattle.std.specs.BTreeMap.Range.{IsLeBy, IsLtBy};
 ghost use Rattle.std.specs.Cmp.Lexicographic.{slice_cmp};
-ghost use Rattle.std.specs.List.{filter};
 ghost use Rattle.std.specs.Map.{remove_entry};
 ghost use Rattle.std.specs.Option.{option_map};
 ghost use Rattle.std.specs.Ordering.{nat_cmp};
-ghost use Rattle.std.specs.Range.Bound.{IsForward};
-ghost use Rattle.mx_key.specs.Comparable.{bound_of, holds};
-ghost use Rattle.mx_space.specs.Entries.{IndexEntry, first_from, has_entry, with_entry};
+ghost use Rattle.mx_space.specs.Entries.{IndexEntry, LeadsOnce, LeadsTo, has_entry, with_entry};
 
-use crate::scan::Scan;
-use mx_key::KeyRange;
 use mx_msgpack::Bytes;
 use std::alloc::AllocError;
 
@@ -40,12 +34,8 @@ pub trait Index {
     fn clear(&mut self)
         ensures { entries self.new ≡ [] };
 
-    /// The first entry whose key isn't below these bytes.
-    fn first_from(&self, key: &Bytes) -> Option<(&[u8], &[u8])>
-        ensures { option_map (λ entry. (entry.0.now, entry.1.now)) result ≡ first_from key.now (entries self.now) };
-
-    /// The entries whose keys lie in a range.
-    fn scan<'a>(&'a self, range: &KeyRange) -> Scan<'a>
-        requires { IsForward (IsLeBy (slice_cmp nat_cmp)) (IsLtBy (slice_cmp nat_cmp)) (bound_of range.now.low) (bound_of range.now.high) }
-        ensures { result ≡ filter (λ entry. holds range.now entry.0) (entries self.now) };
+    /// The entry of a key, in which only the primary key stands behind it: the key, and the primary key.
+    fn find<'a>(&'a self, key: &Bytes) -> Option<(&'a [u8], &'a [u8])>
+        ensures key { IfSome result (λ entry. entry.0.now ≡ key.now) }
+        ensures primary { LeadsOnce key.now (entries self.now) → LeadsTo key.now (entries self.now) (option_map (λ entry. entry.1.now) result) };
 }

@@ -7,7 +7,7 @@ ghost use Rattle.mx_schema.specs.RowParts.{index_place};
 ghost use Rattle.mx_space.specs.Changes.{index_kept, kept_without};
 
 use crate::index::Index;
-use crate::tree_index::TreeIndex;
+use crate::space_index::SpaceIndex;
 use mx_base::IndexId;
 use mx_schema::IndexDef;
 use std::alloc::AllocError;
@@ -15,9 +15,9 @@ use std::alloc::AllocError;
 /// The entries of the index of this number.
 pub(crate) fn find_index<'a>(
     defs: &[IndexDef],
-    indexes: &'a [TreeIndex],
+    indexes: &'a [SpaceIndex],
     id: IndexId,
-) -> Option<&'a TreeIndex>
+) -> Option<&'a SpaceIndex>
     ensures { option_copied result ≡ index_kept id.0 defs.now indexes.now }
 {
     let (def, other_defs) = defs.split_first()?;
@@ -47,9 +47,9 @@ pub(crate) fn place_behind(defs: &[IndexDef], id: IndexId) -> usize
 /// # Errors
 /// Out of memory. Nothing changed then.
 pub(crate) fn insert_index(
-    indexes: &mut Vec<TreeIndex>,
+    indexes: &mut Vec<SpaceIndex>,
     place: usize,
-    index: TreeIndex,
+    index: SpaceIndex,
 ) -> Result<(), AllocError>
     ensures ok { OnOk result (indexes.new.items ≡ insert indexes.old.items place index) }
     ensures within { OnOk result (place ≤ length indexes.old.items) }
@@ -63,7 +63,7 @@ pub(crate) fn insert_index(
 }
 
 /// Takes the entries at a place out, where there are any.
-pub(crate) fn remove_index(indexes: &mut Vec<TreeIndex>, place: usize)
+pub(crate) fn remove_index(indexes: &mut Vec<SpaceIndex>, place: usize)
     ensures { indexes.new.items ≡ remove indexes.old.items place }
 {
     if place < indexes.len() {
@@ -75,7 +75,7 @@ pub(crate) fn remove_index(indexes: &mut Vec<TreeIndex>, place: usize)
 /// this place.
 pub(crate) fn remove_indexes(
     defs: &[IndexDef],
-    indexes: &mut Vec<TreeIndex>,
+    indexes: &mut Vec<SpaceIndex>,
     place: usize,
     id: IndexId,
 )
@@ -96,7 +96,7 @@ pub(crate) fn remove_indexes(
 }
 
 /// Takes all entries of each index out.
-pub(crate) fn clear_all(indexes: &mut [TreeIndex])
+pub(crate) fn clear_all(indexes: &mut [SpaceIndex])
     ensures { indexes.new ≡ map (λ _. []) indexes.old }
 {
     let Some((index, others)) = indexes.split_first_mut() else {

@@ -6,7 +6,7 @@ ghost use Rattle.mx_space.specs.Reserved.{added_keys, all_added, is_removal, rem
 
 use crate::change::{Change, add, take_out};
 use crate::prepared::TupleStep;
-use crate::tree_index::TreeIndex;
+use crate::space_index::SpaceIndex;
 use crate::tuple_map::TupleMap;
 use mx_msgpack::Bytes;
 use std::alloc::{AllocError, Global};
@@ -18,7 +18,7 @@ use std::alloc::{AllocError, Global};
 pub(crate) fn reserve_parts(
     alloc: Global,
     tuples: &mut TupleMap,
-    indexes: &mut [TreeIndex],
+    indexes: &mut [SpaceIndex],
     edits: &[Change],
     key: &Bytes,
     tuple: Option<Bytes>,
@@ -46,7 +46,7 @@ pub(crate) fn reserve_parts(
 /// Out of memory. Nothing changed then.
 fn add_all(
     alloc: Global,
-    indexes: &mut [TreeIndex],
+    indexes: &mut [SpaceIndex],
     edits: &[Change],
     primary: &[u8],
 ) -> Result<(), AllocError>
@@ -76,7 +76,7 @@ fn add_all(
 /// Out of memory, or an entry stands there. Nothing changed then.
 fn add_new(
     alloc: Global,
-    index: &mut TreeIndex,
+    index: &mut SpaceIndex,
     added: &Option<Bytes>,
     primary: &[u8],
 ) -> Result<(), AllocError>
@@ -136,7 +136,7 @@ pub(crate) fn put_back(tuples: &mut TupleMap, key: &Bytes, step: TupleStep)
 }
 
 /// Takes out the entries that were added.
-pub(crate) fn remove_added(indexes: &mut [TreeIndex], edits: &[Change])
+pub(crate) fn remove_added(indexes: &mut [SpaceIndex], edits: &[Change])
     ensures { indexes.new ≡ all_without (added_keys edits.now) indexes.old }
 {
     let Some((edit, other_edits)) = edits.split_first() else {
@@ -150,7 +150,7 @@ pub(crate) fn remove_added(indexes: &mut [TreeIndex], edits: &[Change])
 }
 
 /// Takes out the entries that tuples had.
-pub(crate) fn remove_replaced(indexes: &mut [TreeIndex], edits: &[Change])
+pub(crate) fn remove_replaced(indexes: &mut [SpaceIndex], edits: &[Change])
     ensures { indexes.new ≡ all_without (removed_keys edits.now) indexes.old }
 {
     let Some((edit, other_edits)) = edits.split_first() else {

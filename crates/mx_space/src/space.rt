@@ -35,7 +35,7 @@ use crate::places::{
 use crate::prepared::Step;
 use crate::reserve::{put_back, remove_added, remove_replaced, remove_tuple, reserve_parts};
 use crate::selection::{as_fault, select_entries};
-use crate::tree_index::TreeIndex;
+use crate::space_index::SpaceIndex;
 use crate::tuple_changes::TupleChange;
 use crate::tuple_map::TupleMap;
 use crate::whole_row::{find_row, select_row, whole_key};
@@ -52,7 +52,7 @@ use std::collections::BTreeMap;
 pub struct Space {
     schema: Schema,
     tuples: TupleMap,
-    indexes: Vec<TreeIndex>,
+    indexes: Vec<SpaceIndex>,
 }
 
 impl Space {
@@ -60,26 +60,27 @@ impl Space {
     pub fn new(alloc: Global, schema: Schema) -> Result<Space, AllocError>
         ensures { IfOk result (λ space. StoresIndexed (Some schema) space finite.empty) }
     {
-        let kind = primary_kind(&schema);
-        Space::of_kind(alloc, schema, kind)
+        Space::of(alloc, schema, false)
     }
 
-    /// The same, where the tuples are kept in order whatever the type of the primary index.
+    /// The same, where tuples and entries are kept in order whatever the types of the indexes.
     pub(crate) fn of_trees(alloc: Global, schema: Schema) -> Result<Space, AllocError>
         ensures { IfOk result (λ space. StoresIndexed (Some schema) space finite.empty) }
     {
-        Space::of_kind(alloc, schema, IndexKind::Tree)
+        Space::of(alloc, schema, true)
     }
 
-    fn of_kind(alloc: Global, schema: Schema, kind: IndexKind) -> Result<Space, AllocError>
+    fn of(alloc: Global, schema: Schema, is_ordered: bool) -> Result<Space, AllocError>
         ensures { IfOk result (λ space. StoresIndexed (Some schema) space finite.empty) }
     {
         let mut indexes = Vec::new(alloc);
         let mut left = schema.indexes.as_slice();
-        while let Some((_, others)) = left.split_first() {
-            indexes.push(TreeIndex::new(alloc))?;
+        while let Some((def, others)) = left.split_first() {
+            let kind = kept_kind(def.kind, is_ordered);
+            indexes.push(SpaceIndex::new(alloc, kind, def.key.len()))?;
             left = others;
         }
+        let kind = kept_kind(primary_kind(&schema), is_ordered);
         Ok(Space {
             schema,
             tuples: TupleMap::new(alloc, kind),
@@ -155,7 +156,8 @@ impl Space {
             tuples: &self.tuples,
             unique: def.unique,
         };
-        as_fault(select_entries(alloc, index, source, range, wanted, found))
+        let ordered = index.in_order(alloc)?;
+        as_fault(select_entries(alloc, ordered.as_tree(), source, range, wanted, found))
     }
 
     /// Puts a tuple in the place of the one that has its primary key, in every index. The space has an index
@@ -371,7 +373,7 @@ impl Space {
     }
 
     /// The entries of the index of this number.
-    pub(crate) fn index(&self, id: IndexId) -> Option<&TreeIndex>
+    pub(crate) fn index(&self, id: IndexId) -> Option<&SpaceIndex>
         ensures { option_copied result ≡ index_kept id.0 self.now.schema.indexes self.now.indexes.items }
     {
         find_index(self.schema.indexes.as_slice(), self.indexes.as_slice(), id)
@@ -384,4 +386,9 @@ fn primary_kind(schema: &Schema) -> IndexKind {
         Some(primary) => primary.kind,
         None => IndexKind::Tree,
     }
+}
+
+/// How an index of this type is kept.
+fn kept_kind(kind: IndexKind, is_ordered: bool) -> IndexKind {
+    if is_ordered { IndexKind::Tree } else { kind }
 }

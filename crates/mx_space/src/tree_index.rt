@@ -1,10 +1,19 @@
 //! An index in the order of its keys.
 
-ghost use Rattle.std.specs.Prelude.{◌≡◌, [], drop, not, IfOk, IfSome, OnOk, OnErr};
+ghost use Rattle.std.specs.Prelude.{◌≡◌, [], drop, length, not, IfOk, IfSome, OnOk, OnErr};
+ghost use Rattle.std.specs.BTreeMap.Range.{IsLeBy, IsLtBy};
+ghost use Rattle.std.specs.Cmp.Lexicographic.{slice_cmp};
+ghost use Rattle.std.specs.List.{filter};
+ghost use Rattle.std.specs.List.Sorted.{IsStrictlySortedBy};
+ghost use Rattle.std.specs.Map.{keys_of};
 ghost use Rattle.std.specs.Option.{option_map};
+ghost use Rattle.std.specs.Ordering.{nat_cmp};
+ghost use Rattle.std.specs.Range.Bound.{IsForward};
+ghost use Rattle.mx_key.specs.Comparable.{bound_of, holds};
 ghost use Rattle.mx_space.specs.Entries.{first_from, has_entry, with_entry};
 
 use crate::copy::copy_of_begins;
+use crate::entries::whole_entry;
 use crate::index::Index;
 use crate::scan::{Scan, behind};
 use mx_key::KeyRange;
@@ -24,6 +33,8 @@ pub struct TreeIndex {
 
 impl Model for TreeIndex {
     ghost use Rattle.std.specs.Prelude.{List};
+    ghost use Rattle.std.specs.Range.Bound.{IsForward};
+    ghost use Rattle.mx_key.specs.Comparable.{bound_of, holds};
     ghost use Rattle.mx_space.specs.Entries.{IndexEntry, entries_split};
 
     ghost Value = { List IndexEntry };
@@ -41,12 +52,43 @@ impl TreeIndex {
         }
     }
 
+    /// How many entries there are.
+    pub(crate) fn len(&self) -> usize
+        ensures len { result ≡ length self.now }
+        ensures ordered { IsStrictlySortedBy (slice_cmp nat_cmp) (keys_of self.now) }
+    {
+        self.begins.len()
+    }
+
+    /// Whether an entry stands under a key.
+    pub(crate) fn contains_key(&self, key: &Bytes) -> bool
+        ensures { result ≡ has_entry key.now self.now }
+    {
+        self.begins.contains_key(key)
+    }
+
     pub(crate) fn copy(&self) -> Result<TreeIndex, AllocError>
         ensures { IfOk result (λ copy. copy ≡ self.now) }
     {
         Ok(TreeIndex {
             begins: copy_of_begins(&self.begins)?,
         })
+    }
+
+    /// The first entry whose key isn't below these bytes.
+    pub(crate) fn first_from(&self, key: &Bytes) -> Option<(&[u8], &[u8])>
+        ensures { option_map (λ entry. (entry.0.now, entry.1.now)) result ≡ first_from key.now self.now }
+    {
+        let (entry, begin) = first_begin(&self.begins, key)?;
+        Some((entry.as_slice(), behind(entry, *begin)))
+    }
+
+    /// The entries whose keys lie in a range.
+    pub(crate) fn scan<'a>(&'a self, range: &KeyRange) -> Scan<'a>
+        requires { IsForward (IsLeBy (slice_cmp nat_cmp)) (IsLtBy (slice_cmp nat_cmp)) (bound_of range.now.low) (bound_of range.now.high) }
+        ensures { result ≡ filter (λ entry. holds range.now entry.0) self.now }
+    {
+        Scan::of_index(&self.begins, range)
     }
 }
 
@@ -68,13 +110,8 @@ impl Index for TreeIndex {
         self.begins.clear();
     }
 
-    fn first_from(&self, key: &Bytes) -> Option<(&[u8], &[u8])> {
-        let (entry, begin) = first_begin(&self.begins, key)?;
-        Some((entry.as_slice(), behind(entry, *begin)))
-    }
-
-    fn scan<'a>(&'a self, range: &KeyRange) -> Scan<'a> {
-        Scan::of_index(&self.begins, range)
+    fn find<'a>(&'a self, key: &Bytes) -> Option<(&'a [u8], &'a [u8])> {
+        whole_entry(self, key)
     }
 }
 

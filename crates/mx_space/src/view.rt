@@ -21,7 +21,7 @@ ghost use Rattle.mx_space.specs.OwnChanges.{ShowsTuples};
 ghost use Rattle.mx_space.specs.Scans.{SelectsByKey};
 
 use crate::build::BuildFault;
-use crate::entries::whole_entry;
+use crate::index::Index;
 use crate::overlay::OverlaidSpace;
 use crate::pick::{Pick, SelectFault};
 use crate::space::Space;
@@ -90,7 +90,7 @@ impl<'a> SpaceView<'a> {
 
     /// Puts into `found`, in place of what it had, the tuples that an iterator picks of an index of those that
     /// are seen. As `State::select`, of a space that shows no other's tuples.
-    pub fn select(
+    pub(crate) fn select(
         self,
         alloc: Global,
         def: &IndexDef,
@@ -100,7 +100,7 @@ impl<'a> SpaceView<'a> {
         requires array { IsArray wanted.now.key.now }
         ensures { (schema : Option described.Schema) (all : plain.Tuples) (written : OwnWrites) (long : ℕ) → Sees schema self.entry all written → AreLong long all
             → AreLong long (under written all) → index_with def.now.id.0 self.entry.space.now.schema.indexes ≡ Some def.now
-            → HaveKeys def.now (under written all) → (def.now.unique ≡ true → AreUnique def.now (under written all))
+            → HaveKeys def.now (under written all) → (def.now.unique ≡ true → AreUnique def.now (under written all)) → (def.now.unique ≡ true → HoldsOneEach def.now all)
             → SelectsByKey (finite.entries (tuples_by_index def.now (under written all))) def.now wanted.now found.new result }
     {
         match self.over {
@@ -125,7 +125,7 @@ impl<'a> SpaceView<'a> {
 }
 
 /// The tuple that is seen under writes and has a key in a unique index of another number than 0.
-fn holder_under<'a>(
+pub(crate) fn holder_under<'a>(
     alloc: Global,
     space: &'a Space,
     over: &'a OverlaidSpace,
@@ -201,7 +201,7 @@ fn holder_key(
     let Some(index) = space.index(def.id) else {
         return Ok(None);
     };
-    let Some((_, primary)) = whole_entry(index, key) else {
+    let Some((_, primary)) = index.find(key) else {
         return Ok(None);
     };
     Ok(Some(Bytes::from_slice(alloc, primary)?))

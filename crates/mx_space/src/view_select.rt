@@ -5,7 +5,7 @@ ghost use Rattle.std.specs.BTreeMap.Range.{IsLeBy, IsLtBy};
 ghost use Rattle.std.specs.Cmp.Lexicographic.{slice_cmp};
 ghost use Rattle.std.specs.FinMap as finite;
 ghost use Rattle.std.specs.List.{filter};
-ghost use Rattle.std.specs.Option.{option_map};
+ghost use Rattle.std.specs.Option.{option_copied, option_map};
 ghost use Rattle.std.specs.Ordering.{nat_cmp};
 ghost use Rattle.std.specs.Range.Bound.{IsForward};
 ghost use Rattle.mx_key.specs.declared.iterator.IterKind as kind;
@@ -21,14 +21,13 @@ ghost use Rattle.mx_schema.specs.State as plain;
 ghost use Rattle.mx_schema.specs.Stored.{stored_tuple};
 ghost use Rattle.mx_space.specs.declared.pick.Source.TheVariants as source;
 ghost use Rattle.mx_space.specs.Built.{AreLong};
-ghost use Rattle.mx_space.specs.Kept.{StoresIndexed};
+ghost use Rattle.mx_space.specs.Kept.{HoldsOneEach, StoresIndexed};
 ghost use Rattle.mx_space.specs.Overlays.{OwnWrites, StoresWritten, under};
 ghost use Rattle.mx_space.specs.Scans.{Selects, SelectsByKey};
 ghost use Rattle.mx_space.specs.Selecting.{AreFitEntries, indexed_row, row_of};
 ghost use Rattle.mx_space.specs.ShownRows.{is_shown, merged, rows_left};
 ghost use Rattle.mx_space.specs.TupleMaps.{under_key};
 
-use crate::index::Index;
 use crate::overlay::OverlaidSpace;
 use crate::pick::{Pick, SelectFault, SelectStop, Source};
 use crate::scan::Scan;
@@ -37,7 +36,8 @@ use crate::shown_rows::ShownRows;
 use crate::shown_select::select_rows;
 use crate::space::Space;
 use crate::tree_index::TreeIndex;
-use crate::whole_row::{primary_key, select_row, stored_row};
+use crate::view::holder_under;
+use crate::whole_row::{primary_key, select_row, stored_row, whole_key};
 use mx_key::{KeyRange, range_of_key};
 use mx_msgpack::{Bytes, Tuples};
 use mx_schema::IndexDef;
@@ -75,7 +75,7 @@ pub(crate) fn select_shown(
     requires array { IsArray wanted.now.key.now }
     ensures { (schema : Option described.Schema) (all : plain.Tuples) (written : OwnWrites) (long : ℕ) → StoresIndexed schema space.now all → StoresWritten schema over.now written
         → AreLong long all → AreLong long (under written all) → index_with def.now.id.0 space.now.schema.indexes ≡ Some def.now
-        → HaveKeys def.now (under written all) → (def.now.unique ≡ true → AreUnique def.now (under written all))
+        → HaveKeys def.now (under written all) → (def.now.unique ≡ true → AreUnique def.now (under written all)) → (def.now.unique ≡ true → HoldsOneEach def.now all)
         → SelectsByKey (finite.entries (tuples_by_index def.now (under written all))) def.now wanted.now found.new result }
 {
     let range = range_of_key(alloc, &def.key, wanted.iterator, wanted.key)?;
@@ -86,11 +86,20 @@ pub(crate) fn select_shown(
     if def.id.0 == 0 {
         return as_fault(select_first(alloc, space, over, range, wanted, found));
     }
-    let down = wanted.iterator.descends();
-    let Some(rows) = other_rows(alloc, space, over, def, &range, down) else {
-        return Err(SelectFault::NoMemory);
-    };
-    as_fault(select_rows(alloc, rows, range, wanted, found))
+    if let Some(key) = whole_key(def, &range, wanted) {
+        let key = key.clone()?;
+        let tuple = holder_under(alloc, space, over, def, &key)?;
+        return as_fault(select_row(alloc, keyed_row(&key, tuple), range, wanted, found));
+    }
+    as_fault(select_other(alloc, space, over, def, range, wanted, found))
+}
+
+/// A tuple with its key.
+fn keyed_row<'a>(key: &'a Bytes, tuple: Option<&'a [u8]>) -> Option<(&'a [u8], &'a [u8])>
+    ensures { option_map (λ row. (row.0.now, row.1.now)) result ≡ option_map (under_key key.now) (option_copied tuple.entry) }
+{
+    let tuple = tuple?;
+    Some((key.as_slice(), tuple))
 }
 
 /// The tuple under a primary key that is seen under writes, with the key.
@@ -130,26 +139,44 @@ fn select_first(
     select_rows(alloc, rows, range, wanted, found)
 }
 
-/// The rows of an index of another number than 0 in the range of a key. The space has the index.
-fn other_rows<'a>(
+/// As `select_shown`, by an index of another number than 0, of the range of a key. The space has the index.
+fn select_other(
     alloc: Global,
-    space: &'a Space,
-    over: &'a OverlaidSpace,
+    space: &Space,
+    over: &OverlaidSpace,
     def: &IndexDef,
-    range: &KeyRange,
-    down: bool,
-) -> Option<ShownRows<'a>>
-    requires forward { IsForward (IsLeBy (slice_cmp nat_cmp)) (IsLtBy (slice_cmp nat_cmp)) (bound_of range.now.low) (bound_of range.now.high) }
-    ensures { (schema : Option described.Schema) (all : plain.Tuples) (written : OwnWrites) (long : ℕ) (iterator : kind.IterKind) (key : Key) → StoresIndexed schema space.now all
+    range: KeyRange,
+    wanted: &Pick<'_>,
+    found: &mut Tuples,
+) -> Result<Option<KeyRange>, SelectStop>
+    requires forward { IsForward (IsLeBy (slice_cmp nat_cmp)) (IsLtBy (slice_cmp nat_cmp)) (bound_of range.low) (bound_of range.high) }
+    ensures { (schema : Option described.Schema) (all : plain.Tuples) (written : OwnWrites) (long : ℕ) (key : Key) → StoresIndexed schema space.now all
         → StoresWritten schema over.now written → AreLong long all → AreLong long (under written all) → index_with def.now.id.0 space.now.schema.indexes ≡ Some def.now
         → HaveKeys def.now (under written all) → (def.now.unique ≡ true → AreUnique def.now (under written all))
-        → AreFit key → length key ≤ length def.now.key → range.now ≡ edges_of (range_of iterator key) → def.now.id.0 ≢ 0
-        → IfSome result (λ rows. rows_left rows
-        ≡ directed down (filter (λ entry. holds range.now entry.0) (map stored_tuple (finite.entries (tuples_by_index def.now (under written all)))))) }
+        → AreFit key → length key ≤ length def.now.key → range ≡ edges_of (range_of wanted.now.iterator key) → def.now.id.0 ≢ 0
+        → AreFitEntries (finite.entries (tuples_by_index def.now (under written all)))
+        → Selects (finite.entries (tuples_by_index def.now (under written all))) wanted.now key found.new result }
 {
-    let stored = space.index(def.id)?;
-    let own = over.own().index(def.id)?;
-    Some(index_rows(alloc, space, over, def.unique, stored, own, range, down))
+    let Some(stored) = space.index(def.id) else {
+        return Err(SelectStop::NoMemory);
+    };
+    let Some(own) = over.own().index(def.id) else {
+        return Err(SelectStop::NoMemory);
+    };
+    let stored = stored.in_order(alloc)?;
+    let own = own.in_order(alloc)?;
+    let down = wanted.iterator.descends();
+    let rows = index_rows(
+        alloc,
+        space,
+        over,
+        def.unique,
+        stored.as_tree(),
+        own.as_tree(),
+        &range,
+        down,
+    );
+    select_rows(alloc, rows, range, wanted, found)
 }
 
 /// Those of the index of the number 0.

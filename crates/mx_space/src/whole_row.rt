@@ -15,14 +15,14 @@ ghost use Rattle.mx_key.specs.Parts.{key_of_array};
 ghost use Rattle.mx_key.specs.Ranges.{range_of};
 ghost use Rattle.mx_schema.specs.Picks.{Indexed};
 ghost use Rattle.mx_schema.specs.Stored.{stored_tuple};
-ghost use Rattle.mx_space.specs.Entries.{LeadsTo};
+ghost use Rattle.mx_space.specs.Entries.{LeadsOnce, LeadsTo};
 ghost use Rattle.mx_space.specs.Scans.{Selects};
 ghost use Rattle.mx_space.specs.Selecting.{AreFitEntries, found_in, one_found, tuple_stored};
 
-use crate::entries::whole_entry;
+use crate::index::Index;
 use crate::pick::{Pick, SelectStop, collect_one, tuple_stored};
 use crate::selection::{exact_key, has_all_parts, read_to};
-use crate::tree_index::TreeIndex;
+use crate::space_index::SpaceIndex;
 use crate::tuple_map::TupleMap;
 use mx_key::KeyRange;
 use mx_msgpack::{Bytes, Tuples};
@@ -64,15 +64,15 @@ pub(crate) fn primary_key<'a>(
 /// The entry of a whole key in a unique index: that key and the tuple that it leads to.
 pub(crate) fn find_row<'a>(
     alloc: Global,
-    index: &'a TreeIndex,
+    index: &'a SpaceIndex,
     tuples: &'a TupleMap,
     key: &Bytes,
 ) -> Result<Option<(&'a [u8], &'a [u8])>, AllocError>
-    ensures { IfOk result (λ found. MatchOption found
+    ensures { LeadsOnce key.now index.now → IfOk result (λ found. MatchOption found
         (LeadsTo key.now index.now None)
         (λ row. (own : List ℕ) × LeadsTo key.now index.now (Some own) × (row.0.now ≡ key.now) × (row.1.now ≡ tuple_stored tuples.now.entries own))) }
 {
-    let Some((own, primary)) = whole_entry(index, key) else {
+    let Some((own, primary)) = index.find(key) else {
         return Ok(None);
     };
     Ok(Some((own, tuple_stored(alloc, tuples, primary)?)))
@@ -87,6 +87,7 @@ pub(crate) fn stored_row<'a>(kept: &'a TupleMap, key: &Bytes) -> Option<(&'a [u8
 }
 
 /// As `select_entries`, of a row that is the only one in the range, if there is one.
+#[inline]
 pub(crate) fn select_row(
     alloc: Global,
     row: Option<(&[u8], &[u8])>,

@@ -14,7 +14,7 @@ returns-then-is_above c = λ all are.
     let long = ap length are in
     are
     ∙ first_stay key c.args.tuple.now c.args.count all (omega (arith, c.if-len-count.true, c.len.ensures.len, long))
-    (subst (AllByRecursion (λ (entry : StoredTuple). slice_cmp nat_cmp key entry.0 ≡ Greater)) are (c.is_above.ensures c.if-is_above.true))
+    (subst (AllByRecursion (λ (entry : StoredTuple). slice_cmp nat_cmp key entry.0 ≡ Greater)) are (c.is_above.ensures.0 c.if-is_above.true))
 
 pub returns-then-len-count-2 : goal.returns-then-len-count-2
 returns-then-len-count-2 c = λ all are.

@@ -2,6 +2,7 @@ use Rattle.std.proofs.Common.{ap, sym, ◌∙◌, subst}
 use Rattle.std.specs.Option.{option_copied, option_map}
 use Rattle.mx_space.specs.Entries.{LeadsTo}
 use Rattle.mx_space.specs.Overlays.{IsHolder}
+use Rattle.mx_space.proofs.AloneLaws.{leads_once_in}
 use Rattle.mx_space.proofs.HolderLaws.{no_index, none_holds_key}
 use Rattle.mx_space.proofs.ViewLaws.{holder_is}
 use Rattle.mx_space.proofs.view.holder_key.Goals as goal
@@ -11,15 +12,19 @@ returns-in_default c = λ schema all long wanted stores whole there one_each apa
     absurd (no_index schema c.args.space.now all c.args.def.now wanted stores long whole there one_each fit apart (option_copied c.index.result) c.index.ensures
     (ap option_copied c.in_default.is))
 
-pub returns-in_default-whole_entry : goal.returns-in_default-whole_entry
-returns-in_default-whole_entry c = λ schema all long wanted stores whole there one_each apart fit is.
+pub returns-in_default-find : goal.returns-in_default-find
+returns-in_default-find c = λ schema all long wanted stores whole there one_each apart fit is.
+    let once = leads_once_in schema c.args.space.now all c.args.def.now wanted stores long whole there one_each fit apart (option_copied c.index.result) c.index.ensures
+    c.in-Some.index.now (ap option_copied c.in-Some.is) c.args.key.now is in
     none_holds_key schema c.args.space.now all c.args.def.now wanted stores long whole there one_each fit apart (option_copied c.index.result) c.index.ensures
     c.in-Some.index.now (ap option_copied c.in-Some.is) c.args.key.now is
-    (subst (LeadsTo c.args.key.now c.in-Some.index.now) (ap (option_map (λ entry. entry.1.now)) c.in_default-whole_entry.is) c.whole_entry.ensures.primary)
+    (subst (LeadsTo c.args.key.now c.in-Some.index.now) (ap (option_map (λ entry. entry.1.now)) c.in_default-find.is) (c.find.ensures.primary once))
 
 pub returns : goal.returns
 returns c = λ schema all long wanted stores whole there one_each apart fit is.
+    let once = leads_once_in schema c.args.space.now all c.args.def.now wanted stores long whole there one_each fit apart (option_copied c.index.result) c.index.ensures
+    c.in-Some.index.now (ap option_copied c.in-Some.is) c.args.key.now is in
     subst (IsHolder c.args.def.now all wanted) (sym c.in_ok-from_slice.ensures)
     (holder_is schema c.args.space.now all c.args.def.now wanted stores long whole there one_each apart fit
-    c.in-Some.index.now (ap option_copied (sym c.in-Some.is) ∙ c.index.ensures) c.args.key.now c.in-Some-whole_entry.primary.now is
-    (subst (LeadsTo c.args.key.now c.in-Some.index.now) (ap (option_map (λ entry. entry.1.now)) c.in-Some-whole_entry.is) c.whole_entry.ensures.primary))
+    c.in-Some.index.now (ap option_copied (sym c.in-Some.is) ∙ c.index.ensures) c.args.key.now c.in-Some-find.primary.now is
+    (subst (LeadsTo c.args.key.now c.in-Some.index.now) (ap (option_map (λ entry. entry.1.now)) c.in-Some-find.is) (c.find.ensures.primary once)))
