@@ -2,9 +2,9 @@
 """Counts what requests cost in a space with one index and with three, and what a tuple takes in memory.
 
 A tuple has a key, a text of 8 characters and a small number. The one index is a tree, and then a hash index.
-With three indexes there is beside the primary one a unique index of the texts, and an index of the numbers
-that isn't unique. Requests of each type are
-asked among few tuples and among many, as in `requests.py`, by valgrind's callgrind.
+With three indexes there is beside the primary one a unique index of the texts, a tree and then a hash index,
+and an index of the numbers that isn't unique. Requests of each type are asked among few tuples and among many,
+as in `requests.py`, by valgrind's callgrind.
 
 For memory so many tuples are put in a space with the index of the numbers beside the primary one. The next
 run opens the directory, and its resident bytes, less those of a run on an empty directory, are divided by
@@ -40,6 +40,7 @@ SPACE, INDEXES = 512, 288
 # It takes the place of the primary index.
 PRIMARY_HASH = [SPACE, 0, "primary", "hash", {}, [[0, "unsigned"]]]
 BY_TEXT = [SPACE, 1, "text", "tree", {"unique": True}, [[1, "string"]]]
+BY_TEXT_HASH = [SPACE, 1, "text", "hash", {}, [[1, "string"]]]
 BY_NUMBER = [SPACE, 2, "number", "tree", {"unique": False}, [[2, "unsigned"]]]
 MANY = 1_000_000
 # An odd number, by whose multiples each key has a text of its own, in another order.
@@ -81,6 +82,7 @@ def measure_requests(sizes):
         ("one index", ()),
         ("one hash index", (PRIMARY_HASH,)),
         ("three indexes", (BY_TEXT, BY_NUMBER)),
+        ("three indexes, one a hash index", (BY_TEXT_HASH, BY_NUMBER)),
     ):
         print(f"{name}: ", end="")
         measure_among(sizes, TYPES, lambda tuples: filling(tuples, *indexes))
