@@ -46,6 +46,12 @@ abbrev pub as_fault : {X : Type 0} → Result X SelectStop → Result X SelectFa
 as_fault (Ok x) = Ok x
 as_fault (Err why) = Err (stop_fault_of why)
 
+-- the range of keys that a scan read, where it read any
+abbrev pub keys_read : Result Bool SelectStop → KeyRange → Result (Option KeyRange) SelectStop
+keys_read (Ok true) range = Ok (Some range)
+keys_read (Ok false) range = Ok None
+keys_read (Err why) range = Err why
+
 -- the entries that a scan of these keys finds among those that are kept
 abbrev pub found_in : List StoredTuple → KeyRange → IterKind → (offset limit : ℕ) → List StoredTuple
 found_in kept range iterator offset limit = window offset limit (directed (descends iterator) (filter (λ entry. holds range entry.0) kept))

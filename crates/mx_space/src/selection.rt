@@ -1,6 +1,6 @@
 //! What a SELECT picks of an index.
 
-ghost use Rattle.std.specs.Prelude.{◌≡◌, ◌≢◌, ◌⊎◌, ◌<◌, List, [], length, map, Some, Ok, IfOk, IfSome, IsTrue, MatchOption, MatchResult, false};
+ghost use Rattle.std.specs.Prelude.{◌≡◌, ◌≢◌, ◌⊎◌, ◌<◌, List, [], length, map, Some, Ok, IfOk, IfSome, IsTrue, MatchOption, MatchResult, OnOk, false};
 ghost use Rattle.std.specs.BTreeMap.Range.{IsLeBy, IsLtBy};
 ghost use Rattle.std.specs.Cmp.Lexicographic.{slice_cmp};
 ghost use Rattle.std.specs.FinMap as finite;
@@ -19,7 +19,7 @@ ghost use Rattle.mx_schema.specs.Picks.{Indexed, tuples_by_index, indexed_with};
 ghost use Rattle.mx_schema.specs.State as plain;
 ghost use Rattle.mx_schema.specs.Stored.{StoresTuples, stored_tuple};
 ghost use Rattle.mx_space.specs.Scans.{Selects, SelectsByKey};
-ghost use Rattle.mx_space.specs.Selecting.{AreFitEntries, IsCollected, IsStopped, as_fault, found_in, row_of, rows_found};
+ghost use Rattle.mx_space.specs.Selecting.{AreFitEntries, IsCollected, IsStopped, as_fault, found_in, keys_read, row_of, rows_found};
 
 use crate::copy::set_entry;
 use crate::index::Index;
@@ -49,21 +49,24 @@ pub(crate) fn select_from(
         → (IsTrue is_own → def.now.id.0 ≡ 0 → AllByRecursion (λ (entry : Indexed). length entry.0 ≡ length def.now.key) (finite.entries all))
         → SelectsByKey (finite.entries (tuples_by_index def.now all)) def.now wanted.now found.new result }
 {
-    let range = range_of_key(alloc, &def.key, wanted.iterator, wanted.key)?;
+    let mut range = range_of_key(alloc, &def.key, wanted.iterator, wanted.key)?;
     if is_own {
         if let Some(key) = primary_key(def, &range, wanted) {
             let row = stored_row(tuples, key);
-            return as_fault(select_row(alloc, row, range, wanted, found));
+            let is_read = select_row(alloc, row, &mut range, wanted, found);
+            return keys_read(is_read, range);
         }
     }
     if def.id.0 == 0 && is_all(&range, wanted.iterator) {
         let first = tuples.first(alloc, wanted.offset as usize + wanted.limit as usize)?;
-        return as_fault(select_range(alloc, first.as_map(), range, wanted, found));
+        let is_read = select_range(alloc, first.as_map(), &mut range, wanted, found);
+        return keys_read(is_read, range);
     }
     let ordered = tuples.in_order(alloc)?;
     let indexed = other_index(alloc, def, ordered.as_map())?;
     let kept = first_map(&indexed, ordered.as_map());
-    as_fault(select_range(alloc, kept, range, wanted, found))
+    let is_read = select_range(alloc, kept, &mut range, wanted, found);
+    keys_read(is_read, range)
 }
 
 /// The tuples under their keys in an index of another number than 0.
@@ -82,13 +85,17 @@ fn other_index(
     Ok(Some(index_tuples(alloc, def, tuples)?))
 }
 
-pub(crate) fn as_fault(
-    read: Result<Option<KeyRange>, SelectStop>,
+/// The range of keys that was read, where one was.
+#[inline]
+pub(crate) fn keys_read(
+    is_read: Result<bool, SelectStop>,
+    range: KeyRange,
 ) -> Result<Option<KeyRange>, SelectFault>
-    ensures { result ≡ as_fault read }
+    ensures { result ≡ as_fault (keys_read is_read range) }
 {
-    match read {
-        Ok(read) => Ok(read),
+    match is_read {
+        Ok(true) => Ok(Some(range)),
+        Ok(false) => Ok(None),
         Err(stop) => Err(SelectFault::from(stop)),
     }
 }
@@ -137,68 +144,72 @@ fn is_all(range: &KeyRange, iterator: IterKind) -> bool
     matches!(range.low, Edge::Open) && matches!(range.high, Edge::Open) && !iterator.descends()
 }
 
-/// As `select_from`, of the tuples in the range of a key.
+/// As `select_from`, of the tuples in the range of a key, which becomes the range that was read. Tells whether
+/// any was.
 fn select_range(
     alloc: Global,
     kept: &BTreeMap<Bytes, Bytes>,
-    range: KeyRange,
+    range: &mut KeyRange,
     wanted: &Pick<'_>,
     found: &mut Tuples,
-) -> Result<Option<KeyRange>, SelectStop>
-    requires { IsForward (IsLeBy (slice_cmp nat_cmp)) (IsLtBy (slice_cmp nat_cmp)) (bound_of range.low) (bound_of range.high) }
-    ensures { (all : List Indexed) (key : Key) → AreFitEntries all → AreFit key → range ≡ edges_of (range_of wanted.now.iterator key)
-        → found_in kept.now.entries range wanted.now.iterator wanted.now.offset wanted.now.limit ≡ found_in (map stored_tuple all) range wanted.now.iterator wanted.now.offset wanted.now.limit
-        → Selects all wanted.now key found.new result }
+) -> Result<bool, SelectStop>
+    requires { IsForward (IsLeBy (slice_cmp nat_cmp)) (IsLtBy (slice_cmp nat_cmp)) (bound_of range.old.low) (bound_of range.old.high) }
+    ensures { (all : List Indexed) (key : Key) → AreFitEntries all → AreFit key → range.old ≡ edges_of (range_of wanted.now.iterator key)
+        → found_in kept.now.entries range.old wanted.now.iterator wanted.now.offset wanted.now.limit ≡ found_in (map stored_tuple all) range.old wanted.now.iterator wanted.now.offset wanted.now.limit
+        → Selects all wanted.now key found.new (keys_read result range.new) }
 {
     found.clear();
     if wanted.limit == 0 {
-        return Ok(None);
+        return Ok(false);
     }
-    let last = collect_found(kept, &range, wanted, found)?;
-    Ok(Some(read_to(alloc, range, wanted, found, last)?))
+    let last = collect_found(kept, range, wanted, found)?;
+    read_to(alloc, range, wanted, found, last)?;
+    Ok(true)
 }
 
-/// As `Space::select`, of the range of a key.
+/// As `Space::select`, of the range of a key, which becomes the range that was read. Tells whether any was.
 pub(crate) fn select_entries(
     alloc: Global,
     index: &TreeIndex,
     source: Source<'_>,
-    range: KeyRange,
+    range: &mut KeyRange,
     wanted: &Pick<'_>,
     found: &mut Tuples,
-) -> Result<Option<KeyRange>, SelectStop>
-    requires { IsForward (IsLeBy (slice_cmp nat_cmp)) (IsLtBy (slice_cmp nat_cmp)) (bound_of range.low) (bound_of range.high) }
-    ensures { (all : List Indexed) (key : Key) → AreFitEntries all → AreFit key → range ≡ edges_of (range_of wanted.now.iterator key)
-        → rows_found (row_of source.entry) index.now range wanted.now.iterator wanted.now.offset wanted.now.limit ≡ found_in (map stored_tuple all) range wanted.now.iterator wanted.now.offset wanted.now.limit
-        → Selects all wanted.now key found.new result }
+) -> Result<bool, SelectStop>
+    requires { IsForward (IsLeBy (slice_cmp nat_cmp)) (IsLtBy (slice_cmp nat_cmp)) (bound_of range.old.low) (bound_of range.old.high) }
+    ensures { (all : List Indexed) (key : Key) → AreFitEntries all → AreFit key → range.old ≡ edges_of (range_of wanted.now.iterator key)
+        → rows_found (row_of source.entry) index.now range.old wanted.now.iterator wanted.now.offset wanted.now.limit ≡ found_in (map stored_tuple all) range.old wanted.now.iterator wanted.now.offset wanted.now.limit
+        → Selects all wanted.now key found.new (keys_read result range.new) }
 {
     found.clear();
     if wanted.limit == 0 {
-        return Ok(None);
+        return Ok(false);
     }
-    let last = collect_rows(index, source, &range, wanted, found)?;
-    Ok(Some(read_to(alloc, range, wanted, found, last)?))
+    let last = collect_rows(index, source, range, wanted, found)?;
+    read_to(alloc, range, wanted, found, last)?;
+    Ok(true)
 }
 
-/// The range of keys that was read: up to the key of the last tuple where the limit was reached.
+/// Makes a range the one that was read: up to the key of the last tuple where the limit was reached.
+#[inline]
 pub(crate) fn read_to(
     alloc: Global,
-    mut range: KeyRange,
+    range: &mut KeyRange,
     wanted: &Pick<'_>,
     found: &Tuples,
     last: Option<&[u8]>,
-) -> Result<KeyRange, AllocError>
+) -> Result<(), AllocError>
     requires { 0 < wanted.now.limit }
-    ensures { (all : List Indexed) (key : Key) → AreFitEntries all → AreFit key → range ≡ edges_of (range_of wanted.now.iterator key)
-        → IsCollected found.now (found_in (map stored_tuple all) range wanted.now.iterator wanted.now.offset wanted.now.limit) (option_map (λ key. key.now) last.entry)
-        → IfOk result (λ read. Selects all wanted.now key found.now (Ok (Some read))) }
+    ensures { (all : List Indexed) (key : Key) → AreFitEntries all → AreFit key → range.old ≡ edges_of (range_of wanted.now.iterator key)
+        → IsCollected found.now (found_in (map stored_tuple all) range.old wanted.now.iterator wanted.now.offset wanted.now.limit) (option_map (λ key. key.now) last.entry)
+        → OnOk result (Selects all wanted.now key found.now (Ok (Some range.new))) }
 {
     if found.len() == wanted.limit as usize {
         if let Some(last) = last {
             range.end_with(alloc, wanted.iterator.descends(), last)?;
         }
     }
-    Ok(range)
+    Ok(())
 }
 
 /// Copies the tuples that the entries in the range lead to, and gives the key of the last one.

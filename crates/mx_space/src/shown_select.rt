@@ -9,7 +9,7 @@ ghost use Rattle.mx_key.specs.Ranges.{descends, range_of};
 ghost use Rattle.mx_schema.specs.Picks.{Indexed, directed};
 ghost use Rattle.mx_schema.specs.Stored.{stored_tuple};
 ghost use Rattle.mx_space.specs.Scans.{Selects};
-ghost use Rattle.mx_space.specs.Selecting.{AreFitEntries, IsCollected, IsStopped};
+ghost use Rattle.mx_space.specs.Selecting.{AreFitEntries, IsCollected, IsStopped, keys_read};
 ghost use Rattle.mx_space.specs.ShownRows.{rows_left};
 
 use crate::pick::{Pick, SelectStop, result_size};
@@ -19,25 +19,26 @@ use mx_key::KeyRange;
 use mx_msgpack::Tuples;
 use std::alloc::Global;
 
-/// As `Space::select`, of the rows in the range of a key.
+/// As `select_entries`, of the rows in the range of a key.
 pub(crate) fn select_rows(
     alloc: Global,
     mut rows: ShownRows<'_>,
-    range: KeyRange,
+    range: &mut KeyRange,
     wanted: &Pick<'_>,
     found: &mut Tuples,
-) -> Result<Option<KeyRange>, SelectStop>
-    ensures { (all : List Indexed) (key : Key) → AreFitEntries all → AreFit key → range ≡ edges_of (range_of wanted.now.iterator key)
-        → rows_left rows.entry ≡ directed (descends wanted.now.iterator) (filter (λ entry. holds range entry.0) (map stored_tuple all))
-        → Selects all wanted.now key found.new result }
+) -> Result<bool, SelectStop>
+    ensures { (all : List Indexed) (key : Key) → AreFitEntries all → AreFit key → range.old ≡ edges_of (range_of wanted.now.iterator key)
+        → rows_left rows.entry ≡ directed (descends wanted.now.iterator) (filter (λ entry. holds range.old entry.0) (map stored_tuple all))
+        → Selects all wanted.now key found.new (keys_read result range.new) }
 {
     found.clear();
     if wanted.limit == 0 {
-        return Ok(None);
+        return Ok(false);
     }
     rows.pass_over(wanted.offset)?;
     let last = collect_shown(&mut rows, wanted.limit, found)?;
-    Ok(Some(read_to(alloc, range, wanted, found, last)?))
+    read_to(alloc, range, wanted, found, last)?;
+    Ok(true)
 }
 
 /// Copies the tuples of at most so many rows, and gives the key of the last one.

@@ -34,7 +34,7 @@ use crate::places::{
 };
 use crate::prepared::Step;
 use crate::reserve::{put_back, remove_added, remove_replaced, remove_tuple, reserve_parts};
-use crate::selection::{as_fault, select_entries};
+use crate::selection::{keys_read, select_entries};
 use crate::space_index::SpaceIndex;
 use crate::tuple_changes::TupleChange;
 use crate::tuple_map::TupleMap;
@@ -143,13 +143,14 @@ impl Space {
             → HaveKeys def.now all → (def.now.unique ≡ true → AreUnique def.now all)
             → SelectsByKey (finite.entries (tuples_by_index def.now all)) def.now wanted.now found.new result }
     {
-        let range = range_of_key(alloc, &def.key, wanted.iterator, wanted.key)?;
+        let mut range = range_of_key(alloc, &def.key, wanted.iterator, wanted.key)?;
         let Some(index) = self.index(def.id) else {
             return Err(SelectFault::NoMemory);
         };
         if let Some(key) = whole_key(def, &range, wanted) {
             let row = find_row(alloc, index, &self.tuples, key)?;
-            return as_fault(select_row(alloc, row, range, wanted, found));
+            let is_read = select_row(alloc, row, &mut range, wanted, found);
+            return keys_read(is_read, range);
         }
         let source = Source::Tuples {
             alloc,
@@ -157,7 +158,9 @@ impl Space {
             unique: def.unique,
         };
         let ordered = index.in_order(alloc)?;
-        as_fault(select_entries(alloc, ordered.as_tree(), source, range, wanted, found))
+        let entries = ordered.as_tree();
+        let is_read = select_entries(alloc, entries, source, &mut range, wanted, found);
+        keys_read(is_read, range)
     }
 
     /// Puts a tuple in the place of the one that has its primary key, in every index. The space has an index

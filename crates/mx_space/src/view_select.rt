@@ -24,14 +24,14 @@ ghost use Rattle.mx_space.specs.Built.{AreLong};
 ghost use Rattle.mx_space.specs.Kept.{HoldsOneEach, StoresIndexed};
 ghost use Rattle.mx_space.specs.Overlays.{OwnWrites, StoresWritten, under};
 ghost use Rattle.mx_space.specs.Scans.{Selects, SelectsByKey};
-ghost use Rattle.mx_space.specs.Selecting.{AreFitEntries, indexed_row, row_of};
+ghost use Rattle.mx_space.specs.Selecting.{AreFitEntries, indexed_row, keys_read, row_of};
 ghost use Rattle.mx_space.specs.ShownRows.{is_shown, merged, rows_left};
 ghost use Rattle.mx_space.specs.TupleMaps.{under_key};
 
 use crate::overlay::OverlaidSpace;
 use crate::pick::{Pick, SelectFault, SelectStop, Source};
 use crate::scan::Scan;
-use crate::selection::{as_fault, select_from};
+use crate::selection::{keys_read, select_from};
 use crate::shown_rows::ShownRows;
 use crate::shown_select::select_rows;
 use crate::space::Space;
@@ -78,20 +78,24 @@ pub(crate) fn select_shown(
         → HaveKeys def.now (under written all) → (def.now.unique ≡ true → AreUnique def.now (under written all)) → (def.now.unique ≡ true → HoldsOneEach def.now all)
         → SelectsByKey (finite.entries (tuples_by_index def.now (under written all))) def.now wanted.now found.new result }
 {
-    let range = range_of_key(alloc, &def.key, wanted.iterator, wanted.key)?;
+    let mut range = range_of_key(alloc, &def.key, wanted.iterator, wanted.key)?;
     if let Some(key) = primary_key(def, &range, wanted) {
         let row = shown_row(space, over, key);
-        return as_fault(select_row(alloc, row, range, wanted, found));
+        let is_read = select_row(alloc, row, &mut range, wanted, found);
+        return keys_read(is_read, range);
     }
     if def.id.0 == 0 {
-        return as_fault(select_first(alloc, space, over, range, wanted, found));
+        let is_read = select_first(alloc, space, over, &mut range, wanted, found);
+        return keys_read(is_read, range);
     }
     if let Some(key) = whole_key(def, &range, wanted) {
         let key = key.clone()?;
         let tuple = holder_under(alloc, space, over, def, &key)?;
-        return as_fault(select_row(alloc, keyed_row(&key, tuple), range, wanted, found));
+        let is_read = select_row(alloc, keyed_row(&key, tuple), &mut range, wanted, found);
+        return keys_read(is_read, range);
     }
-    as_fault(select_other(alloc, space, over, def, range, wanted, found))
+    let is_read = select_other(alloc, space, over, def, &mut range, wanted, found);
+    keys_read(is_read, range)
 }
 
 /// A tuple with its key.
@@ -123,19 +127,19 @@ fn select_first(
     alloc: Global,
     space: &Space,
     over: &OverlaidSpace,
-    range: KeyRange,
+    range: &mut KeyRange,
     wanted: &Pick<'_>,
     found: &mut Tuples,
-) -> Result<Option<KeyRange>, SelectStop>
-    requires forward { IsForward (IsLeBy (slice_cmp nat_cmp)) (IsLtBy (slice_cmp nat_cmp)) (bound_of range.low) (bound_of range.high) }
+) -> Result<bool, SelectStop>
+    requires forward { IsForward (IsLeBy (slice_cmp nat_cmp)) (IsLtBy (slice_cmp nat_cmp)) (bound_of range.old.low) (bound_of range.old.high) }
     ensures { (schema : Option described.Schema) (all : plain.Tuples) (written : OwnWrites) (key : Key) → StoresIndexed schema space.now all → StoresWritten schema over.now written
-        → AreFit key → range ≡ edges_of (range_of wanted.now.iterator key) → AreFitEntries (finite.entries (under written all))
-        → Selects (finite.entries (under written all)) wanted.now key found.new result }
+        → AreFit key → range.old ≡ edges_of (range_of wanted.now.iterator key) → AreFitEntries (finite.entries (under written all))
+        → Selects (finite.entries (under written all)) wanted.now key found.new (keys_read result range.new) }
 {
     let stored = space.tuples().in_order(alloc)?;
     let own = over.own().tuples().in_order(alloc)?;
     let down = wanted.iterator.descends();
-    let rows = first_rows(alloc, over, stored.as_map(), own.as_map(), &range, down);
+    let rows = first_rows(alloc, over, stored.as_map(), own.as_map(), range, down);
     select_rows(alloc, rows, range, wanted, found)
 }
 
@@ -145,17 +149,17 @@ fn select_other(
     space: &Space,
     over: &OverlaidSpace,
     def: &IndexDef,
-    range: KeyRange,
+    range: &mut KeyRange,
     wanted: &Pick<'_>,
     found: &mut Tuples,
-) -> Result<Option<KeyRange>, SelectStop>
-    requires forward { IsForward (IsLeBy (slice_cmp nat_cmp)) (IsLtBy (slice_cmp nat_cmp)) (bound_of range.low) (bound_of range.high) }
+) -> Result<bool, SelectStop>
+    requires forward { IsForward (IsLeBy (slice_cmp nat_cmp)) (IsLtBy (slice_cmp nat_cmp)) (bound_of range.old.low) (bound_of range.old.high) }
     ensures { (schema : Option described.Schema) (all : plain.Tuples) (written : OwnWrites) (long : ℕ) (key : Key) → StoresIndexed schema space.now all
         → StoresWritten schema over.now written → AreLong long all → AreLong long (under written all) → index_with def.now.id.0 space.now.schema.indexes ≡ Some def.now
         → HaveKeys def.now (under written all) → (def.now.unique ≡ true → AreUnique def.now (under written all))
-        → AreFit key → length key ≤ length def.now.key → range ≡ edges_of (range_of wanted.now.iterator key) → def.now.id.0 ≢ 0
+        → AreFit key → length key ≤ length def.now.key → range.old ≡ edges_of (range_of wanted.now.iterator key) → def.now.id.0 ≢ 0
         → AreFitEntries (finite.entries (tuples_by_index def.now (under written all)))
-        → Selects (finite.entries (tuples_by_index def.now (under written all))) wanted.now key found.new result }
+        → Selects (finite.entries (tuples_by_index def.now (under written all))) wanted.now key found.new (keys_read result range.new) }
 {
     let Some(stored) = space.index(def.id) else {
         return Err(SelectStop::NoMemory);
@@ -173,7 +177,7 @@ fn select_other(
         def.unique,
         stored.as_tree(),
         own.as_tree(),
-        &range,
+        range,
         down,
     );
     select_rows(alloc, rows, range, wanted, found)

@@ -17,7 +17,7 @@ ghost use Rattle.mx_schema.specs.Picks.{Indexed};
 ghost use Rattle.mx_schema.specs.Stored.{stored_tuple};
 ghost use Rattle.mx_space.specs.Entries.{LeadsOnce, LeadsTo};
 ghost use Rattle.mx_space.specs.Scans.{Selects};
-ghost use Rattle.mx_space.specs.Selecting.{AreFitEntries, found_in, one_found, tuple_stored};
+ghost use Rattle.mx_space.specs.Selecting.{AreFitEntries, found_in, one_found, keys_read, tuple_stored};
 
 use crate::index::Index;
 use crate::pick::{Pick, SelectStop, collect_one, tuple_stored};
@@ -91,19 +91,20 @@ pub(crate) fn stored_row<'a>(kept: &'a TupleMap, key: &Bytes) -> Option<(&'a [u8
 pub(crate) fn select_row(
     alloc: Global,
     row: Option<(&[u8], &[u8])>,
-    range: KeyRange,
+    range: &mut KeyRange,
     wanted: &Pick<'_>,
     found: &mut Tuples,
-) -> Result<Option<KeyRange>, SelectStop>
-    ensures { (all : List Indexed) (key : Key) → AreFitEntries all → AreFit key → range ≡ edges_of (range_of wanted.now.iterator key)
+) -> Result<bool, SelectStop>
+    ensures { (all : List Indexed) (key : Key) → AreFitEntries all → AreFit key → range.old ≡ edges_of (range_of wanted.now.iterator key)
         → (0 < wanted.now.limit → one_found wanted.now.offset (option_map (λ row. (row.0.now, row.1.now)) row.entry)
-        ≡ found_in (map stored_tuple all) range wanted.now.iterator wanted.now.offset wanted.now.limit)
-        → Selects all wanted.now key found.new result }
+        ≡ found_in (map stored_tuple all) range.old wanted.now.iterator wanted.now.offset wanted.now.limit)
+        → Selects all wanted.now key found.new (keys_read result range.new) }
 {
     found.clear();
     if wanted.limit == 0 {
-        return Ok(None);
+        return Ok(false);
     }
     let last = collect_one(row, wanted.offset, found)?;
-    Ok(Some(read_to(alloc, range, wanted, found, last)?))
+    read_to(alloc, range, wanted, found, last)?;
+    Ok(true)
 }

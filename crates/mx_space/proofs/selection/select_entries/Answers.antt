@@ -13,4 +13,4 @@ returns c all key fits fit edges same =
 pub returns-in_err-last : goal.returns-in_err-last
 returns-in_err-last c all key fits fit edges same =
     let p = err_from_is_err_and c.from_residual.result c.from_residual.ensures.1 in
-    rw (p.1, p.2) (stopped_told all c.args.wanted.now key fits fit c.args.range edges _ same c.in_err-last.field-0.0 c.in_err-last.ensures)
+    rw (p.1, p.2) (stopped_told all c.args.wanted.now key fits fit c.args.range.now edges _ same c.in_err-last.field-0.0 c.in_err-last.ensures)

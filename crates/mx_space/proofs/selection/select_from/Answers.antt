@@ -6,7 +6,7 @@ use Rattle.mx_space.proofs.StopLaws.{selects_told}
 use Rattle.mx_schema.proofs.StoredLaws.{primary_index}
 use Rattle.mx_schema.specs.Stored.{StoresTuples}
 use Rattle.mx_space.specs.Scans.{SelectsByKey}
-use Rattle.mx_space.specs.Selecting.{found_in}
+use Rattle.mx_space.specs.Selecting.{found_in, keys_read}
 use Rattle.mx_space.proofs.FirstTupleLaws.{found_first}
 use Rattle.mx_space.proofs.MapLaws.{all_as_long, kept_stored}
 use Rattle.mx_space.proofs.WholeKeyLaws.{whole_found}
@@ -19,12 +19,12 @@ returns-in-Some c = λ all keeps whole.
     let (key, fits, fit, edges) = c.in_ok-range.ensures.picked in
     let (first, low, exact, lengths) = c.in-Some.ensures in
     let long = all_as_long key (length def.key) (lengths key fits) (finite.entries all) (whole c.if-is_own.true first) in
-    let read = c.select_row.ensures (finite.entries all) key keeps.fit fit edges
+    let read = c.select_row-is_read.ensures (finite.entries all) key keeps.fit fit edges
     (λ more. whole_found all keeps.fit c.args.tuples.now.entries keeps.same wanted.iterator key fit long exact c.in_ok-range.range c.in-Some.key.now edges low
     wanted.offset wanted.limit more _ c.stored_row-row.ensures
     ∙ ap (λ kept. found_in kept c.in_ok-range.range wanted.iterator wanted.offset wanted.limit) (sym keeps.same)) in
-    subst (λ (tuples : plain.Tuples). SelectsByKey (finite.entries tuples) def wanted c.select_row.new.found c.as_fault.result) (sym (primary_index def all first))
-    (selects_told (finite.entries all) def wanted c.select_row.new.found key fits fit c.select_row.result c.as_fault.result c.as_fault.ensures read)
+    subst (λ (tuples : plain.Tuples). SelectsByKey (finite.entries tuples) def wanted c.select_row-is_read.new.found c.keys_read.result) (sym (primary_index def all first))
+    (selects_told (finite.entries all) def wanted c.select_row-is_read.new.found key fits fit (keys_read c.select_row-is_read.result c.select_row-is_read.new.range) c.keys_read.result c.keys_read.ensures read)
 
 pub returns-then-is_all : goal.returns-then-is_all
 returns-then-is_all c = λ all keeps whole.
@@ -33,12 +33,12 @@ returns-then-is_all c = λ all keeps whole.
     let range = c.in_ok-range.range in
     let (key, fits, fit, edges) = c.in_ok-range.ensures.picked in
     let (low, high, up) = c.is_all.ensures c.if-is_all.true in
-    let read = c.select_range.ensures (finite.entries all) key keeps.fit fit edges
+    let read = c.select_range-is_read.ensures (finite.entries all) key keeps.fit fit edges
     (found_first range wanted.iterator low high up wanted.offset wanted.limit c.as_map.result.now.entries c.args.tuples.now.entries
     (ap (take (wanted.offset + wanted.limit)) c.as_map.ensures ∙ c.in_ok-first.ensures)
     ∙ ap (λ kept. found_in kept range wanted.iterator wanted.offset wanted.limit) (sym keeps.same)) in
-    subst (λ (tuples : plain.Tuples). SelectsByKey (finite.entries tuples) def wanted c.select_range.new.found c.as_fault-then-is_all.result) (sym (primary_index def all c.if-def-eq0.true))
-    (selects_told (finite.entries all) def wanted c.select_range.new.found key fits fit c.select_range.result c.as_fault-then-is_all.result c.as_fault-then-is_all.ensures read)
+    subst (λ (tuples : plain.Tuples). SelectsByKey (finite.entries tuples) def wanted c.select_range-is_read.new.found c.keys_read-then-is_all.result) (sym (primary_index def all c.if-def-eq0.true))
+    (selects_told (finite.entries all) def wanted c.select_range-is_read.new.found key fits fit (keys_read c.select_range-is_read.result c.select_range-is_read.new.range) c.keys_read-then-is_all.result c.keys_read-then-is_all.ensures read)
 
 pub returns : goal.returns
 returns c = λ all keeps whole.
@@ -50,6 +50,6 @@ returns c = λ all keeps whole.
     let again : StoresTuples c.as_map-3.result.now.entries all = subst (λ kept. StoresTuples kept all) (sym (c.as_map-3.ensures ∙ c.in_ok-ordered.ensures)) keeps in
     let indexed = c.in_ok-indexed.ensures all ordered in
     let kept = kept_stored (λ map. map.entries) def all c.as_map-3.result.now c.first_map-kept.result.now c.in_ok-indexed.indexed again indexed c.first_map-kept.ensures in
-    let read = c.select_range-2.ensures (finite.entries (tuples_by_index def all)) key kept.fit fit edges
+    let read = c.select_range-is_read-2.ensures (finite.entries (tuples_by_index def all)) key kept.fit fit edges
     (ap (λ kept. found_in kept range wanted.iterator wanted.offset wanted.limit) (sym kept.same)) in
-    selects_told (finite.entries (tuples_by_index def all)) def wanted c.select_range-2.new.found key fits fit c.select_range-2.result c.as_fault-2.result c.as_fault-2.ensures read
+    selects_told (finite.entries (tuples_by_index def all)) def wanted c.select_range-is_read-2.new.found key fits fit (keys_read c.select_range-is_read-2.result c.select_range-is_read-2.new.range) c.keys_read-2.result c.keys_read-2.ensures read

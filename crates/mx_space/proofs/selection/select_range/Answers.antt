@@ -17,4 +17,4 @@ returns-in_err-last c all key fits fit edges same =
     let wanted = c.args.wanted.now in
     let stopped = c.in_err-last.ensures in
     let p = err_from_is_err_and c.from_residual.result c.from_residual.ensures.1 in
-    rw (p.1, p.2) (stopped_told all wanted key fits fit c.args.range edges _ same c.in_err-last.field-0.0 stopped)
+    rw (p.1, p.2) (stopped_told all wanted key fits fit c.args.range.now edges _ same c.in_err-last.field-0.0 stopped)

@@ -19,7 +19,7 @@ Kept = List StoredTuple
 pub returns : goal.returns
 returns c = λ schema all written key stores writes fit edges fits.
     let wanted = c.args.wanted.now in
-    let range = c.args.range in
+    let range = c.args.range.now in
     let over = c.args.over.now in
     let down = descends wanted.iterator in
     let stored = c.as_map.ensures ∙ c.in_ok-stored.ensures ∙ ap (λ (t : TupleEntries). t.entries) c.tuples.ensures in

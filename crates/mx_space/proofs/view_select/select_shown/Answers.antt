@@ -8,6 +8,7 @@ use Rattle.mx_schema.specs.Stored.{stored_tuple}
 use Rattle.mx_schema.proofs.StoredLaws.{primary_index}
 use Rattle.mx_space.specs.Overlays.{under}
 use Rattle.mx_space.specs.Scans.{SelectsByKey}
+use Rattle.mx_space.specs.Selecting.{keys_read}
 use Rattle.mx_space.specs.TupleMaps.{under_key}
 use Rattle.mx_space.proofs.IndexScanLaws.{array_short}
 use Rattle.mx_space.proofs.ShownRowLaws.{first_fits, seen_fits, seen_long}
@@ -24,9 +25,9 @@ returns c = λ schema all written long stores writes whole whole_seen there have
     let wanted = c.args.wanted.now in
     let entries = finite.entries (tuples_by_index def (under written all)) in
     let (key, fits, fit, edges) = c.in_ok-range.ensures.picked in
-    let read = c.select_other.ensures schema all written long key stores writes whole whole_seen there have one_each fit (array_short def.key wanted.key.now key fits) edges c.if-def-eq0.false
+    let read = c.select_other-is_read.ensures schema all written long key stores writes whole whole_seen there have one_each fit (array_short def.key wanted.key.now key fits) edges c.if-def-eq0.false
     (seen_fits schema c.args.space.now c.args.over.now all written def long stores writes whole whole_seen there have one_each) in
-    selects_told entries def wanted c.select_other.new.found key fits fit c.select_other.result c.as_fault-2.result c.as_fault-2.ensures read
+    selects_told entries def wanted c.select_other-is_read.new.found key fits fit (keys_read c.select_other-is_read.result c.select_other-is_read.new.range) c.keys_read-2.result c.keys_read-2.ensures read
 
 pub returns-in-Some : goal.returns-in-Some
 returns-in-Some c = λ schema all written long stores writes whole whole_seen there have one_each each_stored.
@@ -45,10 +46,10 @@ returns-in-Some c = λ schema all written long stores writes whole whole_seen th
     let long_seen = all_as_long key (length def.key) (lengths key fits) (finite.entries seen)
     (seen_long schema space over all written def stores writes (subst (λ n. index_with n space.schema.indexes ≡ Some def) first there)) in
     let row = c.shown_row-row.ensures schema all written key stores writes fit is ∙ sym (row_stored kept seen key bytes (record { same = refl; fit = fit_seen }) fit is) in
-    let read = c.select_row.ensures (finite.entries seen) key fit_seen fit edges
+    let read = c.select_row-is_read.ensures (finite.entries seen) key fit_seen fit edges
     (λ more. whole_found seen fit_seen kept refl wanted.iterator key fit long_seen exact range bytes edges low wanted.offset wanted.limit more _ row) in
-    subst (λ t. SelectsByKey (finite.entries t) def wanted c.select_row.new.found c.as_fault.result) (sym (primary_index def seen first))
-    (selects_told (finite.entries seen) def wanted c.select_row.new.found key fits fit c.select_row.result c.as_fault.result c.as_fault.ensures read)
+    subst (λ t. SelectsByKey (finite.entries t) def wanted c.select_row-is_read.new.found c.keys_read.result) (sym (primary_index def seen first))
+    (selects_told (finite.entries seen) def wanted c.select_row-is_read.new.found key fits fit (keys_read c.select_row-is_read.result c.select_row-is_read.new.range) c.keys_read.result c.keys_read.ensures read)
 
 pub returns-in-Some-whole_key : goal.returns-in-Some-whole_key
 returns-in-Some-whole_key c = λ schema all written long stores writes whole whole_seen there have one_each each_stored.
@@ -72,9 +73,9 @@ returns-in-Some-whole_key c = λ schema all written long stores writes whole who
     let own_whole = each_own (λ entry. length entry.0 ≡ long) written all whole_seen in
     let held = c.in_ok-tuple.ensures schema all written long key stores writes whole own_whole there (each_stored unique) (inr (unique, one_each unique, have)) apart fit is in
     let row = c.keyed_row.ensures ∙ ap (option_map (under_key bytes)) held ∙ sym (row_stored kept indexed key bytes (record { same = refl; fit = fit_seen }) fit is) in
-    let read = c.select_row-in-Some-whole_key.ensures (finite.entries indexed) key fit_seen fit edges
+    let read = c.select_row-is_read-in-Some-whole_key.ensures (finite.entries indexed) key fit_seen fit edges
     (λ more. whole_found indexed fit_seen kept refl wanted.iterator key fit long_seen exact range bytes edges low_is wanted.offset wanted.limit more _ row) in
-    selects_told (finite.entries indexed) def wanted c.select_row-in-Some-whole_key.new.found key fits fit c.select_row-in-Some-whole_key.result c.as_fault-in-Some-whole_key.result c.as_fault-in-Some-whole_key.ensures read
+    selects_told (finite.entries indexed) def wanted c.select_row-is_read-in-Some-whole_key.new.found key fits fit (keys_read c.select_row-is_read-in-Some-whole_key.result c.select_row-is_read-in-Some-whole_key.new.range) c.keys_read-in-Some-whole_key.result c.keys_read-in-Some-whole_key.ensures read
 
 pub returns-then-def-eq0 : goal.returns-then-def-eq0
 returns-then-def-eq0 c = λ schema all written long stores writes whole whole_seen there have one_each each_stored.
@@ -84,6 +85,6 @@ returns-then-def-eq0 c = λ schema all written long stores writes whole whole_se
     let first = c.if-def-eq0.true in
     let (key, fits, fit, edges) = c.in_ok-range.ensures.picked in
     let fit_seen = first_fits schema c.args.space.now c.args.over.now all written def long stores writes whole whole_seen there have one_each first in
-    let read = c.select_first.ensures schema all written key stores writes fit edges fit_seen in
-    subst (λ t. SelectsByKey (finite.entries t) def wanted c.select_first.new.found c.as_fault-then-def-eq0.result) (sym (primary_index def seen first))
-    (selects_told (finite.entries seen) def wanted c.select_first.new.found key fits fit c.select_first.result c.as_fault-then-def-eq0.result c.as_fault-then-def-eq0.ensures read)
+    let read = c.select_first-is_read.ensures schema all written key stores writes fit edges fit_seen in
+    subst (λ t. SelectsByKey (finite.entries t) def wanted c.select_first-is_read.new.found c.keys_read-then-def-eq0.result) (sym (primary_index def seen first))
+    (selects_told (finite.entries seen) def wanted c.select_first-is_read.new.found key fits fit (keys_read c.select_first-is_read.result c.select_first-is_read.new.range) c.keys_read-then-def-eq0.result c.keys_read-then-def-eq0.ensures read)
