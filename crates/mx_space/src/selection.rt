@@ -50,23 +50,59 @@ pub(crate) fn select_from(
         → SelectsByKey (finite.entries (tuples_by_index def.now all)) def.now wanted.now found.new result }
 {
     let mut range = range_of_key(alloc, &def.key, wanted.iterator, wanted.key)?;
+    let is_read = select_from_range(alloc, tuples, is_own, def, &mut range, wanted, found);
+    keys_read(is_read, range)
+}
+
+/// As `select_from`, of the range of a key, which becomes the range that was read. Tells whether any was.
+fn select_from_range(
+    alloc: Global,
+    tuples: &TupleMap,
+    is_own: bool,
+    def: &IndexDef,
+    range: &mut KeyRange,
+    wanted: &Pick<'_>,
+    found: &mut Tuples,
+) -> Result<bool, SelectStop>
+    requires array { IsArray wanted.now.key.now }
+    requires forward { IsForward (IsLeBy (slice_cmp nat_cmp)) (IsLtBy (slice_cmp nat_cmp)) (bound_of range.old.low) (bound_of range.old.high) }
+    ensures { (all : plain.Tuples) (key : Key) → StoresTuples tuples.now.entries all
+        → (IsTrue is_own → def.now.id.0 ≡ 0 → AllByRecursion (λ (entry : Indexed). length entry.0 ≡ length def.now.key) (finite.entries all))
+        → key_of_array def.now.key wanted.now.key.now ≡ Ok key → AreFit key → range.old ≡ edges_of (range_of wanted.now.iterator key)
+        → Selects (finite.entries (tuples_by_index def.now all)) wanted.now key found.new (keys_read result range.new) }
+{
     if is_own {
-        if let Some(key) = primary_key(def, &range, wanted) {
+        if let Some(key) = primary_key(def, range, wanted) {
             let row = stored_row(tuples, key);
-            let is_read = select_row(alloc, row, &mut range, wanted, found);
-            return keys_read(is_read, range);
+            return select_row(alloc, row, range, wanted, found);
         }
     }
-    if def.id.0 == 0 && is_all(&range, wanted.iterator) {
+    select_in_order(alloc, tuples, def, range, wanted, found)
+}
+
+/// As `select_from_range`, by a scan.
+// A call of its own, since a function clears the room of its variables where it begins.
+#[inline(never)]
+fn select_in_order(
+    alloc: Global,
+    tuples: &TupleMap,
+    def: &IndexDef,
+    range: &mut KeyRange,
+    wanted: &Pick<'_>,
+    found: &mut Tuples,
+) -> Result<bool, SelectStop>
+    requires { IsForward (IsLeBy (slice_cmp nat_cmp)) (IsLtBy (slice_cmp nat_cmp)) (bound_of range.old.low) (bound_of range.old.high) }
+    ensures { (all : plain.Tuples) (key : Key) → StoresTuples tuples.now.entries all → AreFit key → range.old ≡ edges_of (range_of wanted.now.iterator key)
+        → Selects (finite.entries (tuples_by_index def.now all)) wanted.now key found.new (keys_read result range.new) }
+{
+    if def.id.0 == 0 && is_all(range, wanted.iterator) {
         let first = tuples.first(alloc, wanted.offset as usize + wanted.limit as usize)?;
-        let is_read = select_range(alloc, first.as_map(), &mut range, wanted, found);
-        return keys_read(is_read, range);
+        return select_range(alloc, first.as_map(), range, wanted, found);
     }
     let ordered = tuples.in_order(alloc)?;
     let indexed = other_index(alloc, def, ordered.as_map())?;
     let kept = first_map(&indexed, ordered.as_map());
-    let is_read = select_range(alloc, kept, &mut range, wanted, found);
-    keys_read(is_read, range)
+    select_range(alloc, kept, range, wanted, found)
 }
 
 /// The tuples under their keys in an index of another number than 0.
@@ -86,7 +122,7 @@ fn other_index(
 }
 
 /// The range of keys that was read, where one was.
-#[inline]
+#[inline(always)]
 pub(crate) fn keys_read(
     is_read: Result<bool, SelectStop>,
     range: KeyRange,

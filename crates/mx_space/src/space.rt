@@ -1,12 +1,18 @@
 //! A space with its indexes.
 
 ghost use Rattle.std.specs.Prelude.{◌≡◌, ◌≢◌, ◌⊎◌, ◌↔◌, ◌<◌, ℕ, List, length, Option, Some, None, Ok, true, IsTrue, IfOk, OnOk, OnErr, MatchOption, MatchResult, ◌==◌, if◌then◌else◌};
+ghost use Rattle.std.specs.BTreeMap.Range.{IsLeBy, IsLtBy};
+ghost use Rattle.std.specs.Cmp.Lexicographic.{slice_cmp};
 ghost use Rattle.std.specs.FinMap as finite;
 ghost use Rattle.std.specs.List.{AllZip};
 ghost use Rattle.std.specs.Option.{option_copied};
+ghost use Rattle.std.specs.Ordering.{nat_cmp};
+ghost use Rattle.std.specs.Range.Bound.{IsForward};
 ghost use Rattle.mx_msgpack.specs.Items.{IsArray};
-ghost use Rattle.mx_key.specs.Comparable.{comparable_of};
+ghost use Rattle.mx_key.specs.Comparable.{bound_of, comparable_of, edges_of};
 ghost use Rattle.mx_key.specs.Keys.{Key, AreFit};
+ghost use Rattle.mx_key.specs.Parts.{key_of_array};
+ghost use Rattle.mx_key.specs.Ranges.{range_of};
 ghost use Rattle.mx_schema.specs.declared.index_def.IndexDef as indexed;
 ghost use Rattle.mx_schema.specs.declared.schema.Schema as described;
 ghost use Rattle.mx_schema.specs.Catalogues.{index_with};
@@ -20,15 +26,16 @@ ghost use Rattle.mx_space.specs.declared.build.BuildFault.TheVariants.{NoMemory}
 ghost use Rattle.mx_space.specs.Builds.{build_fault};
 ghost use Rattle.mx_space.specs.Built.{AreLong};
 ghost use Rattle.mx_space.specs.Changes.{Puts, Removes, index_kept};
-ghost use Rattle.mx_space.specs.Kept.{StoresIndexed};
+ghost use Rattle.mx_space.specs.Kept.{StoresEntries, StoresIndexed, kept_entries};
 ghost use Rattle.mx_space.specs.Reserved.{EditsAll, IsStepOf, content_of, content_installed, content_readied, content_released};
-ghost use Rattle.mx_space.specs.Scans.{SelectsByKey};
+ghost use Rattle.mx_space.specs.Scans.{Selects, SelectsByKey};
+ghost use Rattle.mx_space.specs.Selecting.{keys_read};
 
 use crate::build::{BuildFault, new_entries};
 use crate::change::{Change, put_all, remove_all};
 use crate::changes::{changes_of, edits_of, removals_of};
 use crate::copy::copy_of_indexes;
-use crate::pick::{Pick, SelectFault, Source};
+use crate::pick::{Pick, SelectFault, SelectStop, Source};
 use crate::places::{
     clear_all, find_index, insert_index, place_behind, remove_index, remove_indexes,
 };
@@ -147,10 +154,31 @@ impl Space {
         let Some(index) = self.index(def.id) else {
             return Err(SelectFault::NoMemory);
         };
-        if let Some(key) = whole_key(def, &range, wanted) {
+        let is_read = self.select_by(alloc, index, def, &mut range, wanted, found);
+        keys_read(is_read, range)
+    }
+
+    /// As `select`, of the range of a key, which becomes the range that was read. Tells whether any was.
+    fn select_by(
+        &self,
+        alloc: Global,
+        index: &SpaceIndex,
+        def: &IndexDef,
+        range: &mut KeyRange,
+        wanted: &Pick<'_>,
+        found: &mut Tuples,
+    ) -> Result<bool, SelectStop>
+        requires array { IsArray wanted.now.key.now }
+        requires forward { IsForward (IsLeBy (slice_cmp nat_cmp)) (IsLtBy (slice_cmp nat_cmp)) (bound_of range.old.low) (bound_of range.old.high) }
+        ensures { (schema : Option described.Schema) (all : plain.Tuples) (long : ℕ) (key : Key) → StoresIndexed schema self.now all → AreLong long all
+            → index_with def.now.id.0 self.now.schema.indexes ≡ Some def.now → def.now.id.0 ≢ 0
+            → HaveKeys def.now all → (def.now.unique ≡ true → AreUnique def.now all) → StoresEntries index.now (kept_entries def.now all)
+            → key_of_array def.now.key wanted.now.key.now ≡ Ok key → AreFit key → range.old ≡ edges_of (range_of wanted.now.iterator key)
+            → Selects (finite.entries (tuples_by_index def.now all)) wanted.now key found.new (keys_read result range.new) }
+    {
+        if let Some(key) = whole_key(def, range, wanted) {
             let row = find_row(alloc, index, &self.tuples, key)?;
-            let is_read = select_row(alloc, row, &mut range, wanted, found);
-            return keys_read(is_read, range);
+            return select_row(alloc, row, range, wanted, found);
         }
         let source = Source::Tuples {
             alloc,
@@ -158,9 +186,7 @@ impl Space {
             unique: def.unique,
         };
         let ordered = index.in_order(alloc)?;
-        let entries = ordered.as_tree();
-        let is_read = select_entries(alloc, entries, source, &mut range, wanted, found);
-        keys_read(is_read, range)
+        select_entries(alloc, ordered.as_tree(), source, range, wanted, found)
     }
 
     /// Puts a tuple in the place of the one that has its primary key, in every index. The space has an index

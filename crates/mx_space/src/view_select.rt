@@ -1,6 +1,6 @@
 //! What a SELECT picks of a space under a transaction's own writes.
 
-ghost use Rattle.std.specs.Prelude.{◌≡◌, ◌≢◌, ◌≤◌, ℕ, Option, Some, IfSome, length, map, true, false};
+ghost use Rattle.std.specs.Prelude.{◌≡◌, ◌≢◌, ◌≤◌, ℕ, Ok, Option, Some, IfSome, length, map, true, false};
 ghost use Rattle.std.specs.BTreeMap.Range.{IsLeBy, IsLtBy};
 ghost use Rattle.std.specs.Cmp.Lexicographic.{slice_cmp};
 ghost use Rattle.std.specs.FinMap as finite;
@@ -11,6 +11,7 @@ ghost use Rattle.std.specs.Range.Bound.{IsForward};
 ghost use Rattle.mx_key.specs.declared.iterator.IterKind as kind;
 ghost use Rattle.mx_key.specs.Comparable.{bound_of, comparable_of, edges_of, holds};
 ghost use Rattle.mx_key.specs.Keys.{Key, AreFit};
+ghost use Rattle.mx_key.specs.Parts.{key_of_array};
 ghost use Rattle.mx_key.specs.Ranges.{range_of};
 ghost use Rattle.mx_msgpack.specs.Items.{IsArray};
 ghost use Rattle.mx_schema.specs.declared.schema.Schema as described;
@@ -79,23 +80,41 @@ pub(crate) fn select_shown(
         → SelectsByKey (finite.entries (tuples_by_index def.now (under written all))) def.now wanted.now found.new result }
 {
     let mut range = range_of_key(alloc, &def.key, wanted.iterator, wanted.key)?;
-    if let Some(key) = primary_key(def, &range, wanted) {
+    let is_read = select_seen(alloc, space, over, def, &mut range, wanted, found);
+    keys_read(is_read, range)
+}
+
+/// As `select_shown`, of the range of a key, which becomes the range that was read. Tells whether any was.
+fn select_seen(
+    alloc: Global,
+    space: &Space,
+    over: &OverlaidSpace,
+    def: &IndexDef,
+    range: &mut KeyRange,
+    wanted: &Pick<'_>,
+    found: &mut Tuples,
+) -> Result<bool, SelectStop>
+    requires array { IsArray wanted.now.key.now }
+    requires forward { IsForward (IsLeBy (slice_cmp nat_cmp)) (IsLtBy (slice_cmp nat_cmp)) (bound_of range.old.low) (bound_of range.old.high) }
+    ensures { (schema : Option described.Schema) (all : plain.Tuples) (written : OwnWrites) (long : ℕ) (key : Key) → StoresIndexed schema space.now all → StoresWritten schema over.now written
+        → AreLong long all → AreLong long (under written all) → index_with def.now.id.0 space.now.schema.indexes ≡ Some def.now
+        → HaveKeys def.now (under written all) → (def.now.unique ≡ true → AreUnique def.now (under written all)) → (def.now.unique ≡ true → HoldsOneEach def.now all)
+        → key_of_array def.now.key wanted.now.key.now ≡ Ok key → AreFit key → range.old ≡ edges_of (range_of wanted.now.iterator key)
+        → Selects (finite.entries (tuples_by_index def.now (under written all))) wanted.now key found.new (keys_read result range.new) }
+{
+    if let Some(key) = primary_key(def, range, wanted) {
         let row = shown_row(space, over, key);
-        let is_read = select_row(alloc, row, &mut range, wanted, found);
-        return keys_read(is_read, range);
+        return select_row(alloc, row, range, wanted, found);
     }
     if def.id.0 == 0 {
-        let is_read = select_first(alloc, space, over, &mut range, wanted, found);
-        return keys_read(is_read, range);
+        return select_first(alloc, space, over, range, wanted, found);
     }
-    if let Some(key) = whole_key(def, &range, wanted) {
+    if let Some(key) = whole_key(def, range, wanted) {
         let key = key.clone()?;
         let tuple = holder_under(alloc, space, over, def, &key)?;
-        let is_read = select_row(alloc, keyed_row(&key, tuple), &mut range, wanted, found);
-        return keys_read(is_read, range);
+        return select_row(alloc, keyed_row(&key, tuple), range, wanted, found);
     }
-    let is_read = select_other(alloc, space, over, def, &mut range, wanted, found);
-    keys_read(is_read, range)
+    select_other(alloc, space, over, def, range, wanted, found)
 }
 
 /// A tuple with its key.
