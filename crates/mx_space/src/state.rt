@@ -10,7 +10,7 @@ ghost use Rattle.mx_key.specs.Keys.{Key, AreFit};
 ghost use Rattle.mx_schema.specs.declared.index_def.IndexDef as indexed;
 ghost use Rattle.mx_schema.specs.declared.schema.Schema as described;
 ghost use Rattle.mx_schema.specs.Catalogues.{index_with, schema_of};
-ghost use Rattle.mx_schema.specs.Picks.{entries_of};
+ghost use Rattle.mx_schema.specs.Picks.{entries_of, tuples_by_index};
 ghost use Rattle.mx_schema.specs.SchemaChanges.{schema_with_index, schema_without_index, with_schema, without_index};
 ghost use Rattle.mx_schema.specs.State as plain;
 ghost use Rattle.mx_schema.specs.State.{key_in, source_of, tuples_in, with_tuple, without_tuple};
@@ -31,6 +31,7 @@ use crate::space::Space;
 use crate::spaces::{SpaceEntry, Spaces};
 use crate::tuple_changes::TupleChanges;
 use crate::tuple_map::TupleMap;
+use crate::view_select::select_stored;
 use mx_base::{IndexId, SpaceId};
 use mx_key::KeyRange;
 use mx_msgpack::{Bytes, Tuples};
@@ -212,30 +213,32 @@ impl State {
             → index_with def.now.id.0 space.now.schema.indexes ≡ Some def.now
             → SelectsByKey (entries_of state id.0 def.now) def.now wanted.now found.new result }
     {
-        let is_own = source_of(id) == id;
-        if is_own && def.id.0 != 0 {
-            return space.select(alloc, def, wanted, found);
-        }
-        let none = TupleMap::new(alloc, IndexKind::Tree);
-        let tuples = match self.source_tuples(id, space) {
-            Some(tuples) => tuples,
-            None => &none,
-        };
-        select_from(alloc, tuples, is_own, def, wanted, found)
-    }
-
-    /// The tuples that a space has or shows; `None` where it shows those of a space that isn't there.
-    fn source_tuples<'a>(&'a self, id: SpaceId, space: &'a Space) -> Option<&'a TupleMap>
-        ensures { (state : plain.State) → Holds self.now state → HoldsSpace (schema_of state id.0) (Some space.now) (tuples_in state id.0)
-            → MatchOption result
-            (tuples_in state (source_of id.0) ≡ finite.empty)
-            (λ tuples. StoresTuples tuples.now.entries (tuples_in state (source_of id.0))) }
-    {
         let source = source_of(id);
         if source == id {
-            return Some(space.tuples());
+            return select_stored(alloc, space, def, wanted, found);
         }
-        let shown = self.spaces.get(source)?;
-        Some(shown.tuples())
+        select_rows_of(alloc, self, source, def, wanted, found)
     }
+}
+
+/// What an iterator picks of the rows of another space; of none where that isn't there.
+// A call of its own, since a function clears the room of its variables where it begins.
+#[inline(never)]
+pub(crate) fn select_rows_of(
+    alloc: Global,
+    state: &State,
+    source: SpaceId,
+    def: &IndexDef,
+    wanted: &Pick<'_>,
+    found: &mut Tuples,
+) -> Result<Option<KeyRange>, SelectFault>
+    requires array { IsArray wanted.now.key.now }
+    ensures { (base : plain.State) → Holds state.now base → SelectsByKey (finite.entries (tuples_by_index def.now (tuples_in base source.0))) def.now wanted.now found.new result }
+{
+    let none = TupleMap::new(alloc, IndexKind::Tree);
+    let tuples = match state.space(source) {
+        Some(space) => space.tuples(),
+        None => &none,
+    };
+    select_from(alloc, tuples, false, def, wanted, found)
 }

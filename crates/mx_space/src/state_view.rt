@@ -1,11 +1,10 @@
 //! A state under a transaction's own writes.
 
 ghost use Rattle.std.specs.Prelude.{◌≡◌, None, Some, IfSome};
-ghost use Rattle.std.specs.FinMap as finite;
 ghost use Rattle.std.specs.Option.{option_copied};
 ghost use Rattle.mx_msgpack.specs.Items.{IsArray};
 ghost use Rattle.mx_schema.specs.Catalogues.{index_with, schema_of};
-ghost use Rattle.mx_schema.specs.Picks.{entries_of, tuples_by_index};
+ghost use Rattle.mx_schema.specs.Picks.{entries_of};
 ghost use Rattle.mx_schema.specs.State as plain;
 ghost use Rattle.mx_schema.specs.State.{tuples_in};
 ghost use Rattle.mx_space.specs.OwnChanges.{HoldsView, ShowsTuples, ShowsSpace, overlaid_in};
@@ -15,14 +14,12 @@ ghost use Rattle.mx_space.specs.Stored.{Holds};
 use crate::overlay::OverlaidSpace;
 use crate::own_changes::Overlay;
 use crate::pick::{Pick, SelectFault};
-use crate::selection::select_from;
-use crate::state::State;
-use crate::tuple_map::TupleMap;
+use crate::state::{State, select_rows_of};
 use crate::view::SpaceView;
 use mx_base::SpaceId;
 use mx_key::KeyRange;
 use mx_msgpack::Tuples;
-use mx_schema::{IndexDef, IndexKind, source_of};
+use mx_schema::{IndexDef, source_of};
 use std::alloc::Global;
 
 /// A state under a transaction's own writes, where it has any. None of them is of a row that describes a
@@ -80,24 +77,4 @@ impl<'a> StateView<'a> {
         }
         select_rows_of(alloc, self.state, source, def, wanted, found)
     }
-}
-
-/// What an iterator picks of the rows of another space, which has no own writes.
-fn select_rows_of(
-    alloc: Global,
-    state: &State,
-    source: SpaceId,
-    def: &IndexDef,
-    wanted: &Pick<'_>,
-    found: &mut Tuples,
-) -> Result<Option<KeyRange>, SelectFault>
-    requires array { IsArray wanted.now.key.now }
-    ensures { (base : plain.State) → Holds state.now base → SelectsByKey (finite.entries (tuples_by_index def.now (tuples_in base source.0))) def.now wanted.now found.new result }
-{
-    let none = TupleMap::new(alloc, IndexKind::Tree);
-    let tuples = match state.space(source) {
-        Some(space) => space.tuples(),
-        None => &none,
-    };
-    select_from(alloc, tuples, false, def, wanted, found)
 }

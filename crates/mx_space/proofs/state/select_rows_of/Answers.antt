@@ -8,8 +8,8 @@ use Rattle.mx_schema.specs.Stored.{StoresNone, StoresTuples}
 use Rattle.mx_schema.proofs.StoredLaws.{stores_none}
 use Rattle.mx_space.specs.Kept.{StoresIndexed}
 use Rattle.mx_space.specs.Stored.{HoldsSpace}
-use Rattle.mx_space.proofs.state_view.select_rows_of.Goals as goal
-use Rattle.mx_space.proofs.state_view.select_rows_of.Goals.{in-Some, in-None}
+use Rattle.mx_space.proofs.state.select_rows_of.Goals as goal
+use Rattle.mx_space.proofs.state.select_rows_of.Goals.{in-Some, in-None}
 
 pub returns : goal.returns
 returns c = λ base holds.
