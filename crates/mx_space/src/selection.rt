@@ -36,6 +36,7 @@ use std::collections::BTreeMap;
 
 /// As `State::select`, of these tuples by their primary keys, which are those of the index of the number 0
 /// where `is_own`.
+#[inline(always)]
 pub(crate) fn select_from(
     alloc: Global,
     tuples: &TupleMap,
