@@ -1,0 +1,11 @@
+pub mod Completions
+pub mod Numbers
+pub mod Costs
+pub mod NumberForms
+pub mod Sequences
+pub mod HeadForms
+pub mod OperationForms
+pub mod LeadingBytes
+pub mod ValueCompletions
+pub mod Sums
+pub mod Choices
