@@ -1,30 +1,24 @@
 -- The pairs of a map by the grammar, and as they are read.
-use Rattle.std.proofs.Common.{◌≡◌, ℕ, suc, ◌-◌, ◌≤◌, Bool, true, false, List, [], ◌∷◌, ◌++◌, length, take, drop, Option, Some, None, Ok, refl, sym, ap, ◌∙◌, subst, append_assoc, inl, inr, arith}
+use Rattle.std.proofs.Common.{◌≡◌, ℕ, suc, ◌-◌, Bool, true, false, List, [], ◌∷◌, ◌++◌, length, Option, Some, None, Ok, refl, sym, ap, ◌∙◌, subst, append_assoc, inl, inr}
 use Rattle.std.specs.Prelude.{⊤, pos, if◌then◌else◌}
 use Rattle.std.specs.Option.{option_map, option_or}
-use Rattle.std.proofs.lemmas.Bool.{eqb-true, eq-eqb, le-ltb, false≢true}
-use Rattle.std.proofs.lemmas.List.{append-nil, take_at, drop_at, take-append-drop, length-append}
+use Rattle.std.proofs.lemmas.Bool.{eqb-true, eq-eqb, false≢true}
+use Rattle.std.proofs.lemmas.List.{append-nil, take_at, drop_at, take-append-drop}
 use Rattle.mx_msgpack.specs.Grammar as grammar
 use Rattle.mx_msgpack.specs.Grammar.{Value, Pairs, NoPair, MorePairs, pair_count, MapHead, max_length, Spells, SpellsPairs}
 use Rattle.mx_msgpack.specs.Items.{after_value}
 use Rattle.mx_msgpack.specs.Maps.{Pair, is_key, map_at, pairs_from, pairs_in, value_under}
-use Rattle.mx_msgpack.specs.Reading.{head_at, after_first, reading_of, Shown, ShownMap, shown}
+use Rattle.mx_msgpack.specs.Reading.{after_first, reading_of, ShownMap}
 use Rattle.mx_msgpack.specs.Readers.{unsigned_at, unsigned_in}
-use Rattle.mx_msgpack.specs.View.{Shows}
-use Rattle.byteorder.specs.Endian.{big_number}
-use Rattle.mx_msgpack.proofs.FrontLaws.{map_read}
 use Rattle.mx_msgpack.proofs.GrammarLaws.{value_again}
-use Rattle.mx_msgpack.proofs.Heads.{head_spelled}
 use Rattle.mx_msgpack.proofs.ItemLaws.{first_is}
 use Rattle.mx_msgpack.proofs.Measured.{front_is}
 use Rattle.mx_msgpack.proofs.Options.{mapped_some, same_some}
 use Rattle.mx_msgpack.proofs.PrefixLaws.{one_value}
-use Rattle.mx_msgpack.proofs.Results.{bind_ok, ok_is}
-use Rattle.mx_msgpack.proofs.Shown.{Seen, value_seen}
+use Rattle.mx_msgpack.proofs.Results.{ok_is}
 use Rattle.mx_msgpack.proofs.UnsignedLaws.{int_read, unsigned_spelled}
-use Rattle.mx_msgpack.proofs.ValueLaws.{measured_ok}
 use Rattle.mx_row.specs.Grammar.{KeyValue, pairs_of, SpellEntries, SpellsMap, HasNone, IsUnder}
-use Rattle.mx_row.proofs.PairLaws.{map_known, pairs_known, map_parts}
+use Rattle.mx_completion.proofs.MapLaws.{first_spelled, map_known, map_parts, map_reads, pairs_known}
 
 -- ---- keys that are numbers
 
@@ -158,63 +152,6 @@ map_spelled entries bytes (head, content, h, few, e, each) =
     let s = entries_spelled entries content each in
     (head, content, rw s.1 h, rw s.1 few, e, s.0)
 
--- heads of three and of five bytes
-two_reads : (rest behind : List ℕ) → 2 ≤ length behind → after_first (length (0xde ∷ behind)) 64 (0xde ∷ behind) ≡ Ok rest
-    → reading_of (0xde ∷ behind)
-    ≡ Ok (ShownMap (big_number 2 (take 2 behind)) (take (length (drop 2 behind) - length rest) (drop 2 behind)), length (0xde ∷ behind) - length rest)
-unfolding reading_of head_at
-two_reads rest behind two e = rw (e, le-ltb (length behind) 2 two) refl
-
-four_reads : (rest behind : List ℕ) → 4 ≤ length behind → after_first (length (0xdf ∷ behind)) 64 (0xdf ∷ behind) ≡ Ok rest
-    → reading_of (0xdf ∷ behind)
-    ≡ Ok (ShownMap (big_number 4 (take 4 behind)) (take (length (drop 4 behind) - length rest) (drop 4 behind)), length (0xdf ∷ behind) - length rest)
-unfolding reading_of head_at
-four_reads rest behind four e = rw (e, le-ltb (length behind) 4 four) refl
-
-module _ (leading width : ℕ) (digits content rest : List ℕ) (long : length digits ≡ width) where
-  abbrev behind : List ℕ
-  behind = digits ++ (content ++ rest)
-
-  wide_shown : reading_of (leading ∷ behind)
-      ≡ Ok (ShownMap (big_number width (take width behind)) (take (length (drop width behind) - length rest) (drop width behind)), length (leading ∷ behind) - length rest)
-      → reading_of (leading ∷ behind) ≡ Ok (ShownMap (big_number width digits) content, length ((leading ∷ digits) ++ content))
-  wide_shown e =
-      let number : big_number width (take width behind) ≡ big_number width digits = ap (big_number width) (take_at digits (content ++ rest) width long) in
-      let after : drop width behind ≡ content ++ rest = drop_at digits (content ++ rest) width long in
-      let l = length-append content rest in
-      let l' = length-append digits (content ++ rest) in
-      let l'' = length-append digits content in
-      let inside : length content ≡ length (content ++ rest) - length rest = omega arith in
-      let items : take (length (drop width behind) - length rest) (drop width behind) ≡ content =
-      ap (λ (x : List ℕ). take (length x - length rest) x) after ∙ take_at content rest (length (content ++ rest) - length rest) inside in
-      let size : length (leading ∷ behind) - length rest ≡ length ((leading ∷ digits) ++ content) = omega arith in
-      e ∙ (λ i. Ok (ShownMap (number i) (items i), size i))
-
-  wide_long : width ≤ length behind
-  wide_long = let l = length-append digits (content ++ rest) in omega arith
-
-map_reads : (pairs : Pairs) (head content rest : List ℕ) → MapHead (pair_count pairs) head → pair_count pairs ≤ max_length → SpellsPairs 63 pairs content
-    → reading_of ((head ++ content) ++ rest) ≡ Ok (ShownMap (pair_count pairs) content, length (head ++ content))
-map_reads pairs head content rest (inl (few, is)) fits s = rw is (map_read pairs content rest few s)
-map_reads pairs head content rest (inr (inl (digits, long, number, is))) fits s =
-    let whole = append_assoc (0xde ∷ digits) content rest in
-    let stands = value_again (length (0xde ∷ (digits ++ (content ++ rest)))) 64 (grammar.Map pairs) ((0xde ∷ digits) ++ content) rest
-    (0xde ∷ digits, content, inr (inl (digits, long, number, refl)), fits, refl, s) in
-    rw (is, number)
-    (ap reading_of whole
-    ∙ wide_shown 0xde 2 digits content rest long
-    (two_reads rest (digits ++ (content ++ rest)) (wide_long 0xde 2 digits content rest long)
-    (ap (after_first (length (0xde ∷ (digits ++ (content ++ rest)))) 64) (sym whole) ∙ stands)))
-map_reads pairs head content rest (inr (inr (digits, long, number, is))) fits s =
-    let whole = append_assoc (0xdf ∷ digits) content rest in
-    let stands = value_again (length (0xdf ∷ (digits ++ (content ++ rest)))) 64 (grammar.Map pairs) ((0xdf ∷ digits) ++ content) rest
-    (0xdf ∷ digits, content, inr (inr (digits, long, number, refl)), fits, refl, s) in
-    rw (is, number)
-    (ap reading_of whole
-    ∙ wide_shown 0xdf 4 digits content rest long
-    (four_reads rest (digits ++ (content ++ rest)) (wide_long 0xdf 4 digits content rest long)
-    (ap (after_first (length (0xdf ∷ (digits ++ (content ++ rest)))) 64) (sym whole) ∙ stands)))
-
 -- a map of the grammar is read, whatever follows
 pub map_found : (entries : List KeyValue) (front rest : List ℕ) → SpellsMap entries front
     → (map_at (front ++ rest) ≡ Some (front, rest)) × AreRead entries (pairs_in (front ++ rest))
@@ -230,26 +167,6 @@ map_found entries front rest (head, content, h, few, e, each) =
     )
 
 -- ---- a map that is read
-
--- the value that stands first, and its bytes
-first_spelled : (bytes : List ℕ) (what : Shown) (size : ℕ) → reading_of bytes ≡ Ok (what, size) → (value : Value) × Spells 64 value (take size bytes) × Shows what value
-unfolding reading_of
-first_spelled bytes what size e =
-    let a = bind_ok (head_at 0 bytes) _ (what, size) e in
-    let b = bind_ok (after_first (length bytes) 64 bytes) (λ rest. Ok (shown a.0.0 (take (length a.0.1 - length rest) a.0.1) (take (length bytes - length rest) bytes), length bytes - length rest)) (what, size) a.2 in
-    let h = head_spelled 0 bytes a.0.0 a.0.1 a.1 in
-    let l = ap length h.1 ∙ length-append h.0 a.0.1 in
-    let short : length a.0.1 ≤ length bytes = omega arith in
-    let s = value_seen bytes a.0.0 a.0.1 (length bytes - length b.0) short a.1 (sym (measured_ok bytes b.0 b.1)) _ _ _ refl refl refl in
-    as_read _ (length bytes - length b.0) s
-  where
-    as_read : (seen : Shown) (n : ℕ) → Seen bytes seen n → (value : Value) × Spells 64 value (take size bytes) × Shows what value
-    as_read seen n s =
-        let same = ok_is (seen, n) (what, size) (sym s.exact ∙ e) in (
-          s.spelled.1,
-          subst (λ (x : Shown × ℕ). Spells 64 s.spelled.1 (take x.1 bytes)) same s.spelled.2,
-          subst (λ (x : Shown × ℕ). Shows x.0 s.spelled.1) same s.spelled.3,
-        )
 
 entries_of : (pairs : Pairs) (content : List ℕ) → SpellsPairs 63 pairs content → (entries : List KeyValue) × (length entries ≡ pair_count pairs) × SpellEntries entries content
 entries_of NoPair content e = ([], refl, e)

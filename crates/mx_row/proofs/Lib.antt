@@ -6,6 +6,13 @@ pub mod BehindLaws
 pub mod RowLaws
 pub mod EntryLaws
 pub mod GrammarLaws
-pub mod CutLaws
+pub mod PartLaws
+pub mod BodyLaws
+pub mod ProgressLaws
+pub mod FieldLaws
+pub mod ByteLaws
+pub mod CompletionLaws
+pub mod FitLaws
+pub mod StopLaws
 pub mod GroupLaws
 pub mod TextLaws

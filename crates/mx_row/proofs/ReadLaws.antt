@@ -266,7 +266,7 @@ row_from kind body row (Upserts k p) = rw k (upsert_from _ _ _ _ row p)
 space_fits : (value : Option (List ℕ)) (space : ℕ) → value_held number_32 value ≡ Some space → space < 2 ^ 32
 space_fits value space e = let most = held_most (2 ^ 32 - 1) value space e in omega arith
 
-row_is : (kind : ℕ) (body : List Pair) (row : Row) → AreInner body → RowParts kind body row → IsRow row
+pub row_is : (kind : ℕ) (body : List Pair) (row : Row) → AreInner body → RowParts kind body row → IsRow row
 row_is kind body row inner (Inserts k p) =
     record {
       space = space_fits (value_under space_key body) row.space.0 p.space_is;
@@ -310,7 +310,7 @@ row_is kind body row inner (Upserts k p) =
 
 -- ---- a row with its header
 
-header_first_parts : (bytes : List ℕ) (found : Header × List ℕ) → header_at bytes ≡ Some found
+pub header_first_parts : (bytes : List ℕ) (found : Header × List ℕ) → header_at bytes ≡ Some found
     → (map : List ℕ × List ℕ) × (map_at bytes ≡ Some map) × (header_in (pairs_in bytes) ≡ Some found.0) × (map.1 ≡ found.1)
 unfolding header_at
 header_first_parts bytes found e =
@@ -319,7 +319,7 @@ header_first_parts bytes found e =
     let same = same_some (header.0, first.0.1) found header.2 in
     (first.0, first.1, header.1 ∙ ap (λ (x : Header × List ℕ). Some x.0) same, ap (λ (x : Header × List ℕ). x.1) same)
 
-row_first_parts : (kind : ℕ) (bytes : List ℕ) (found : Row × List ℕ) → row_at kind bytes ≡ Some found
+pub row_first_parts : (kind : ℕ) (bytes : List ℕ) (found : Row × List ℕ) → row_at kind bytes ≡ Some found
     → (map : List ℕ × List ℕ) × (map_at bytes ≡ Some map) × (row_in kind (pairs_in bytes) ≡ Some found.0) × (map.1 ≡ found.1)
 unfolding row_at
 row_first_parts kind bytes found e =

@@ -2,11 +2,15 @@
 #![tactic(auto)]
 
 mod bodies;
+mod body_completion;
+mod completion;
 mod cut;
 mod header;
+mod header_completion;
 mod laws;
 mod limits;
 mod owned_tx;
+mod progress;
 mod reading;
 mod row;
 mod row_fault;

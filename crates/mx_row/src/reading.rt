@@ -20,7 +20,7 @@ use mx_msgpack::{unsigned_in, values_at};
 use std::alloc::{AllocError, Global};
 
 /// The greatest replica id.
-const MAX_REPLICA: u64 = 31;
+pub(crate) const MAX_REPLICA: u64 = 31;
 
 /// The transaction that stands first, in all spellings, and the bytes after it. Each header and each body
 /// is read in one pass.

@@ -1,10 +1,10 @@
-use Rattle.std.proofs.Common.{◌≡◌}
-use Rattle.mx_row.specs.Stops.{stop_from, stop_in}
+use Rattle.std.proofs.Common.{length}
+use Rattle.mx_row.specs.Cuts.{AreSoFar}
 use Rattle.mx_row.proofs.cut.stop_in.Given as goal
 
--- what is left stops where all do
-abbrev pub invariant-loop-left : goal.invariant-loop-left
-invariant-loop-left l = stop_in l.bytes ≡ stop_from l.left l.last l.rest
+-- the rows so far stand first, and then the rest
+abbrev pub invariant-loop-header : goal.invariant-loop-header
+invariant-loop-header l = AreSoFar l.bytes l.rows l.rest
 
-abbrev pub decreases-loop-left : goal.decreases-loop-left
-decreases-loop-left l = l.left
+abbrev pub decreases-loop-header : goal.decreases-loop-header
+decreases-loop-header l = length l.rest
