@@ -3,8 +3,8 @@
 use crate::arguments::Arguments;
 use crate::fault::{Fault, Stop};
 use crate::{
-    base, fake, frame, hash, key, msgpack, real, reply, request, row, schema, session, tracker,
-    tuple, txn, update, vclock, xlog,
+    base, completion, fake, frame, hash, key, msgpack, real, reply, request, row, schema, session,
+    tracker, tuple, txn, update, vclock, xlog,
 };
 use std::alloc::AllocError;
 
@@ -48,6 +48,7 @@ fn called(
         "tuple" => tuple::answer(call, arguments),
         "base" => base::answer(call, arguments),
         "row" => row::answer(call, arguments),
+        "completion" => completion::answer(call, arguments),
         "request" => request::answer(call, arguments),
         "reply" => reply::answer(call, arguments),
         "schema" => schema::answer(call, arguments),

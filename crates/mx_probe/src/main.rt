@@ -4,6 +4,7 @@
 mod answers;
 mod arguments;
 mod base;
+mod completion;
 mod dir;
 mod display;
 mod fake;
