@@ -1,12 +1,13 @@
 //! Tuples that are found by the hash of their primary keys.
 
-ghost use Rattle.std.specs.Prelude.{◌≡◌, ◌↔◌, List, [], take, IfOk, IsSome, IsTrue, OnOk, OnErr};
+ghost use Rattle.std.specs.Prelude.{◌≡◌, ◌↔◌, ◌≤◌, List, [], length, take, true, IfOk, IsSome, IsTrue, OnOk, OnErr};
 ghost use Rattle.std.specs.BTreeMap.{insert_entry, is_at};
 ghost use Rattle.std.specs.Cmp.Lexicographic.{slice_cmp};
 ghost use Rattle.std.specs.declared.cmp.Ordering.TheVariants.{Greater};
 ghost use Rattle.std.specs.List.{AllByRecursion};
 ghost use Rattle.std.specs.Map.{keys_of, lookup, lookup_entry, remove_entry, set_value};
 ghost use Rattle.std.specs.Option.{option_copied, option_map};
+ghost use Rattle.std.specs.Result.{is_ok};
 ghost use Rattle.std.specs.Ordering.{nat_cmp};
 ghost use Rattle.mx_schema.specs.Stored.{StoredTuple};
 ghost use Rattle.mx_space.specs.HashViews.{hash_entries};
@@ -55,6 +56,8 @@ impl HashTuples {
     }
 
     /// The tuple under a key.
+    // A call of its own, so that those that look in a tree stay small.
+    #[inline(never)]
     pub(crate) fn get(&self, key: &Bytes) -> Option<&Bytes>
         ensures { option_copied result ≡ lookup (is_at (slice_cmp nat_cmp key.now)) self.now.entries }
     {
@@ -62,6 +65,8 @@ impl HashTuples {
     }
 
     /// The tuple under a key, with the key that is kept.
+    // A call of its own, as `get`.
+    #[inline(never)]
     pub(crate) fn get_key_value(&self, key: &Bytes) -> Option<(&Bytes, &Bytes)>
         ensures { option_map (λ entry. (entry.0.now, entry.1.now)) result ≡ lookup_entry (is_at (slice_cmp nat_cmp key.now)) self.now.entries }
     {
@@ -164,7 +169,8 @@ fn add_first(
     key: &Bytes,
     tuple: &Bytes,
 ) -> Result<(), AllocError>
-    ensures { (all : List StoredTuple) → first.old.entries ≡ take count all → OnOk result (first.new.entries ≡ take count (insert_entry (slice_cmp nat_cmp) all key.now tuple.now)) }
+    ensures first { (all : List StoredTuple) → first.old.entries ≡ take count all → OnOk result (first.new.entries ≡ take count (insert_entry (slice_cmp nat_cmp) all key.now tuple.now)) }
+    ensures no_copy { count ≤ length first.old.entries → AllByRecursion (λ (entry : StoredTuple). slice_cmp nat_cmp key.now entry.0 ≡ Greater) first.old.entries → is_ok result ≡ true }
 {
     if first.len() >= count && is_above(first, key) {
         return Ok(());

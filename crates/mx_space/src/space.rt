@@ -121,6 +121,9 @@ impl Space {
     }
 
     /// What describes the space, and its tuples by the comparable bytes of their primary keys.
+    ///
+    /// # Errors
+    /// Out of memory.
     pub fn into_parts(self, alloc: Global) -> Result<(Schema, BTreeMap<Bytes, Bytes>), AllocError>
         ensures { IfOk result (λ parts. (parts.0 ≡ self.schema) × (parts.1.entries ≡ self.tuples.entries)) }
     {

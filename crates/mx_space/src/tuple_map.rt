@@ -61,6 +61,7 @@ impl TupleMap {
     }
 
     /// The tuple under a key.
+    #[inline]
     pub(crate) fn get(&self, key: &Bytes) -> Option<&Bytes>
         ensures value { option_copied result ≡ lookup (is_at (slice_cmp nat_cmp key.now)) self.now.entries }
     {

@@ -17,7 +17,7 @@ loop-key-preserved c =
     let here : front ++ (key, tuple) ∷ rest ≡ c.args.tuples.now.entries = ap (λ l. front ++ l) (sym c.in-Some.ensures.steps) ∙ parts in (
       front ++ (key, tuple) ∷ [],
       append_assoc front ((key, tuple) ∷ []) rest ∙ here,
-      c.in_ok-add_first.ensures (hash_entries front) are
+      c.in_ok-add_first.ensures.first (hash_entries front) are
           ∙ ap (take c.args.count) (sym (one_further front rest c.args.tuples.now.entries key tuple here c.into_iter-key-iterator.ensures.into_iter_gives.4)),
     )
 
