@@ -27,27 +27,28 @@ FIRST = (
     (USER, "test", [[0, "unsigned"]]),
 )
 USERS = [(USER + at, f"space_{at}", [[0, "unsigned"]]) for at in range(MANY)]
-# A name, the spaces, and the number of the one with the tuple.
+# A name, the spaces, the number of the one with the tuple, and the type of the primary indexes.
 STATES = (
-    ("one space", FIRST[-1:], USER),
-    ("the last of seven spaces", FIRST, USER),
-    (f"the first of {MANY:,} spaces", USERS, USER),
-    (f"the last of {MANY:,} spaces", USERS, USER + MANY - 1),
+    ("one space", FIRST[-1:], USER, "tree"),
+    ("the last of seven spaces", FIRST, USER, "tree"),
+    (f"the first of {MANY:,} spaces", USERS, USER, "tree"),
+    (f"the last of {MANY:,} spaces", USERS, USER + MANY - 1, "tree"),
+    ("one space with a hash index", FIRST[-1:], USER, "hash"),
 )
 
 
-def given(spaces, number):
+def given(spaces, number, kind):
     """The program's input: the space's number, rows of spaces and of their indexes, a tuple and its key."""
     rows = [[at, OWNER, name, "memtx", 0, {}, []] for at, name, _ in spaces]
-    indexes = [[at, 0, "primary", "tree", {"unique": True}, parts] for at, _, parts in spaces]
+    indexes = [[at, 0, "primary", kind, {"unique": True}, parts] for at, _, parts in spaces]
     return b"".join(map(pack, (number, rows, indexes, [7, "value"], [7])))
 
 
 def main():
     build()
     costs = []
-    for name, spaces, number in STATES:
-        asked = given(spaces, number)
+    for name, spaces, number, kind in STATES:
+        asked = given(spaces, number, kind)
         many, none = instructions(asked, TIMES, "select", prints=b"1"), instructions(asked, 0, "select", prints=b"0")
         costs.append((many - none) / TIMES)
         print(f"{name}: {costs[-1]:,.1f} instructions a SELECT, ratio {costs[-1] / costs[0]:.3f}", flush=True)

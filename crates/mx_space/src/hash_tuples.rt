@@ -7,8 +7,8 @@ ghost use Rattle.std.specs.declared.cmp.Ordering.TheVariants.{Greater};
 ghost use Rattle.std.specs.List.{AllByRecursion};
 ghost use Rattle.std.specs.Map.{keys_of, lookup, lookup_entry, remove_entry, set_value};
 ghost use Rattle.std.specs.Option.{option_copied, option_map};
-ghost use Rattle.std.specs.Result.{is_ok};
 ghost use Rattle.std.specs.Ordering.{nat_cmp};
+ghost use Rattle.std.specs.Result.{is_ok};
 ghost use Rattle.mx_schema.specs.Stored.{StoredTuple};
 ghost use Rattle.mx_space.specs.HashViews.{hash_entries};
 
@@ -65,8 +65,6 @@ impl HashTuples {
     }
 
     /// The tuple under a key, with the key that is kept.
-    // A call of its own, as `get`.
-    #[inline(never)]
     pub(crate) fn get_key_value(&self, key: &Bytes) -> Option<(&Bytes, &Bytes)>
         ensures { option_map (λ entry. (entry.0.now, entry.1.now)) result ≡ lookup_entry (is_at (slice_cmp nat_cmp key.now)) self.now.entries }
     {
