@@ -15,7 +15,7 @@ use Rattle.mx_completion.specs.Choices.{AreContent, AreValued, AreWritten, Becom
 use Rattle.mx_completion.specs.Completions.{Completes, IsValueSpelling}
 use Rattle.mx_completion.specs.Numbers.{CanBecome, IsRange}
 use Rattle.mx_completion.specs.declared.number.NumberRange.{NumberRange}
-use Rattle.mx_completion.proofs.ChoiceLaws.{or_none, under_append}
+use Rattle.mx_completion.proofs.LookupLaws.{or_none, under_append}
 use Rattle.mx_completion.proofs.PairLaws.{content-append, content_read, content_valued, goes_on, one_first}
 use Rattle.mx_completion.proofs.KeyLaws.{OtherKey, alone_is, alone_read, alone_spelled, any_key}
 use Rattle.mx_completion.proofs.ByteLaws.{bytes-append, ends_beyond, one_byte}

@@ -15,12 +15,12 @@ pub mod LengthLaws
 pub mod LeadingLaws
 pub mod ValueLaws
 pub mod KindLaws
+pub mod LookupLaws
 pub mod SumLaws
 pub mod KeyLaws
 pub mod CostLaws
 pub mod ChoiceLaws
 pub mod MapLaws
 pub mod PairLaws
-pub mod LastValueLaws
 pub mod CutPairLaws
 pub mod MapHeadLaws

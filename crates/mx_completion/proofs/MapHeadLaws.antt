@@ -10,7 +10,7 @@ use Rattle.mx_completion.specs.declared.leading.Kind.TheVariants.{Map}
 use Rattle.mx_completion.specs.declared.pairs.Begun.{Begun}
 use Rattle.mx_completion.specs.Choices.{AreContent, AreWritten, BecomesContent, BecomesMap, BeginsMapAs, Cut, IsBegunMap}
 use Rattle.mx_completion.specs.HeadForms.{Announces, IsCutHead, IsFullHead}
-use Rattle.mx_completion.proofs.ChoiceLaws.{nils, nils_many, nils_none, nils_written, under_append}
+use Rattle.mx_completion.proofs.LookupLaws.{nils, nils_many, nils_none, nils_written, under_append}
 use Rattle.mx_completion.proofs.PairLaws.{content_valued, map_made, map_spelled}
 use Rattle.mx_completion.proofs.ByteLaws.{bytes-append}
 use Rattle.mx_completion.proofs.CutPairLaws.{realised}

@@ -1,7 +1,7 @@
 use Rattle.std.proofs.Common.{◌≡◌, Some, eqb, ap, ◌∙◌}
 use Rattle.std.specs.Option.{option_copied, option_eq}
 use Rattle.mx_msgpack.specs.Maps.{is_key}
-use Rattle.mx_completion.proofs.LastValueLaws.{is_key_eq, value_turn}
+use Rattle.mx_completion.proofs.LookupLaws.{is_key_eq, value_turn}
 use Rattle.mx_completion.proofs.pairs.last_value.Goals as goal
 use Rattle.mx_completion.proofs.pairs.last_value.Goals.{then-eq, else-eq}
 
