@@ -73,8 +73,8 @@ module _ (width : ℕ) (digits : List ℕ) (n : ℕ) (all : length digits + n �
         let parts = with_others (replicate (8 - length digits) 0) in
         omega arith
 
-    most_is : filled 0xff width digits + 1 ≡ high + 256 ^ n
-    most_is =
+    greatest_is : filled 0xff width digits + 1 ≡ high + 256 ^ n
+    greatest_is =
         let rest = tops n (8 - length digits) (omega arith) in
         let parts = with_others (replicate (8 - length digits) 255) in
         omega arith
@@ -85,14 +85,14 @@ module _ (width : ℕ) (digits : List ℕ) (n : ℕ) (all : length digits + n �
         let parts = with_others missing in
         let low = big_from-lt 0 n missing (λ k. let byte = each k in omega arith) in
         let least = least_is in
-        let most = most_is in
+        let most = greatest_is in
         (omega arith, omega arith)
 
     pub filled_between : (number : ℕ) → filled 0x00 width digits ≤ number → number ≤ filled 0xff width digits
         → (missing : List ℕ) × AreBytes missing × (length missing ≡ n) × (number ≡ big_number width (digits ++ missing))
     filled_between number from to =
         let least = least_is in
-        let most = most_is in
+        let most = greatest_is in
         let low = number - high in
         let missing = big_bytes n low in
         let fits : low < 256 ^ n = omega arith in
@@ -104,7 +104,7 @@ module _ (width : ℕ) (digits : List ℕ) (n : ℕ) (all : length digits + n �
     pub filled_apart : 1 ≤ n → filled 0x00 width digits + 255 ≤ filled 0xff width digits
     filled_apart some =
         let least = least_is in
-        let most = most_is in
+        let most = greatest_is in
         let power = power_more n some in
         omega arith
 

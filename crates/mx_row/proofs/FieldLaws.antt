@@ -17,7 +17,7 @@ use Rattle.mx_row.specs.declared.header.Place.TheVariants.{Alone, Numbered}
 use Rattle.mx_row.specs.declared.progress.Progress.{Progress}
 use Rattle.mx_row.specs.Cuts.{may_follow}
 use Rattle.mx_row.specs.Rows.{ends_transaction, header_in, is_number, row_number, row_place_by}
-use Rattle.mx_row.specs.Stops.{IsNumbered, IsNumberedBy, header_fields, last_form, least_lsn, least_replica, most_lsn, most_replica, place_fields}
+use Rattle.mx_row.specs.Stops.{IsNumbered, IsNumberedBy, header_fields, last_form, lowest_lsn, lowest_replica, highest_lsn, highest_replica, place_fields}
 use Rattle.mx_row.specs.Values.{lsn_in, value_held}
 use Rattle.mx_row.proofs.BehindLaws.{next_is}
 use Rattle.mx_row.proofs.ReadLaws.{header_from, header_parts, held_some, lsn_parts}
@@ -122,12 +122,12 @@ pub record IsNextHeader (rows : Progress) (header : Header) : Type 0 where
   pub high : header.lsn.0 ≤ (if ends_transaction header.place then max_lsn else max_lsn - 1)
   pub replica : header.replica.0 ≤ 31
 
-replica_within : (last : Option Header) (header : Header) → may_follow last header ≡ true → header.replica.0 ≤ 31 → (least_replica last ≤ header.replica.0) × (header.replica.0 ≤ most_replica last)
+replica_within : (last : Option Header) (header : Header) → may_follow last header ≡ true → header.replica.0 ≤ 31 → (lowest_replica last ≤ header.replica.0) × (header.replica.0 ≤ highest_replica last)
 replica_within None header on few = (omega arith, few)
 replica_within (Some last) header on few = let n = (next_is last header on).0 in (omega (arith, n), omega (arith, n))
 
 lsn_within : (last : Option Header) (ends : Bool) (header : Header) → may_follow last header ≡ true → 1 ≤ header.lsn.0
-    → header.lsn.0 ≤ (if ends then max_lsn else max_lsn - 1) → (least_lsn last ≤ header.lsn.0) × (header.lsn.0 ≤ most_lsn ends last)
+    → header.lsn.0 ≤ (if ends then max_lsn else max_lsn - 1) → (lowest_lsn last ≤ header.lsn.0) × (header.lsn.0 ≤ highest_lsn ends last)
 lsn_within None ends header on low high = (low, high)
 lsn_within (Some last) ends header on low high = let n = (next_is last header on).1 in (omega (arith, n), omega (arith, n, high))
 
@@ -153,9 +153,9 @@ header_costs rows header pairs e next =
     total_nothing (header_fields rows header.kind header.place) pairs (
       within_costs header.kind header.kind header.kind (value_under type_key pairs) p.kind (omega arith) (omega arith),
       (
-        within_costs (least_replica rows.last) (most_replica rows.last) header.replica.0 (value_under replica_key pairs) id.0 ids.0 ids.1,
+        within_costs (lowest_replica rows.last) (highest_replica rows.last) header.replica.0 (value_under replica_key pairs) id.0 ids.0 ids.1,
         (
-          within_costs (least_lsn rows.last) (most_lsn (ends_transaction header.place) rows.last) header.lsn.0 (value_under lsn_key pairs) lsn.0 lsns.0 lsns.1,
+          within_costs (lowest_lsn rows.last) (highest_lsn (ends_transaction header.place) rows.last) header.lsn.0 (value_under lsn_key pairs) lsn.0 lsns.0 lsns.1,
           place_costs header.place (value_under row_number_key pairs) (value_under is_last_key pairs) p.place_is pairs refl refl,
         ),
       ),
@@ -175,11 +175,11 @@ costs_place (Numbered number is_last) pairs ((cost, e), ((other, f), rest)) =
     let last = costs_last is_last (value_under is_last_key pairs) other f in
     rw (held.1, held.2, last, same) refl
 
-replica_from : (last : Option Header) (count replica : ℕ) → IsNumberedBy count last → least_replica last ≤ replica → replica ≤ most_replica last → replica ≤ 31
+replica_from : (last : Option Header) (count replica : ℕ) → IsNumberedBy count last → lowest_replica last ≤ replica → replica ≤ highest_replica last → replica ≤ 31
 replica_from None count replica numbered low high = high
 replica_from (Some last) count replica numbered low high = let few = numbered.1 in omega (arith, few, high)
 
-lsn_from : (last : Option Header) (ends : Bool) (lsn : ℕ) → least_lsn last ≤ lsn → lsn ≤ most_lsn ends last → (1 ≤ lsn) × (lsn ≤ (if ends then max_lsn else max_lsn - 1))
+lsn_from : (last : Option Header) (ends : Bool) (lsn : ℕ) → lowest_lsn last ≤ lsn → lsn ≤ highest_lsn ends last → (1 ≤ lsn) × (lsn ≤ (if ends then max_lsn else max_lsn - 1))
 lsn_from None ends lsn low high = (low, high)
 lsn_from (Some last) ends lsn low high = (omega (arith, low), omega (arith, high))
 
@@ -187,8 +187,8 @@ at_most : (ends : Bool) (lsn : ℕ) → lsn ≤ (if ends then max_lsn else max_l
 at_most true lsn high = high
 at_most false lsn high = omega (arith, high)
 
-follows_from : (last : Option Header) (count : ℕ) (ends : Bool) (header : Header) → IsNumberedBy count last → row_number header.place ≡ count → least_replica last ≤ header.replica.0
-    → header.replica.0 ≤ most_replica last → least_lsn last ≤ header.lsn.0 → header.lsn.0 ≤ most_lsn ends last → may_follow last header ≡ true
+follows_from : (last : Option Header) (count : ℕ) (ends : Bool) (header : Header) → IsNumberedBy count last → row_number header.place ≡ count → lowest_replica last ≤ header.replica.0
+    → header.replica.0 ≤ highest_replica last → lowest_lsn last ≤ header.lsn.0 → header.lsn.0 ≤ highest_lsn ends last → may_follow last header ≡ true
 follows_from None count ends header numbered number a b c d = eq-eqb (row_number header.place) 0 (number ∙ numbered)
 follows_from (Some last) count ends header numbered number a b c d =
     let replica : header.replica.0 ≡ last.replica.0 = omega (arith, a, b) in
@@ -201,8 +201,8 @@ pub costs_header : (rows : Progress) (kind : ℕ) (place : Place) (pairs : List 
 costs_header rows kind place pairs cost numbered number e =
     let (first, (replica, (lsn, others))) = total_some (header_fields rows kind place) pairs cost e in
     let k = costs_within kind kind first.0 (value_under type_key pairs) first.1 in
-    let r = costs_within (least_replica rows.last) (most_replica rows.last) replica.0 (value_under replica_key pairs) replica.1 in
-    let l = costs_within (least_lsn rows.last) (most_lsn (ends_transaction place) rows.last) lsn.0 (value_under lsn_key pairs) lsn.1 in
+    let r = costs_within (lowest_replica rows.last) (highest_replica rows.last) replica.0 (value_under replica_key pairs) replica.1 in
+    let l = costs_within (lowest_lsn rows.last) (highest_lsn (ends_transaction place) rows.last) lsn.0 (value_under lsn_key pairs) lsn.1 in
     let ends = ends_transaction place in
     let same : k.0 ≡ kind = let low = k.2 in let high = k.3 in omega (arith, low, high) in
     let id = replica_from rows.last rows.count r.0 numbered r.2 r.3 in

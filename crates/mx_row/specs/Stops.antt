@@ -110,25 +110,25 @@ place_fields Alone = record { key = row_number_key; form = Absent } ∷ []
 place_fields (Numbered number is_last) = bounded_field row_number_key number number ∷ record { key = is_last_key; form = last_form is_last } ∷ []
 
 -- the least lsn that the next row may have, and the greatest
-abbrev pub least_lsn : Option Header → ℕ
-least_lsn None = 1
-least_lsn (Some last) = suc last.lsn.0
+abbrev pub lowest_lsn : Option Header → ℕ
+lowest_lsn None = 1
+lowest_lsn (Some last) = suc last.lsn.0
 
-abbrev pub most_lsn : (ends : Bool) → Option Header → ℕ
-most_lsn ends None = if ends then max_lsn else max_lsn - 1
-most_lsn ends (Some last) = min (suc last.lsn.0) (if ends then max_lsn else max_lsn - 1)
+abbrev pub highest_lsn : (ends : Bool) → Option Header → ℕ
+highest_lsn ends None = if ends then max_lsn else max_lsn - 1
+highest_lsn ends (Some last) = min (suc last.lsn.0) (if ends then max_lsn else max_lsn - 1)
 
-abbrev pub least_replica : Option Header → ℕ
-least_replica None = 0
-least_replica (Some last) = last.replica.0
+abbrev pub lowest_replica : Option Header → ℕ
+lowest_replica None = 0
+lowest_replica (Some last) = last.replica.0
 
-abbrev pub most_replica : Option Header → ℕ
-most_replica None = 31
-most_replica (Some last) = last.replica.0
+abbrev pub highest_replica : Option Header → ℕ
+highest_replica None = 31
+highest_replica (Some last) = last.replica.0
 
 abbrev pub header_fields : Progress → (kind : ℕ) → Place → List Field
 header_fields rows kind place =
-    first_fields kind (least_replica rows.last) (most_replica rows.last) (least_lsn rows.last) (most_lsn (ends_transaction place) rows.last) (place_fields place)
+    first_fields kind (lowest_replica rows.last) (highest_replica rows.last) (lowest_lsn rows.last) (highest_lsn (ends_transaction place) rows.last) (place_fields place)
 
 -- some bytes that follow make a row of the bytes that may follow the rows, and it is of this type and in this place
 abbrev pub HeaderFits : Progress → (kind : ℕ) → Place → List ℕ → Type 0

@@ -6,7 +6,7 @@ ghost use Rattle.mx_msgpack.specs.Maps.{map_at};
 ghost use Rattle.mx_row.specs.Cuts.{has_room_behind, is_lsn_left};
 ghost use Rattle.mx_row.specs.Limits.{max_rows};
 ghost use Rattle.mx_row.specs.Rows.{ends_transaction, row_number};
-ghost use Rattle.mx_row.specs.Stops.{CanFit, CanHave, Decides, HeaderFits, IsKind, IsNumbered, KindFits, header_fields, last_form, least_body, least_lsn, least_replica, most_lsn, most_replica};
+ghost use Rattle.mx_row.specs.Stops.{CanFit, CanHave, Decides, HeaderFits, IsKind, IsNumbered, KindFits, header_fields, last_form, least_body, lowest_lsn, lowest_replica, highest_lsn, highest_replica};
 
 use crate::completion::{KEYS_OF_THREE, KEYS_OF_TWO, body_room, can_have, field};
 use crate::header::{Header, Place};
@@ -164,7 +164,7 @@ fn last_form(is_last: bool) -> Form
 
 /// The replica ids that the next row may have.
 fn replicas(last: Option<Header>) -> Form
-    ensures { result ≡ Number (least_replica last) (most_replica last) }
+    ensures { result ≡ Number (lowest_replica last) (highest_replica last) }
 {
     match last {
         Some(last) => {
@@ -184,7 +184,7 @@ fn replicas(last: Option<Header>) -> Form
 /// The lsns that the next row may have, where it ends the transaction or doesn't.
 fn lsns(last: Option<Header>, ends: bool) -> Form
     requires { is_lsn_left last ≡ true }
-    ensures { result ≡ Number (least_lsn last) (most_lsn ends last) }
+    ensures { result ≡ Number (lowest_lsn last) (highest_lsn ends last) }
 {
     let most = if ends { MAX_LSN } else { MAX_LSN - 1 };
     match last {
