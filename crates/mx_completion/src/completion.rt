@@ -5,7 +5,7 @@ ghost use Rattle.mx_completion.specs.declared.completion.Completion.TheVariants.
 ghost use Rattle.mx_completion.specs.Sequences.{longer};
 
 /// What bytes can become that are to spell a value of some form.
-#[derive(Clone, Copy, Debug)]
+#[derive(Clone, Copy)]
 pub enum Completion {
     /// One stands first, in so many bytes.
     Whole { size: usize },

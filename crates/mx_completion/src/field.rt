@@ -1,14 +1,14 @@
 //! What a map has to have under its keys.
 
 /// What a map has to have under a key.
-#[derive(Clone, Copy, Debug)]
+#[derive(Clone, Copy)]
 pub struct Field {
     pub key: u8,
     pub form: Form,
 }
 
 /// Which values a key may have, and what each costs.
-#[derive(Clone, Copy, Debug)]
+#[derive(Clone, Copy)]
 pub enum Form {
     /// No value.
     Absent,

@@ -6,7 +6,7 @@ ghost use Rattle.mx_msgpack.specs.Grammar.{max_length};
 ghost use Rattle.mx_completion.specs.LeadingBytes.{IsSized, follow_count, holds_values, leading_of, leads, low_leading, number_leading, sized_leading};
 
 /// The type of a value.
-#[derive(Clone, Copy, Debug, PartialEq, Eq)]
+#[derive(Clone, Copy, PartialEq, Eq)]
 pub(crate) enum Kind {
     Int,
     Text,
@@ -19,7 +19,7 @@ pub(crate) enum Kind {
 
 /// A value's type, and how many bytes behind the leading byte its length takes, or the length where it
 /// takes none.
-#[derive(Clone, Copy, Debug, PartialEq, Eq)]
+#[derive(Clone, Copy, PartialEq, Eq)]
 pub(crate) struct Leading {
     pub(crate) kind: Kind,
     pub(crate) width: usize,

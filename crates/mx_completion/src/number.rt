@@ -10,7 +10,7 @@ use byteorder::{BigEndian, ByteOrder};
 use mx_msgpack::unsigned_at;
 
 /// All numbers from the least one to the greatest one.
-#[derive(Clone, Copy, Debug)]
+#[derive(Clone, Copy)]
 pub struct NumberRange {
     pub least: u64,
     pub most: u64,

@@ -16,7 +16,7 @@ use mx_msgpack::{first_pair, unsigned_in};
 pub(crate) const ROOM_INSIDE: usize = 63;
 
 /// A map that bytes begin: its pairs that stand whole, and what may follow them.
-#[derive(Clone, Copy, Debug, Drop)]
+#[derive(Clone, Copy, Drop)]
 pub(crate) struct Begun<'a> {
     /// How many pairs stand whole, and from where on.
     pub(crate) count: usize,
@@ -28,7 +28,7 @@ pub(crate) struct Begun<'a> {
 }
 
 /// What stands where a pair of a map begins, or is to.
-#[derive(Clone, Copy, Debug, Drop)]
+#[derive(Clone, Copy, Drop)]
 enum Next<'a> {
     /// A whole pair, before these bytes.
     Whole { rest: &'a [u8] },

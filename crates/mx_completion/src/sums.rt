@@ -4,7 +4,7 @@ ghost use Rattle.std.specs.Prelude.{◌≡◌, Some};
 ghost use Rattle.mx_completion.specs.Sums.{least_sum, lesser, sum_within, up_to};
 
 /// What a field costs as the map stands, and where a pair of it is written anew.
-#[derive(Clone, Copy, Debug)]
+#[derive(Clone, Copy)]
 pub(crate) struct Choice {
     pub(crate) kept: Option<usize>,
     pub(crate) anew: Option<usize>,

@@ -22,7 +22,7 @@ use Rattle.mx_key.specs.Comparable.{comparable_of}
 use Rattle.mx_key.specs.Keys.{AreFit, Key}
 use Rattle.mx_space.specs.declared.state.State as coded_state
 use Rattle.mx_space.specs.KeptStates.{kept_at}
-use Rattle.mx_space.specs.Reserves.{PlainChange, state_with_all}
+use Rattle.mx_entries.specs.PlainChanges.{PlainChange, state_with_all}
 use Rattle.mx_space.specs.Stored.{Holds, HoldsBy}
 use Rattle.mx_tracker.specs.declared.read.Read as noted
 use Rattle.mx_tracker.specs.declared.touched.Touched as coded
@@ -59,7 +59,7 @@ use Rattle.mx_model.proofs.AloneCommits.{commit_makes, run_makes}
 use Rattle.mx_model.proofs.AloneSound.{journal_sound, rows_sound, run_bytes}
 use Rattle.mx_model.proofs.EachLaws.{each_kept}
 use Rattle.mx_model.proofs.RunTouchLaws.{run_is_own, run_touches}
-use Rattle.mx_model.proofs.SelectLaws.{select_no_row}
+use Rattle.mx_model.proofs.AnswerLaws.{select_no_row}
 use Rattle.mx_engine.specs.declared.engine.Engine.{Engine}
 use Rattle.mx_transactions.specs.declared.names.Named.{Named}
 use Rattle.mx_transactions.specs.declared.work.ChangedKey.{ChangedKey}

@@ -3,7 +3,8 @@ pub mod OutcomeLaws
 pub mod SelectLaws
 pub mod StandingLaws
 pub mod StatementLaws
+pub mod StatementMemory
 pub mod StepLaws
 pub mod ViewLaws
 pub mod WriteLaws
-pub mod OthersLaws
+mod TxsLaws

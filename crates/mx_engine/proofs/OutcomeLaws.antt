@@ -1,5 +1,5 @@
 -- What a request is told, and what an engine has then.
-use Rattle.std.proofs.Common.{◌≡◌, inl, inr, ℕ, ◌+◌, Bool, true, false, not, List, [], ◌∷◌, ◌++◌, length, Option, Some, None, Result, refl, sym, ap, ◌∙◌, subst, append-nil, arith}
+use Rattle.std.proofs.Common.{◌≡◌, ℕ, ◌+◌, Bool, true, false, not, List, [], ◌∷◌, ◌++◌, length, Option, Some, None, Result, refl, sym, ap, ◌∙◌, subst, append-nil, arith}
 use Rattle.std.specs.Prelude.{nat_le, nat_lt, slice_get, slice_index, ◌==◌, if◌then◌else◌}
 use Rattle.mx_base.specs.declared.ids.TxnName.{TxnName}
 use Rattle.mx_base.specs.declared.refusal.Refusal.{Refusal}
@@ -20,14 +20,14 @@ use Rattle.mx_model.specs.Alone.{AllStandAlone, StandsAlone}
 use Rattle.mx_model.specs.Bases.{writable_node}
 use Rattle.mx_model.specs.Overlaps.{Active, Doomed, Standing, Transaction, View}
 use Rattle.mx_model.specs.Streams.{Ends, Opens, Outcome, Streams, begins_beside, commit_with, commits, commits_rows, commits_standing, ends_told, is_name, max_transactions, max_transactions_of_connection, of_connection, open_after, outcome_of, standing_now, streams_after, told_alone, transaction_named, without_named}
-use Rattle.mx_model.proofs.AloneNames.{named_has}
-use Rattle.mx_model.proofs.SlowStreamLaws.{commits_active, commits_all, commits_doomed, commits_view, some_row_where, with_stream}
+use Rattle.mx_model.proofs.AloneStreams.{named_has}
+use Rattle.mx_model.proofs.StreamOutcomes.{commits_active, commits_all, commits_doomed, commits_view, some_row_where, with_stream}
 use Rattle.mx_engine.specs.declared.engine.Engine.{Engine}
 use Rattle.mx_transactions.specs.declared.work.Work.{Work}
 use Rattle.mx_transactions.specs.Open.{HaveOwnSlots, HasStanding, HoldsOpen, Open, SlotHas, newest_state, slot_named}
 use Rattle.mx_transactions.specs.OpenSteps.{FindsIn, TellsOpen, beside, empty_reply}
 use Rattle.mx_engine.specs.Standing.{HasStreams}
-use Rattle.mx_engine.specs.Steps.{AnswersRequest, IsActiveIn, IsOpenIn, Keeps, SameButOpen, TellsOutcome, TellsOrLacks, newest_run, version_after}
+use Rattle.mx_engine.specs.Steps.{IsActiveIn, IsOpenIn, Keeps, SameButOpen, TellsOutcome, newest_run, version_after}
 
 -- ---- outcomes that commit nothing
 
@@ -293,9 +293,3 @@ pub commits_whole : (engine : Engine) (streams : Streams) (row : Row) (rest : Li
 commits_whole engine streams row rest count last rows has me are counts last_is low =
     let below = ap (nat_lt max_lsn) (lsn_is engine streams (length (row ∷ rest)) has me ∙ ap (λ n. slice_index engine.clock writable_node + n) (sym counts) ∙ sym last_is) ∙ low in
     ap (commits_rows streams) are ∙ commits_all streams row rest (ap (λ n. not (n == writable_node)) me) below
-
--- a COMMIT may lack memory
-pub lacks_or_tells : (old new : Engine) (streams : Streams) (name : TxnName) (reply : Reply) → TellsOrLacks old new streams name (outcome_of streams name request.Commit) reply
-    → AnswersRequest old new streams name request.Commit reply
-lacks_or_tells old new streams name reply (inl tells) = inl tells
-lacks_or_tells old new streams name reply (inr (lacks, keeps)) = inr (refl, lacks, keeps)

@@ -1,16 +1,11 @@
 -- What a SELECT is answered, by the first test that it fails.
-use Rattle.std.proofs.Common.{◌≡◌, ◌⊎◌, inl, inr, ℕ, ◌≤◌, Bool, true, false, List, [], ◌∷◌, length, refl, sym, ap, ◌∙◌, subst, Option}
+use Rattle.std.proofs.Common.{◌≡◌, ◌≢◌, ◌⊎◌, inl, inr, ℕ, ◌≤◌, Bool, true, false, List, [], ◌∷◌, length, refl, sym, ap, ◌∙◌, subst, Option}
 use Rattle.std.specs.Option.{option_map, unwrap_or}
-use Rattle.std.specs.Prelude.{Result, Ok, Err, IfSome, OnOk, ◌==◌, Some, None, if◌then◌else◌}
+use Rattle.std.specs.Prelude.{Result, Ok, Err, IfSome, ◌==◌, Some, None, if◌then◌else◌}
 use Rattle.std.proofs.lemmas.Bool.{eqb-true}
-use Rattle.mx_base.specs.declared.ids.SpaceId.{SpaceId}
-use Rattle.mx_base.specs.declared.ids.IndexId.{IndexId}
 use Rattle.mx_base.specs.declared.refusal.Refusal.{Refusal}
 use Rattle.mx_base.specs.declared.kinds.Unsupported.TheVariants.{HashIterator}
 use Rattle.mx_base.specs.declared.refusal.Refusal.TheVariants.{OutOfMemory, ResultTooLong, SpaceMissing, IndexMissing, Unsupported}
-use Rattle.mx_request.specs.declared.request.Request.{Request}
-use Rattle.mx_request.specs.declared.request.Request.TheVariants as request
-use Rattle.mx_model.specs.declared.reply.Reply.{Reply}
 use Rattle.mx_model.specs.declared.reply.Reply.TheVariants.{Tuples, Refused}
 use Rattle.mx_key.specs.declared.iterator.IterKind.{IterKind}
 use Rattle.mx_key.specs.declared.fault.Misfit.{Misfit}
@@ -28,20 +23,19 @@ use Rattle.mx_key.specs.declared.edge.KeyRange.{KeyRange}
 use Rattle.mx_key.specs.declared.part.Part.{Part}
 use Rattle.mx_schema.specs.Picks.{entries_of, total_bytes, max_result_size}
 use Rattle.mx_schema.specs.State.{State, source_of}
-use Rattle.mx_space.specs.Scans.{SelectsByKey, picked_of}
-use Rattle.mx_space.specs.declared.pick.Pick.{Pick}
-use Rattle.mx_space.specs.declared.pick.SelectFault.{SelectFault}
-use Rattle.mx_space.specs.declared.pick.SelectFault.TheVariants as faults
-use Rattle.mx_model.specs.Answers.{answer_to}
+use Rattle.mx_entries.specs.Scans.{SelectsByKey, picked_of}
+use Rattle.mx_entries.specs.declared.pick.Pick.{Pick}
+use Rattle.mx_entries.specs.declared.pick.SelectFault.{SelectFault}
+use Rattle.mx_entries.specs.declared.pick.SelectFault.TheVariants as faults
 use Rattle.mx_write.specs.Lookup.{misfit_refusal}
 use Rattle.mx_model.specs.SelectSteps.{RefusesKey, TakesKey}
-use Rattle.mx_model.specs.statements.Select.{asked_key, iterator_of, key_by_kind, part_count, range_reads, select_answer_in, select_by_key, select_in_index, takes_iterator}
+use Rattle.mx_model.specs.statements.Select.{asked_key, key_by_kind, part_count, range_reads, select_answer_in, select_by_key, select_in_index, takes_iterator}
 use Rattle.mx_write.specs.Notes.{AddsReads, Noted}
 use Rattle.mx_write.specs.Reads.{index_read, schema_reads, space_read}
-use Rattle.mx_write.proofs.NoteLaws.{adds_both, adds_nothing}
-use Rattle.mx_model.specs.statements.Lookup.{in_index, in_space}
+use Rattle.mx_write.proofs.NoteLaws.{adds_both}
 use Rattle.mx_model.specs.statements.Answer.{Answer, refusal_after}
 use Rattle.mx_model.proofs.AnswerLaws.{select_misses_space, select_misses_index, key_is_misfit, key_is_refused, tuples_are_picked, result_is_too_long}
+use Rattle.mx_engine.specs.SelectFaults.{IsFaultRefusal}
 use Rattle.mx_engine.specs.Steps.{IsReplyOf}
 
 -- ---- a key that has the same parts
@@ -60,22 +54,6 @@ module _ (before : State) (space limit offset : ℕ) (iterator : IterKind) (key 
       by_key parts asked =
           if takes_iterator def.kind iterator parts then select_by_key before space limit offset iterator def asked
           else refusal_after (schema_reads space) (Unsupported HashIterator)
-
--- a SELECT by it is answered the same
-pub read_selected : (before : State) (asked : Request) (reply : Reply) (space : SpaceId) (index : IndexId)
-    (limit offset iterator : ℕ) (key sought : List ℕ) (kind : IterKind)
-    → asked ≡ request.Select space index limit offset iterator key
-    → unwrap_or (items_of sought) [] ≡ unwrap_or (items_of key) [] → ((parts : List Part) → key_of_array parts sought ≡ key_of_array parts key)
-    → kind ≡ iterator_of iterator → IsReplyOf reply (select_answer_in before space.0 index.0 limit offset kind sought) → IsReplyOf reply (answer_to before asked)
-unfolding answer_to
-read_selected before asked reply space index limit offset iterator key sought kind is items same by told =
-    let answer : answer_to before asked ≡ select_answer_in before space.0 index.0 limit offset kind sought =
-    ap (answer_to before) is
-    ∙ ap (λ k. select_answer_in before space.0 index.0 limit offset k key) (sym by)
-    ∙ (λ i. in_space before space.0 (λ schema. in_index space.0 schema index.0 (λ def. sym (same_asked before space.0 limit offset kind key sought items same def) i))) in
-    subst (IsReplyOf reply) (sym answer) told
-
--- ---- an index that was found
 
 -- it has the number that was asked for
 numbered : (id : ℕ) (indexes : List IndexDef) (def : IndexDef) → index_with id indexes ≡ Some def → def.id.0 ≡ id
@@ -138,7 +116,7 @@ module _ (before : State) (space index : ℕ) (wanted : Pick) where
 
         -- or none, for this reason
         module _ (tuples : List (List ℕ)) (fault : SelectFault) (tells : SelectsByKey (entries_of before space def) def wanted tuples (Err fault)) where
-          pub tells_misfit : (misfit : Misfit) (refusal : Refusal) → fault ≡ faults.Misfit misfit
+          tells_misfit : (misfit : Misfit) (refusal : Refusal) → fault ≡ faults.Misfit misfit
               → ((key : List ℕ) → key_of_array def.key key ≡ Err misfit → refusal ≡ misfit_refusal (length def.key) misfit) → IsReplyOf (Refused refusal) select
           tells_misfit misfit refusal is told = by_fault tells
             where
@@ -151,7 +129,7 @@ module _ (before : State) (space index : ℕ) (wanted : Pick) where
               by_fault (inr (inl (long, fitting, fits, fit, above))) = absurd cc
               by_fault (inr (inr none)) = absurd cc
 
-          pub tells_long : fault ≡ faults.TooLong → IsReplyOf (Refused ResultTooLong) select
+          tells_long : fault ≡ faults.TooLong → IsReplyOf (Refused ResultTooLong) select
           tells_long is = by_fault tells
             where
               by_fault : SelectsByKey (entries_of before space def) def wanted tuples (Err fault) → IsReplyOf (Refused ResultTooLong) select
@@ -160,19 +138,15 @@ module _ (before : State) (space index : ℕ) (wanted : Pick) where
                   inl (sym (ap (λ a. a.reply) (result_is_too_long before space index wanted.limit wanted.offset wanted.iterator wanted.key.now schema described def there taken fitting fits above)))
               by_fault (inr (inr none)) = absurd cc
 
+          pub tells_fault : (refusal : Refusal) → IsFaultRefusal def fault refusal → IsReplyOf (Refused refusal) select
+          tells_fault refusal = by_fault fault refl
+            where
+              by_fault : (one : SelectFault) → fault ≡ one → IsFaultRefusal def one refusal → IsReplyOf (Refused refusal) select
+              by_fault (faults.Misfit misfit) is told = tells_misfit misfit refusal is told
+              by_fault faults.TooLong is told = subst (λ r. IsReplyOf (Refused r) select) (sym told) (tells_long is)
+              by_fault faults.NoMemory is told = inr (ap (λ r. Refused r) told)
+
 -- ---- what it notes
-
--- a range that was read
-pub notes_range : {T E : Type 0} (result : Result T E) (space index : ℕ) (old new : Noted) (read : KeyRange)
-    → ((one : Range) → AreFitEnds one → read ≡ edges_of one → OnOk result (AddsReads old new (range_reads space index (Some one))))
-    → (range : Option Range) → IfSome range AreFitEnds → Some read ≡ option_map edges_of range → OnOk result (AddsReads old new (range_reads space index range))
-notes_range result space index old new read says None fit is = absurd cc
-notes_range result space index old new read says (Some one) fit is = let same : read ≡ edges_of one = cc in says one fit same
-
--- and none
-pub notes_no_range : (space index : ℕ) (now : Noted) (range : Option Range) → None ≡ option_map edges_of range → AddsReads now now (range_reads space index range)
-notes_no_range space index now None is = adds_nothing now
-notes_no_range space index now (Some one) is = absurd cc
 
 module _ (before : State) (space index : ℕ) (wanted : Pick) (old first : Noted) (spaces : AddsReads old first (space_read space ∷ [])) where
   abbrev its_answer : Answer
@@ -221,7 +195,7 @@ module _ (before : State) (space index : ℕ) (wanted : Pick) (old first : Noted
             (noted (picked_of (entries_of before space def) wanted fitting).read ends edges))
 
         module _ (fault : SelectFault) (tells : SelectsByKey (entries_of before space def) def wanted tuples (Err fault)) where
-          pub notes_misfit : (misfit : Misfit) → fault ≡ faults.Misfit misfit → AddsReads old second its_answer.reads
+          notes_misfit : (misfit : Misfit) → fault ≡ faults.Misfit misfit → AddsReads old second its_answer.reads
           notes_misfit misfit is = by_fault tells
             where
               by_fault : SelectsByKey (entries_of before space def) def wanted tuples (Err fault) → AddsReads old second its_answer.reads
@@ -231,7 +205,7 @@ module _ (before : State) (space index : ℕ) (wanted : Pick) (old first : Noted
               by_fault (inr (inl (long, fitting, fits, fit, above))) = absurd cc
               by_fault (inr (inr none)) = absurd cc
 
-          pub notes_long : (last : Noted) → fault ≡ faults.TooLong
+          notes_long : (last : Noted) → fault ≡ faults.TooLong
               → ((key : Key) → key_of_array def.key wanted.key.now ≡ Ok key → AreFit key → AddsReads second last (range_reads (source_of space) def.id.0 (Some (range_of wanted.iterator key))))
               → AddsReads old last its_answer.reads
           notes_long last is noted = by_fault tells
@@ -243,3 +217,15 @@ module _ (before : State) (space index : ℕ) (wanted : Pick) (old first : Noted
                   (sym (ap (λ a. a.reads) (result_is_too_long before space index wanted.limit wanted.offset wanted.iterator wanted.key.now schema described def its taken fitting fits above)))
                   (adds_both old second last (schema_reads space) (range_reads (source_of space) def.id.0 (Some (range_of wanted.iterator fitting))) schema_noted (noted fitting fits fit))
               by_fault (inr (inr none)) = absurd cc
+
+          pub notes_fault : (last : Noted) (refusal : Refusal) → IsFaultRefusal def fault refusal
+              → ((key : Key) → fault ≡ faults.TooLong → key_of_array def.key wanted.key.now ≡ Ok key → AreFit key
+              → AddsReads second last (range_reads (source_of space) def.id.0 (Some (range_of wanted.iterator key))))
+              → (fault ≢ faults.TooLong → last ≡ second) → (refusal ≡ OutOfMemory) ⊎ AddsReads old last its_answer.reads
+          notes_fault last refusal told long other = by_fault fault refl told
+            where
+              by_fault : (one : SelectFault) → fault ≡ one → IsFaultRefusal def one refusal → (refusal ≡ OutOfMemory) ⊎ AddsReads old last its_answer.reads
+              by_fault (faults.Misfit misfit) is told =
+                  inr (subst (λ n. AddsReads old n its_answer.reads) (sym (other (λ long. absurd cc))) (notes_misfit misfit is))
+              by_fault faults.TooLong is told = inr (notes_long last is (λ key. long key is))
+              by_fault faults.NoMemory is told = inl told

@@ -1,6 +1,6 @@
 -- An engine that stands for a history stands for a longer one after each of its calls.
 use Rattle.std.proofs.Common.{◌≡◌, inl, inr, ℕ, ◌+◌, ◌-◌, ◌%◌, ◌^◌, ◌<◌, Bool, true, false, List, [], ◌∷◌, ◌++◌, length, Option, Some, None, refl, sym, ap, ◌∙◌, subst, append-nil, append_assoc, length-append, arith}
-use Rattle.std.specs.Prelude.{◌&&◌, drop, if◌then◌else◌}
+use Rattle.std.specs.Prelude.{◌&&◌, drop, is_some, if◌then◌else◌}
 use Rattle.std.specs.List.{filter}
 use Rattle.std.specs.Option.{option_map}
 use Rattle.std.proofs.lemmas.List.Elements.{filter-append}
@@ -18,20 +18,19 @@ use Rattle.mx_model.specs.Bases.{Base, CanBeAsked, is_out_of_memory}
 use Rattle.mx_model.specs.Alone.{AllStandAlone}
 use Rattle.mx_model.specs.Histories.{Asked, History, IsLegal, Left, Ledger, ledger_of}
 use Rattle.mx_model.specs.HistoryStreams.{streams_in}
-use Rattle.mx_model.specs.StreamHistories.{lacked_memory}
 use Rattle.mx_model.specs.Frame.{OperationHasBytes}
-use Rattle.mx_model.specs.Streams.{AllHaveStreams, Outcome, Streams, commit_with, may_lack_memory, outcome_of, states, streams_after, streams_left, transaction_named}
+use Rattle.mx_model.specs.Streams.{AllHaveStreams, Outcome, Streams, commit_with, may_lack_memory, outcome_of, statement_may_lack, states, streams_after, streams_left, told_as, transaction_named}
 use Rattle.mx_model.specs.statements.Statement.{Selects, Statement, statement_of, write_statement}
 use Rattle.mx_model.specs.Transactions.{is_schema_commit, schema_version}
 use Rattle.mx_model.proofs.DemandedReplies.{demanded_memory}
 use Rattle.mx_model.proofs.HistoryLaws.{base_of_ledger, commits_of, steps_of_ledger, streams_legal, streams_of_history, untaken-asked, journal_of-asked}
-use Rattle.mx_model.proofs.StreamNumbers.{all_in_streams}
-use Rattle.mx_model.proofs.StreamLaws.{history_ran}
-use Rattle.mx_model.proofs.AskedStatements.{told_statement}
+use Rattle.mx_model.proofs.BecomesLaws.{all_in_streams, told_statement}
+use Rattle.mx_model.proofs.RecordedReplies.{told_outcome}
+use Rattle.mx_model.proofs.StreamSteps.{history_ran}
 use Rattle.mx_engine.specs.declared.engine.Engine.{Engine}
 use Rattle.mx_transactions.specs.Open.{HoldsOpen, Open}
 use Rattle.mx_engine.specs.Standing.{EngineStandsFor, HasStreams, Matches}
-use Rattle.mx_engine.specs.Steps.{AnswersRequest, CountsStep, Keeps, SameNode, TellsOutcome, TellsOrLacks, version_after}
+use Rattle.mx_engine.specs.Steps.{AnswersOutcome, AnswersRequest, AnswersStatement, CountsStep, Keeps, SameNode, TellsOutcome, version_after}
 
 -- the schema's version counts the commits that come after others
 versions : (journal more : List Tx) → schema_version (journal ++ more) ≡ version_after (schema_version journal) more
@@ -97,11 +96,11 @@ module _ (old new : Engine) (base : Base) (history : History) (name : TxnName) (
   longer = Asked name (ask.Request asked) reply ∷ history
 
   -- what the entry makes of the streams, where memory was lacking or not
-  with_entry : (lacks : Bool) → lacked_memory asked reply ≡ lacks
-      → (ledger_of base longer).streams ≡ (if lacks then streams else streams_after streams name (outcome_of streams name asked))
-  with_entry lacks is = ap (λ b. if b then streams else streams_after streams name (outcome_of streams name asked)) is
+  with_entry : (lacks : Bool) → is_out_of_memory reply ≡ lacks
+      → (ledger_of base longer).streams ≡ (if lacks then streams else streams_after streams name (told_as reply (outcome_of streams name asked)))
+  with_entry lacks is = ap (λ b. if b then streams else streams_after streams name (told_as reply (outcome_of streams name asked))) is
 
-  with_commits : (lacks : Bool) → lacked_memory asked reply ≡ lacks
+  with_commits : (lacks : Bool) → is_out_of_memory reply ≡ lacks
       → commits_of ledger name (ask.Request asked) reply ≡ (if lacks then [] else commit_with streams (outcome_of streams name asked).rows)
   with_commits lacks is = ap (λ b. if b then [] else commit_with streams (outcome_of streams name asked).rows) is
 
@@ -123,25 +122,22 @@ module _ (old new : Engine) (base : Base) (history : History) (name : TxnName) (
   told tells = record {
     legal = (stands.legal, (can, inl tells.told));
     matches = matches_longer (commit_with streams (outcome_of streams name asked).rows) (with_commits false enough)
-        (subst (HasStreams new) (sym (with_entry false enough)) tells.after) tells.pending tells.schema;
+        (subst (HasStreams new) (sym (with_entry false enough ∙ ap (streams_after streams name) (told_outcome streams name asked reply tells.told))) tells.after)
+        tells.pending tells.schema;
   }
     where
-      enough : lacked_memory asked reply ≡ false
-      enough = by_test (may_lack_memory asked) (ap is_out_of_memory tells.told ∙ demanded_memory streams name asked)
-        where
-          by_test : (may : Bool) → is_out_of_memory reply ≡ false → (may && is_out_of_memory reply) ≡ false
-          by_test true is = is
-          by_test false is = refl
+      enough : is_out_of_memory reply ≡ false
+      enough = ap is_out_of_memory tells.told ∙ demanded_memory streams name asked
 
-  lacked : may_lack_memory asked ≡ true → reply ≡ Refused OutOfMemory → Keeps (counted old) new streams → EngineStandsFor new base longer
+  lacked : may_lack_memory asked (outcome_of streams name asked) ≡ true → reply ≡ Refused OutOfMemory → Keeps (counted old) new streams → EngineStandsFor new base longer
   lacked may told kept = record {
     legal = (stands.legal, (can, inr (may, told)));
     matches = matches_longer [] (with_commits true lacks) (subst (HasStreams new) (sym (with_entry true lacks)) kept.has)
         (kept.pending ∙ sym (append-nil old.pending)) kept.schema;
   }
     where
-      lacks : lacked_memory asked reply ≡ true
-      lacks = (λ i. may i && is_out_of_memory (told i))
+      lacks : is_out_of_memory reply ≡ true
+      lacks = ap is_out_of_memory told
 
   pub stands_asked : AnswersRequest (counted old) new streams name asked reply → EngineStandsFor new base longer
   stands_asked (inl tells) = told tells
@@ -149,18 +145,24 @@ module _ (old new : Engine) (base : Base) (history : History) (name : TxnName) (
 
 -- ---- statements
 
--- a statement may lack memory
-statement_may : (asked : Request) (statement : Statement) → statement_of asked ≡ Some statement → may_lack_memory asked ≡ true
-statement_may request.Begin statement is = absurd cc
-statement_may request.Rollback statement is = absurd cc
-statement_may other statement is = refl
+-- a statement may lack memory where its outcome does
+statement_may : (asked : Request) (statement : Statement) (outcome : Outcome) → statement_of asked ≡ Some statement → statement_may_lack outcome ≡ true
+    → may_lack_memory asked outcome ≡ true
+statement_may request.Commit statement outcome is may = absurd cc
+statement_may other statement outcome is may = ap (λ (found : Option Statement). is_some found && statement_may_lack outcome) is ∙ may
 
 -- its reply is the request's
 pub answers_statement : (old new : Engine) (streams : Streams) (name : TxnName) (asked : Request) (statement : Statement) (reply : Reply) → statement_of asked ≡ Some statement
-    → TellsOrLacks old new streams name (states streams (transaction_named name streams.transactions) statement) reply → AnswersRequest old new streams name asked reply
-answers_statement old new streams name asked statement reply is (inl tells) =
-    inl (subst (λ (o : Outcome). TellsOutcome old new streams name o reply) (sym (told_statement streams name asked statement is)) tells)
-answers_statement old new streams name asked statement reply is (inr lacks) = inr (statement_may asked statement is, lacks.0, lacks.1)
+    → AnswersStatement old new streams name (states streams (transaction_named name streams.transactions) statement) reply → AnswersRequest old new streams name asked reply
+answers_statement old new streams name asked statement reply is answers =
+    subst (λ (o : Outcome). AnswersOutcome (may_lack_memory asked o) old new streams name o reply) (sym (told_statement streams name asked statement is)) (by_answer answers)
+  where
+    outcome : Outcome
+    outcome = states streams (transaction_named name streams.transactions) statement
+
+    by_answer : AnswersStatement old new streams name outcome reply → AnswersOutcome (may_lack_memory asked outcome) old new streams name outcome reply
+    by_answer (inl tells) = inl tells
+    by_answer (inr (may, lacks, keeps)) = inr (statement_may asked statement outcome is may, lacks, keeps)
 
 write_bytes : (found : Option (ℕ × Write)) → TupleIsBytes found → (statement : Statement) → option_map write_statement found ≡ Some statement → OperationHasBytes statement.operation
 write_bytes None bytes statement is = absurd cc

@@ -8,12 +8,13 @@ use Rattle.mx_row.specs.declared.row.Row.{Row}
 use Rattle.mx_row.specs.declared.tx.Tx.{Tx}
 use Rattle.mx_row.specs.Limits.{has_room}
 use Rattle.mx_schema.specs.State.{State}
-use Rattle.mx_write.specs.declared.made.Made as code
+use Rattle.mx_judge.specs.declared.made.Made as code
 use Rattle.mx_write.specs.declared.writable.Writer.TheVariants.{Client}
 use Rattle.mx_write.specs.Judge.{judged_write}
 use Rattle.mx_write.specs.Judged.{Judged}
 use Rattle.mx_write.specs.Made.{Made, nothing}
-use Rattle.mx_write.specs.Makes.{IsRefusedBy, MakesOf}
+use Rattle.mx_write.specs.Stages.{IsRefusedBy}
+use Rattle.mx_judge.specs.Makes.{MakesOf}
 use Rattle.mx_write.specs.Notes.{AddsReads, Noted}
 use Rattle.mx_write.specs.Reads.{Read}
 use Rattle.mx_write.specs.Writes.{Write}
@@ -31,8 +32,7 @@ use Rattle.mx_model.specs.statements.Statement.{Operation, Selects, Statement, W
 use Rattle.mx_model.specs.statements.Write.{answer_of, answer_of_outcome}
 use Rattle.mx_model.proofs.AloneCommits.{run_makes}
 use Rattle.mx_model.proofs.AloneSound.{journal_sound}
-use Rattle.mx_model.proofs.AnswerLaws.{Agrees, select_agrees}
-use Rattle.mx_model.proofs.SelectLaws.{select_no_row}
+use Rattle.mx_model.proofs.AnswerLaws.{Agrees, select_agrees, select_no_row}
 use Rattle.mx_engine.specs.declared.answer.Answered.{Answered}
 use Rattle.mx_engine.specs.declared.answer.Answered.TheVariants as answered
 use Rattle.mx_engine.specs.Steps.{AnswersAlone, IsReplyOf, newest_answer, newest_run}

@@ -10,7 +10,7 @@ use Rattle.mx_base.specs.declared.kinds.Unsupported.TheVariants.{SchemaInTransac
 use Rattle.mx_base.specs.declared.refusal.Refusal.{Refusal}
 use Rattle.mx_base.specs.declared.refusal.Refusal.TheVariants.{Conflict, OutOfMemory, Unsupported}
 use Rattle.mx_row.specs.declared.row.Row.{Row}
-use Rattle.mx_row.specs.Limits.{rows_size}
+use Rattle.mx_row.specs.Limits.{rows_size, saturated}
 use Rattle.mx_schema.specs.Catalogues.{schema_of}
 use Rattle.mx_schema.specs.State.{State}
 use Rattle.mx_space.specs.declared.kept_states.KeptStates.{KeptStates}
@@ -30,7 +30,6 @@ use Rattle.mx_model.specs.Frame.{IsDataStatement, IsNoSchemaWrite, OperationHasB
 use Rattle.mx_model.specs.Overlaps.{Active, Doomed, Standing, Transaction, TransactionStep, View, place_by, standing_after_step, state_after_first, statements_in}
 use Rattle.mx_model.specs.RunAlone.{Run, answer_alone, run_alone, run_with, writes}
 use Rattle.mx_model.specs.RunTouches.{changes_of, puts_of}
-use Rattle.mx_model.specs.Slow.{saturated}
 use Rattle.mx_model.specs.Streams.{Outcome, Streams, commit_with, goes_on_with, is_name, open_after, standing_now, state_read, states_in, states_standing, step_of, streams_after, told_alone, transaction_named, transaction_with, with_step}
 use Rattle.mx_model.specs.statements.Answer.{Answer}
 use Rattle.mx_model.specs.statements.Statement.{Operation, Selects, Statement, Writes}

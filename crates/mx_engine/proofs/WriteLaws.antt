@@ -18,14 +18,15 @@ use Rattle.mx_tracker.specs.declared.touched.Touched as coded
 use Rattle.mx_tracker.specs.Overlaps.{lies_in_read}
 use Rattle.mx_txn.specs.Slots.{max_open}
 use Rattle.mx_vclock.specs.Vclocks.{IsNext, max_lsn}
-use Rattle.mx_write.specs.declared.made.Made as code
+use Rattle.mx_judge.specs.declared.made.Made as code
 use Rattle.mx_write.specs.declared.write.Write as place
 use Rattle.mx_write.specs.declared.writable.Writer.TheVariants.{Client}
 use Rattle.mx_write.specs.Change.{Change, state_after_changed}
 use Rattle.mx_write.specs.Judge.{judged_write, row_change}
 use Rattle.mx_write.specs.Judged.{Judged}
 use Rattle.mx_write.specs.Made.{Made, nothing}
-use Rattle.mx_write.specs.Makes.{IsRefusedBy, tuples_shown}
+use Rattle.mx_write.specs.Stages.{IsRefusedBy}
+use Rattle.mx_judge.specs.Makes.{tuples_shown}
 use Rattle.mx_write.specs.Touches.{AddsTouched, is_met, touched_by_change}
 use Rattle.mx_write.specs.Views.{write_view}
 use Rattle.mx_write.specs.Writable.{describes_schema}
@@ -37,7 +38,7 @@ use Rattle.mx_model.specs.Answers.{state_after_row, state_after_rows}
 use Rattle.mx_model.specs.Bases.{writable_node}
 use Rattle.mx_model.specs.Overlaps.{Transaction}
 use Rattle.mx_model.specs.RunAlone.{statement_answer}
-use Rattle.mx_model.specs.Streams.{Outcome, Stays, Streams, states_alone, told_alone}
+use Rattle.mx_model.specs.Streams.{Outcome, Stays, Streams, statement_may_lack, states_alone, told_alone}
 use Rattle.mx_model.specs.Transactions.{is_schema_commit, is_schema_row}
 use Rattle.mx_model.specs.statements.Answer.{Answer, refusal_after, refusal_alone}
 use Rattle.mx_model.specs.statements.Select.{iterator_of, select_answer_in}
@@ -45,15 +46,15 @@ use Rattle.mx_model.specs.statements.Statement.{Selects, Statement, Writes}
 use Rattle.mx_model.specs.statements.Write.{answer_of, answer_of_outcome}
 use Rattle.mx_model.proofs.AloneSound.{statement_bytes}
 use Rattle.mx_model.proofs.JournalLaws.{state_after-append}
+use Rattle.mx_model.proofs.MemoryLaws.{alone_may_lack}
 use Rattle.mx_model.proofs.OverlapCommits.{prefix_kept}
-use Rattle.mx_model.proofs.SelectLaws.{select_no_row}
-use Rattle.mx_model.proofs.SlowStreamLaws.{alone_unwritten, alone_used_up, alone_written}
-use Rattle.mx_model.proofs.WriteLaws.{changes_again}
+use Rattle.mx_model.proofs.AnswerLaws.{select_no_row, changes_again}
+use Rattle.mx_model.proofs.StreamOutcomes.{alone_unwritten, alone_used_up, alone_written}
 use Rattle.mx_engine.specs.declared.engine.Engine.{Engine}
 use Rattle.mx_transactions.specs.Open.{AreStates, HoldsOpen, IsOpen, Open, newest_state}
 use Rattle.mx_transactions.specs.OpenSteps.{AreMarks, ViewsAreKept, Moves, SpellsRows}
 use Rattle.mx_engine.specs.Standing.{HasStreams}
-use Rattle.mx_engine.specs.Steps.{CountsCommit, IsReplyOf, IsWriteOf, Keeps, Prepares, Readies, Stores, TellsOutcome, TellsOrLacks, row_made, transaction_of, version_after}
+use Rattle.mx_engine.specs.Steps.{AnswersStatement, CountsCommit, IsReplyOf, IsWriteOf, Keeps, Prepares, Readies, Stores, TellsOutcome, TellsOrLacks, row_made, transaction_of, version_after}
 use Rattle.mx_transactions.proofs.CommitLaws.{all_moved, committed}
 use Rattle.mx_engine.proofs.CommitWorkLaws.{as_made, clock_more, commit_of, row_space}
 use Rattle.mx_engine.proofs.OutcomeLaws.{keeps_same, lsn_is, only_opened, stays_told}
@@ -86,12 +87,16 @@ module _ (engine : Engine) (streams : Streams) (name : TxnName) (space : SpaceId
     unfolding by_node
     answered = ap by_node (ap (λ n. n == writable_node) me)
 
+    -- it may lack memory
+    pub write_may_lack : statement_may_lack (states_alone streams statement) ≡ true
+    write_may_lack = alone_may_lack streams statement (ap (λ n. not (n == writable_node)) me)
+
     -- it is refused, or out of memory
-    pub write_refused : (refusal : Refusal) → IsRefusedBy refusal judged → TellsOrLacks engine engine streams name (states_alone streams statement) (Refused refusal)
+    pub write_refused : (refusal : Refusal) → IsRefusedBy refusal judged → AnswersStatement engine engine streams name (states_alone streams statement) (Refused refusal)
     write_refused refusal (inl refused) =
         inl (stays_told engine engine streams name (states_alone streams statement) (Refused refusal) (Refused refusal) has refl refl
         (unwritten (refusal_after judged.reads refusal) (answered ∙ ap (answer_of_outcome judged.reads) refused) refl) refl)
-    write_refused refusal (inr none) = inr (ap (λ r. Refused r) none, keeps_all engine streams has)
+    write_refused refusal (inr none) = inr (write_may_lack, ap (λ r. Refused r) none, keeps_all engine streams has)
 
     -- it finds no tuple
     pub write_finds_none : judged.outcome ≡ Ok nothing → (tuples : List (List ℕ)) → tuples ≡ [] → TellsOrLacks engine engine streams name (states_alone streams statement) (Tuples tuples)
@@ -319,9 +324,10 @@ is_writable_node engine streams mine has is taken = ap (λ ids. ids.me) (sym has
 -- a SELECT by itself
 pub select_told : (engine : Engine) (streams : Streams) (name : TxnName) (space index limit offset iterator : ℕ) (key : List ℕ) (reply : Reply) → HasStreams engine streams
     → IsReplyOf reply (select_answer_in (newest_state streams) space index limit offset (iterator_of iterator) key)
-    → TellsOrLacks engine engine streams name (states_alone streams (record { space = space; operation = Selects index limit offset iterator key })) reply
+    → AnswersStatement engine engine streams name (states_alone streams (record { space = space; operation = Selects index limit offset iterator key })) reply
 select_told engine streams name space index limit offset iterator key reply has (inl told) =
     let statement : Statement = record { space = space; operation = Selects index limit offset iterator key } in
     inl (stays_told engine engine streams name (states_alone streams statement) reply (select_answer_in (newest_state streams) space index limit offset (iterator_of iterator) key).reply has refl refl
     (alone_unwritten streams statement (select_no_row (newest_state streams) space index limit offset (iterator_of iterator) key)) told)
-select_told engine streams name space index limit offset iterator key reply has (inr none) = inr (none, keeps_all engine streams has)
+select_told engine streams name space index limit offset iterator key reply has (inr none) =
+    inr (alone_may_lack streams (record { space = space; operation = Selects index limit offset iterator key }) refl, none, keeps_all engine streams has)

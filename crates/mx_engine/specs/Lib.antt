@@ -1,3 +1,4 @@
+pub mod SelectFaults
 pub mod Standing
 pub mod StatementViews
 pub mod Steps

@@ -9,17 +9,18 @@ use Rattle.mx_row.specs.declared.row.Row.{Row}
 use Rattle.mx_row.specs.declared.tx.Tx.{Tx}
 use Rattle.mx_schema.specs.Catalogues.{schema_of}
 use Rattle.mx_space.specs.declared.prepared.Step.{Step}
-use Rattle.mx_space.specs.Reserves.{IsReserved, PlainChange, state_with_all}
+use Rattle.mx_space.specs.Reserves.{IsReserved}
+use Rattle.mx_entries.specs.PlainChanges.{PlainChange, state_with_all}
 use Rattle.mx_space.specs.Stored.{Holds}
 use Rattle.mx_tracker.specs.declared.touched.Touched as coded
 use Rattle.mx_txn.specs.declared.state.TxnState.TheVariants as txn
 use Rattle.mx_txn.specs.Slots.{max_open}
-use Rattle.mx_write.specs.declared.made.Made as code
+use Rattle.mx_judge.specs.declared.made.Made as code
 use Rattle.mx_write.specs.declared.writable.Writer.TheVariants.{Client}
 use Rattle.mx_write.specs.declared.write.Write.{Write}
 use Rattle.mx_write.specs.Judge.{judged_write}
 use Rattle.mx_write.specs.Made.{Made, row_with}
-use Rattle.mx_write.specs.Makes.{MakesWrite}
+use Rattle.mx_judge.specs.Makes.{MakesWrite}
 use Rattle.mx_write.specs.Notes.{AddsReads, Noted}
 use Rattle.mx_write.specs.Views.{write_view}
 use Rattle.mx_write.specs.Writable.{describes_schema}
@@ -33,7 +34,7 @@ use Rattle.mx_model.specs.Overlaps.{Active, Transaction, statements_in}
 use Rattle.mx_model.specs.RunAlone.{Run, answer_in_run, run_alone}
 use Rattle.mx_model.specs.statements.Answer.{Answer}
 use Rattle.mx_model.specs.statements.Statement.{Statement}
-use Rattle.mx_model.specs.Streams.{Outcome, Streams, commit_with, may_lack_memory, outcome_of, standing_now, streams_after, transaction_named}
+use Rattle.mx_model.specs.Streams.{Outcome, Streams, commit_may_lack, commit_with, may_lack_memory, outcome_of, standing_now, statement_may_lack, streams_after, transaction_named}
 use Rattle.mx_model.specs.Transactions.{is_schema_commit}
 use Rattle.mx_engine.specs.declared.engine.Engine.{Engine}
 use Rattle.mx_engine.specs.declared.answer.Answered.{Answered}
@@ -81,10 +82,23 @@ abbrev pub TellsOrLacks : (old new : Engine) → Streams → TxnName → Outcome
 TellsOrLacks old new streams name outcome reply =
     TellsOutcome old new streams name outcome reply ⊎ ((reply ≡ Refused OutOfMemory) × Keeps old new streams)
 
--- a request is told what is demanded; where it may lack memory, it may be told that
+-- so it is where memory may be lacking; elsewhere the outcome is told
+abbrev pub AnswersOutcome : (may_lack : Bool) (old new : Engine) → Streams → TxnName → Outcome → Reply → Type 0
+AnswersOutcome may_lack old new streams name outcome reply =
+    TellsOutcome old new streams name outcome reply ⊎ ((may_lack ≡ true) × (reply ≡ Refused OutOfMemory) × Keeps old new streams)
+
+-- a statement is told its outcome; where that may lack memory, it may be told that
+abbrev pub AnswersStatement : (old new : Engine) → Streams → TxnName → Outcome → Reply → Type 0
+AnswersStatement old new streams name outcome reply = AnswersOutcome (statement_may_lack outcome) old new streams name outcome reply
+
+-- so is a COMMIT
+abbrev pub AnswersCommit : (old new : Engine) → Streams → TxnName → Outcome → Reply → Type 0
+AnswersCommit old new streams name outcome reply = AnswersOutcome (commit_may_lack outcome) old new streams name outcome reply
+
+-- and every request
 abbrev pub AnswersRequest : (old new : Engine) → Streams → TxnName → Request → Reply → Type 0
 AnswersRequest old new streams name asked reply =
-    TellsOutcome old new streams name (outcome_of streams name asked) reply ⊎ ((may_lack_memory asked ≡ true) × (reply ≡ Refused OutOfMemory) × Keeps old new streams)
+    AnswersOutcome (may_lack_memory asked (outcome_of streams name asked)) old new streams name (outcome_of streams name asked) reply
 
 -- ---- open transactions
 

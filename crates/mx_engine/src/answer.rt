@@ -6,7 +6,7 @@ ghost use Rattle.mx_engine.specs.Views.{reply_of, reply_view};
 use mx_msgpack::Tuples;
 
 /// The answer to a request that isn't refused.
-#[derive(Debug, Drop)]
+#[derive(Drop)]
 pub enum Answer {
     /// The tuples that were found, or the one that was put in its place.
     Tuples(Tuples),
@@ -17,7 +17,7 @@ pub enum Answer {
 }
 
 /// What a request is answered that isn't refused, whose tuples stand beside it.
-#[derive(Clone, Copy, Debug, Drop)]
+#[derive(Clone, Copy, Drop)]
 pub enum Answered {
     /// The tuples that were found, or the one that was put in its place.
     Tuples,

@@ -18,20 +18,21 @@ ghost use Rattle.mx_model.specs.Transactions.{schema_version};
 ghost use Rattle.mx_model.specs.statements.Statement.{statement_of};
 ghost use Rattle.mx_engine.specs.Standing.{EngineStandsFor, HasStreams};
 ghost use Rattle.mx_engine.specs.StatementViews.{AreKeysArrays, statement_view};
-ghost use Rattle.mx_engine.specs.Steps.{AnswersRequest, CountsStep, SameNode, TellsOrLacks};
+ghost use Rattle.mx_engine.specs.Steps.{AnswersRequest, AnswersStatement, CountsStep, SameNode};
 ghost use Rattle.mx_engine.specs.Views.{reply_of, reply_view};
 
 use crate::answer::{Answer, Answered};
 use crate::pending::Pending;
 use crate::statement::{StatementRef, statement_in, statement_of};
+use crate::txs::Txs;
 use mx_base::{ConnId, Refusal, TxnName};
-use mx_model::{Ids, Txs, WRITABLE_NODE};
+use mx_judge::not_built;
+use mx_model::{Ids, WRITABLE_NODE};
 use mx_msgpack::Tuples;
 use mx_request::{Request, RequestRef};
 use mx_space::State;
 use mx_transactions::OpenTransactions;
 use mx_vclock::Vclock;
-use mx_write::not_built;
 use std::alloc::{AllocError, Global};
 
 // The numbers of the types of requests that are no statements.
@@ -245,7 +246,7 @@ impl Engine {
     ) -> Result<Answered, Refusal>
         requires arrays { AreKeysArrays statement.now }
         ensures answers { (streams : Streams) → HasStreams self.old streams → AllStandAlone streams → AllHaveStreams streams.transactions → CountsStep self.old → OperationHasBytes (statement_view statement.now).operation
-            → TellsOrLacks self.old self.new streams name (states streams (transaction_named name streams.transactions) (statement_view statement.now)) (reply_of result found.new) }
+            → AnswersStatement self.old self.new streams name (states streams (transaction_named name streams.transactions) (statement_view statement.now)) (reply_of result found.new) }
         ensures keeps { SameNode self.old self.new }
     {
         let is_outside = name.stream.0 == 0;
@@ -266,7 +267,7 @@ impl Engine {
     ) -> Result<Answered, Refusal>
         requires arrays { AreKeysArrays statement.now }
         ensures answers { (streams : Streams) (name : TxnName) → HasStreams self.old streams → AllStandAlone streams → CountsStep self.old → OperationHasBytes (statement_view statement.now).operation
-            → TellsOrLacks self.old self.new streams name (states_alone streams (statement_view statement.now)) (reply_of result found.new) }
+            → AnswersStatement self.old self.new streams name (states_alone streams (statement_view statement.now)) (reply_of result found.new) }
         ensures keeps { SameNode self.old self.new }
     {
         match statement {

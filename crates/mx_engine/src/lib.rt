@@ -7,7 +7,9 @@ mod pending;
 mod statement;
 mod statements;
 mod transactions;
+mod txs;
 
 pub use answer::{Answer, Answered};
 pub use engine::Engine;
 pub use pending::Pending;
+pub use txs::Txs;

@@ -1,9 +1,9 @@
 //! Commits that wait to be written.
 
-use mx_model::Txs;
+use crate::txs::Txs;
 
 /// The commits that weren't taken before.
-#[derive(Debug, Drop)]
+#[derive(Drop)]
 pub struct Pending {
     /// The transactions, the first of them first.
     pub txs: Txs,

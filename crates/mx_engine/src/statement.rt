@@ -19,7 +19,7 @@ use mx_space::Pick;
 use mx_write::{Write, describes_schema, write_in, write_of_request};
 
 /// A SELECT.
-#[derive(Clone, Copy, Debug)]
+#[derive(Clone, Copy)]
 pub(crate) struct SelectRef<'a> {
     pub space: SpaceId,
     pub index: IndexId,
@@ -30,7 +30,7 @@ pub(crate) struct SelectRef<'a> {
 }
 
 /// A SELECT, or a write in a space.
-#[derive(Clone, Copy, Debug)]
+#[derive(Clone, Copy)]
 pub(crate) enum StatementRef<'a> {
     Select(SelectRef<'a>),
     Write { space: SpaceId, write: Write<'a> },

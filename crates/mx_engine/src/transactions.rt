@@ -22,12 +22,13 @@ ghost use Rattle.mx_model.specs.Streams.{Ends, Streams, commits_rows};
 ghost use Rattle.mx_transactions.specs.Open.{HaveOwnSlots, SpellsKey, in_order, newest_state, slot_named};
 ghost use Rattle.mx_transactions.specs.OpenSteps.{AreMarks, FindsIn, KeepsMore, Moves, SpellsRows};
 ghost use Rattle.mx_engine.specs.Standing.{HasStreams};
-ghost use Rattle.mx_engine.specs.Steps.{AnswersRequest, CountsStep, IsActiveIn, Keeps, ReadiesOthers, Reserves, SameButOpen, SameNode, TellsOutcome, TellsOrLacks, newest_run};
+ghost use Rattle.mx_engine.specs.Steps.{AnswersCommit, AnswersRequest, CountsStep, IsActiveIn, Keeps, ReadiesOthers, Reserves, SameButOpen, SameNode, TellsOutcome, newest_run};
 ghost use Rattle.mx_engine.specs.Views.{reply_of};
 
 use crate::answer::Answered;
 use crate::engine::Engine;
 use mx_base::{Lsn, Refusal, ReplicaId, TxnName, keys};
+use mx_judge::touch_stood;
 use mx_model::WRITABLE_NODE;
 use mx_row::{Rows, Tx};
 use mx_space::{Prepared, State};
@@ -35,7 +36,6 @@ use mx_tracker::{MarkSet, TouchedKeys};
 use mx_transactions::{ChangedKey, OpenTransactions};
 use mx_txn::{Slot, TxnState};
 use mx_vclock::MAX_LSN;
-use mx_write::touch_stood;
 use std::alloc::{AllocError, Global};
 
 impl Engine {
@@ -106,7 +106,7 @@ impl Engine {
     fn commit_active(&mut self, name: TxnName, slot: Slot) -> Result<Answered, Refusal>
         requires { slot_named name self.old.open.names ≡ Some slot }
         ensures answers { (streams : Streams) (one : Transaction) (found : List (List ℕ)) → AllStandAlone streams → IsActiveIn self.old streams name slot one → CountsStep self.old
-            → TellsOrLacks self.old self.new streams name (commits_rows streams (newest_run streams one).rows) (reply_of result found) }
+            → AnswersCommit self.old self.new streams name (commits_rows streams (newest_run streams one).rows) (reply_of result found) }
         ensures keeps { SameNode self.old self.new }
     {
         let rows = self.open.work(slot).rows.as_slice().len();

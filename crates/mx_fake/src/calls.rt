@@ -6,7 +6,7 @@ ghost use Rattle.mx_outside.specs.Causes.{HasCause, Rose};
 use mx_outside::Failed;
 
 /// The calls of an object: how many there were, how many failed, and which are to fail, counted from 1.
-#[derive(Debug, Drop)]
+#[derive(Drop)]
 pub(crate) struct Calls {
     made: u64,
     pub(crate) faults: u64,

@@ -7,7 +7,7 @@ ghost use Rattle.mx_fake.specs.Changes.{step};
 use std::alloc::{AllocError, Global};
 
 /// A call that changed a directory in memory.
-#[derive(Debug, Drop)]
+#[derive(Drop)]
 pub(crate) enum Change {
     /// A file was created, or emptied.
     Create { name: String },

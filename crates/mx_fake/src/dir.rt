@@ -1,7 +1,7 @@
 //! A directory in memory.
 
-ghost use Rattle.std.specs.Prelude.{◌≡◌, ◌≢◌, ◌↔◌, ◌∷◌, ◌++◌, [], Some, Err, IfOk, OnOk, OnErr, IsTrue, List, drop};
-ghost use Rattle.mx_outside.specs.Causes.{HasCauseOf};
+ghost use Rattle.std.specs.Prelude.{◌≡◌, ◌≢◌, ◌↔◌, ◌∷◌, ◌++◌, [], Some, Err, IfOk, OnOk, OnErr, IsTrue, List, drop, false};
+ghost use Rattle.mx_outside.specs.Causes.{HasCauseOf, SyncsOnlyWhole};
 ghost use Rattle.mx_outside.specs.Disks.{Disk, IsThere, Makes, KnownAlike};
 ghost use Rattle.mx_outside.specs.declared.dir.DirFault.TheVariants.{Failed};
 ghost use Rattle.mx_fake.specs.Changes.{step, no_files, MayLeave, MakesOrLeaves};
@@ -20,10 +20,11 @@ use std::alloc::{AllocError, Global};
 /// A restart is a crash. The names that changed since the names were synced count from 0 in ascending
 /// order, and number `i` is as it was then where the bit `i % 8` of the choice is set, and else as it
 /// is now. `choice / 256` is how many bytes of each file stay beyond its synced ones.
-#[derive(Debug, Drop)]
+#[derive(Drop)]
 pub struct MemoryDir {
     calls: Calls,
     done: u32,
+    lost: bool,
     changes: Vec<Change>,
 }
 
@@ -49,6 +50,7 @@ impl MemoryDir {
         MemoryDir {
             calls: Calls::new(failing),
             done,
+            lost: false,
             changes: Vec::new(alloc),
         }
     }
@@ -62,8 +64,18 @@ impl MemoryDir {
         Ok(there)
     }
 
+    /// The same files as another process finds them, whose syncs may succeed though one failed here.
+    pub fn reopen(&mut self)
+        ensures states { dir_states self.new ≡ dir_states self.old }
+        ensures faults { dir_faults self.new ≡ dir_faults self.old }
+        ensures lost { self.new.lost ≡ false }
+    {
+        self.lost = false;
+    }
+
     fn begin(&mut self) -> Result<(), DirFault>
         ensures changes { self.new.changes.items ≡ self.old.changes.items }
+        ensures lost { self.new.lost ≡ self.old.lost }
         ensures cause { HasCauseOf Failed (dir_faults self.old) (dir_faults self.new) result }
     {
         match self.calls.make() {
@@ -74,6 +86,7 @@ impl MemoryDir {
 
     fn note(&mut self, change: Change) -> Result<(), AllocError>
         ensures calls { self.new.calls ≡ self.old.calls }
+        ensures lost { self.new.lost ≡ self.old.lost }
         ensures ok { OnOk result (self.new.changes.items ≡ self.old.changes.items ++ change ∷ []) }
         ensures err { OnErr result (self.new.changes.items ≡ self.old.changes.items) }
     {
@@ -84,6 +97,7 @@ impl MemoryDir {
     /// Makes the change of a call that was counted.
     fn finish(&mut self, change: Result<Change, AllocError>) -> Result<(), DirFault>
         ensures calls { self.new.calls ≡ self.old.calls }
+        ensures lost { self.new.lost ≡ self.old.lost }
         ensures made { (f : Disk → Disk) → IfOk change (λ change. step change ≡ f) → Makes f (dir_states self.old) (dir_states self.new) result }
         ensures fault { result ≢ Err Failed }
     {
@@ -99,6 +113,7 @@ impl MemoryDir {
     /// Makes what a call that failed has done.
     fn leave(&mut self, part: Result<Change, AllocError>)
         ensures calls { self.new.calls ≡ self.old.calls }
+        ensures lost { self.new.lost ≡ self.old.lost }
         ensures left { (f : Disk → Disk) → IfOk part (λ part. step part ≡ f) → MayLeave f (dir_states self.old) (dir_states self.new) }
         ensures none { self.old.done ≡ 0 → dir_states self.new ≡ dir_states self.old }
     {
@@ -114,10 +129,44 @@ impl MemoryDir {
     fn make(&mut self, change: Result<Change, AllocError>) -> Result<(), DirFault>
         ensures told { KnownAlike (dir_states self.old) (dir_states self.new) }
         ensures made { (f : Disk → Disk) → IfOk change (λ change. step change ≡ f) → Makes f (dir_states self.old) (dir_states self.new) result }
+        ensures lost { self.new.lost ≡ self.old.lost }
         ensures cause { HasCauseOf Failed (dir_faults self.old) (dir_faults self.new) result }
     {
         self.begin()?;
         self.finish(change)
+    }
+
+    /// Counts a call that fails.
+    fn refuse(&mut self) -> Result<(), DirFault>
+        ensures told { KnownAlike (dir_states self.old) (dir_states self.new) }
+        ensures states { dir_states self.new ≡ dir_states self.old }
+        ensures lost { self.new.lost ≡ self.old.lost }
+        ensures refused { result ≡ Err Failed }
+        ensures cause { HasCauseOf Failed (dir_faults self.old) (dir_faults self.new) result }
+    {
+        let _ = self.begin();
+        self.calls.fail();
+        Err(DirFault::Failed)
+    }
+
+    /// Counts a sync, and makes its change. Once one has failed, each fails.
+    fn make_durable(&mut self, change: Result<Change, AllocError>) -> Result<(), DirFault>
+        ensures told { KnownAlike (dir_states self.old) (dir_states self.new) }
+        ensures made { (f : Disk → Disk) → IfOk change (λ change. step change ≡ f) → Makes f (dir_states self.old) (dir_states self.new) result }
+        ensures lost { SyncsOnlyWhole Failed self.old.lost self.new.lost result }
+        ensures cause { HasCauseOf Failed (dir_faults self.old) (dir_faults self.new) result }
+    {
+        if self.lost {
+            return self.refuse();
+        }
+        match self.make(change) {
+            Ok(()) => Ok(()),
+            Err(DirFault::Failed) => {
+                self.lost = true;
+                Err(DirFault::Failed)
+            }
+            Err(DirFault::NoMemory) => Err(DirFault::NoMemory),
+        }
     }
 
     /// Counts a call, and makes its change, or if it fails perhaps a part of it.
@@ -129,6 +178,7 @@ impl MemoryDir {
         ensures told { KnownAlike (dir_states self.old) (dir_states self.new) }
         ensures made { (f g : Disk → Disk) → IfOk change (λ change. step change ≡ f) → IfOk part (λ part. step part ≡ g)
             → MakesOrLeaves f g (dir_states self.old) (dir_states self.new) result }
+        ensures lost { self.new.lost ≡ self.old.lost }
         ensures cause { HasCauseOf Failed (dir_faults self.old) (dir_faults self.new) result }
     {
         match self.begin() {
@@ -144,6 +194,7 @@ impl MemoryDir {
     fn look(&mut self, alloc: Global) -> Result<Tables, DirFault>
         ensures changes { self.new.changes.items ≡ self.old.changes.items }
         ensures tables { IfOk result (λ tables. (disk : Disk) (past : List Disk) → dir_states self.old ≡ Some (disk ∷ past) → IsTablesOf disk tables) }
+        ensures lost { self.new.lost ≡ self.old.lost }
         ensures cause { HasCauseOf Failed (dir_faults self.old) (dir_faults self.new) result }
     {
         self.begin()?;
@@ -174,6 +225,8 @@ impl Dir for MemoryDir {
     ghost states = { dir_states };
 
     ghost faults = { dir_faults };
+
+    ghost has_lost = { λ d. d.lost };
 
     fn list(&mut self, alloc: Global) -> Result<Names, DirFault> {
         let tables = self.look(alloc)?;
@@ -215,11 +268,11 @@ impl Dir for MemoryDir {
     }
 
     fn sync(&mut self, alloc: Global, name: &str) -> Result<(), DirFault> {
-        self.make(Change::sync(alloc, name))
+        self.make_durable(Change::sync(alloc, name))
     }
 
     fn sync_names(&mut self, _alloc: Global) -> Result<(), DirFault> {
-        self.make(Ok(Change::SyncNames))
+        self.make_durable(Ok(Change::SyncNames))
     }
 
     fn rename(&mut self, alloc: Global, from: &str, to: &str) -> Result<(), DirFault> {
@@ -234,6 +287,7 @@ impl Dir for MemoryDir {
     }
 
     fn restart(&mut self, _alloc: Global, choice: u32) -> Result<(), DirFault> {
+        self.reopen();
         self.make(Ok(Change::Crash { choice }))
     }
 }

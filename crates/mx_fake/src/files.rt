@@ -14,7 +14,7 @@ use std::collections::BTreeMap;
 use std::marker::Model;
 
 /// Files by name.
-#[derive(Debug, Drop)]
+#[derive(Drop)]
 pub(crate) struct Files {
     stored: BTreeMap<String, Stored>,
 }

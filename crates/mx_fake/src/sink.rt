@@ -10,7 +10,7 @@ use mx_outside::{Failed, Sink};
 use std::alloc::Global;
 
 /// A sink in memory. It takes all bytes of a write.
-#[derive(Debug, Drop)]
+#[derive(Drop)]
 pub struct MemorySink {
     bytes: Vec<u8>,
     passed: usize,

@@ -7,7 +7,7 @@ use crate::calls::Calls;
 use mx_outside::{Failed, Source};
 
 /// A source in memory.
-#[derive(Debug, Drop)]
+#[derive(Drop)]
 pub struct MemorySource {
     bytes: Vec<u8>,
     at: usize,

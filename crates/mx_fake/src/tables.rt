@@ -15,7 +15,7 @@ use std::collections::BTreeMap;
 use std::mem;
 
 /// The files, and of each name that changed since the names were synced what it was then.
-#[derive(Debug, Drop)]
+#[derive(Drop)]
 pub(crate) struct Tables {
     files: Files,
     before: BTreeMap<String, Option<Stored>>,

@@ -90,9 +90,6 @@ take-journal_name number = front_of 20 (digits 20 number) (codes ".xlog") (lengt
 pub journal_name-is_journal : (number : ℕ) → is_journal (journal_name number) ≡ true
 journal_name-is_journal number = is_numbered-true (codes ".xlog") (digits 20 number) (length-digits 20 number) (are_digits 20 number)
 
-pub journal_name-is_snapshot : (number : ℕ) → is_snapshot (journal_name number) ≡ false
-journal_name-is_snapshot number = is_numbered-false (codes ".snap") (digits 20 number) (codes ".xlog") (length-digits 20 number) refl
-
 draft_name : (number : ℕ) → journal_name number ++ draft_ending ≡ digits 20 number ++ codes ".xlog.inprogress"
 draft_name number = append_assoc (digits 20 number) (codes ".xlog") draft_ending
 
@@ -111,9 +108,6 @@ pub draft-is_snapshot : (number : ℕ) → is_snapshot (journal_name number ++ d
 draft-is_snapshot number =
     ap is_snapshot (draft_name number)
     ∙ is_numbered-false (codes ".snap") (digits 20 number) (codes ".xlog.inprogress") (length-digits 20 number) refl
-
-pub journal_is_no_snapshot : (name : List ℕ) → is_journal name ≡ true → is_snapshot name ≡ false
-journal_is_no_snapshot name is = one_ending (codes ".xlog") (codes ".snap") name is refl
 
 pub snapshot_is_no_journal : (name : List ℕ) → is_snapshot name ≡ true → is_journal name ≡ false
 snapshot_is_no_journal name is = one_ending (codes ".snap") (codes ".xlog") name is refl
@@ -197,16 +191,6 @@ same_list (x ∷ xs) = ap (λ o. ordering_then o (slice_cmp nat_cmp xs xs)) (nat
 not_greater : (o : Ordering) → (o ≡ Less) ⊎ (o ≡ Equal) → o ≡ Greater → ⊥
 not_greater o (inl less) greater = cc
 not_greater o (inr same) greater = cc
-
--- at most as late, of the whole name and of the digits
-pub name_order-at_most : (m n : ℕ) → m ≤ n → n < 10 ^ 20 → slice_cmp nat_cmp (journal_name m) (journal_name n) ≢ Greater
-name_order-at_most m n below fits = by_order (cases_lt m n)
-  where
-    by_order : (m < n) ⊎ (n ≤ m) → slice_cmp nat_cmp (journal_name m) (journal_name n) ≢ Greater
-    by_order (inl less) = not_greater _ (inl (name_order m n less fits))
-    by_order (inr above) =
-        let same : m ≡ n = omega arith in
-        not_greater _ (inr (ap (λ k. slice_cmp nat_cmp (journal_name k) (journal_name n)) same ∙ same_list (journal_name n)))
 
 pub front_order-at_most : (m n : ℕ) → m ≤ n → n < 10 ^ 20 → slice_cmp nat_cmp (take 20 (journal_name m)) (take 20 (journal_name n)) ≢ Greater
 front_order-at_most m n below fits = by_order (cases_lt m n)

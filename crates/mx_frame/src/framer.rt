@@ -9,7 +9,7 @@ use std::alloc::{AllocError, Global};
 use std::marker::Model;
 
 /// The bytes of a connection that came and weren't passed yet, split into packets.
-#[derive(Debug, Drop)]
+#[derive(Drop)]
 pub struct Framer {
     /// The bytes from `start` on weren't passed yet.
     buffer: Vec<u8>,
@@ -29,7 +29,7 @@ impl Model for Framer {
 }
 
 /// What the bytes begin with that weren't passed.
-#[derive(Clone, Copy, Debug, PartialEq, Eq)]
+#[derive(Clone, Copy, PartialEq, Eq)]
 pub enum Framed<'a> {
     /// A whole packet, without its size.
     Packet(&'a [u8]),

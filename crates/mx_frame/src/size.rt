@@ -10,7 +10,7 @@ use byteorder::{BigEndian, ByteOrder};
 const MAX_PACKET_SIZE: u64 = 2_097_152;
 
 /// What bytes begin with, where a packet's size is expected.
-#[derive(Clone, Copy, Debug)]
+#[derive(Clone, Copy)]
 pub(crate) enum Size {
     /// A size, spelled in `head` bytes.
     Whole { head: usize, size: usize },

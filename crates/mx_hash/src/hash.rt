@@ -12,7 +12,7 @@ use std::collections::HashMap;
 use std::marker::Model;
 
 /// A number for each of some byte strings.
-#[derive(Debug, Drop)]
+#[derive(Drop)]
 pub struct Hash {
     alloc: Global,
     numbers: HashMap<Bytes, u64>,

@@ -6,7 +6,7 @@ use mx_msgpack::Bytes;
 use std::marker::Model;
 
 /// A list of byte strings.
-#[derive(Debug, Drop)]
+#[derive(Drop)]
 pub struct Keys {
     items: Vec<Bytes>,
 }

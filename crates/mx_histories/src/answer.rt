@@ -2,8 +2,10 @@
 
 use crate::line::Line;
 use mx_base::{ConnId, Refusal, TxnName, code_of};
-use mx_model::{Ids, Reply, Slow, bootstrap};
+use mx_model::{Ids, Reply};
+use mx_recover::bootstrap;
 use mx_request::{RequestFault, read_request};
+use mx_slow::Slow;
 use mx_vclock::Vclock;
 use std::alloc::{AllocError, Global};
 

@@ -1,9 +1,11 @@
 -- What calls on a directory make of its disk.
-use Rattle.std.specs.Prelude.{◌≡◌, ℕ, true, false, List, ◌∷◌, Option, Some}
+use Rattle.std.specs.Prelude.{◌≡◌, ◌⊎◌, ℕ, true, false, List, ◌∷◌, ◌++◌, Option, Some, None}
 use Rattle.std.specs.Option.{option_map}
 use Rattle.std.specs.FinMap as finite
 use Rattle.mx_outside.specs.Disks.{Disk, File, Files, IfKnown, appended, created, file_synced, names_synced, renamed}
 use Rattle.mx_files.specs.Names.{same_bytes, counts, is_ours}
+use Rattle.mx_xlog.specs.declared.head.Head.{Head}
+use Rattle.mx_xlog.specs.Headers.{header_of}
 
 -- the newest state has this
 abbrev pub IsNow : Option (List Disk) → (Disk → Type 0) → Type 0
@@ -35,9 +37,15 @@ abbrev pub SameBut : List ℕ → Files → Files → Type 0
 SameBut name one other =
     (q : List ℕ) → counts q ≡ true → same_bytes q name ≡ false → finite.get other q ≡ finite.get one q
 
--- every file that isn't ours is as it was
-abbrev pub KeepsOthers : Disk → Disk → Type 0
-KeepsOthers older newer = (name : List ℕ) → is_ours name ≡ false → finite.get newer.now name ≡ finite.get older.now name
+-- the file is still there, with more bytes at most behind those that it had; or one that begins, of a header alone, has its place
+abbrev pub StaysOrBegins : File → Option File → Type 0
+StaysOrBegins file None = ⊥
+StaysOrBegins file (Some now) = ((more : List ℕ) × (now.bytes ≡ file.bytes ++ more)) ⊎ ((head : Head) × (now.bytes ≡ header_of head))
+
+-- every file that isn't ours is as it was, and each journal and snapshot is still there or gave place to one that begins
+pub record KeepsOthers (older newer : Disk) : Type 0 where
+  pub foreign : (name : List ℕ) → is_ours name ≡ false → finite.get newer.now name ≡ finite.get older.now name
+  pub ours : (name : List ℕ) (file : File) → counts name ≡ true → finite.get older.now name ≡ Some file → StaysOrBegins file (finite.get newer.now name)
 
 -- each journal and snapshot is there where it was, and has the bytes that it had
 abbrev pub SameContents : Files → Files → Type 0

@@ -1,28 +1,20 @@
--- Groups of transactions and their blocks, and what a transaction more makes of those that wait.
-use Rattle.std.proofs.Common.{◌≡◌, ℕ, zero, suc, ◌+◌, ◌≤◌, Bool, true, false, List, [], ◌∷◌, ◌++◌, map, take, drop, refl, sym, ap, ◌∙◌, arith, length, append_assoc}
-use Rattle.std.proofs.lemmas.List.{append-nil, map-append, length-append, length_push, take_at, take-append-drop}
-use mathlib.Core.Path.{subst}
-use Rattle.std.proofs.lemmas.List.Folds.{concat-append}
-use Rattle.std.specs.List.{concat, AllByRecursion}
+-- What the blocks of groups say of their transactions, and what a transaction more makes of those that wait.
+use Rattle.std.proofs.Common.{◌≡◌, ℕ, zero, suc, ◌+◌, ◌≤◌, List, [], ◌∷◌, ◌++◌, map, take, drop, refl, sym, ap, ◌∙◌, arith, length, append_assoc}
+use Rattle.std.proofs.lemmas.List.{length-append, length_push, take_at, take-append-drop}
+use Rattle.std.specs.List.{AllByRecursion}
 use mathlib.Core.Bool.{true≢false}
-use Rattle.mx_xlog.specs.Blocks.{block_of, IsData}
+use Rattle.mx_xlog.specs.Blocks.{IsData}
 use Rattle.mx_row.specs.declared.tx.Tx.{Tx}
 use Rattle.mx_row.specs.Rows.{IsTransaction, transaction_text, transactions_text, transactions_of}
 use Rattle.mx_row.specs.Clocks.{clock_after, clock_after_one}
 use Rattle.mx_row.proofs.GroupLaws.{transactions_of-append}
 use Rattle.mx_row.proofs.ClockLaws.{clock_after-append}
-use Rattle.mx_row.proofs.TextLaws.{transaction_length}
 use Rattle.mx_journal.specs.declared.journal.Journal.{Journal}
-use Rattle.mx_journal.specs.Written.{AreGroups, Waits, blocks_text}
+use Rattle.mx_journal.specs.Groups.{AreGroups, Packs, blocks_text, whole_text}
+use Rattle.mx_journal.specs.Written.{Waits}
+use Rattle.mx_journal.proofs.PackLaws.{all_joined, block_text, is_none, transaction_data, waiting_blocks}
 use Rattle.mx_xlog.specs.Reading.{blocks_of}
 use Rattle.mx_xlog.proofs.ReadingLaws.{blocks_of_block}
-
--- a transaction fits into a block
-pub transaction_data : (transaction : Tx) → IsTransaction transaction → IsData (transaction_text transaction)
-transaction_data transaction is = let l = transaction_length transaction is in record { some = l.0; bounded = l.1 }
-
-abbrev block_text : List Tx → List ℕ
-block_text group = block_of (transactions_text group)
 
 -- blocks of groups, and after them no block
 pub blocks_again : (groups : List (List Tx)) (tail : List ℕ) → AllByRecursion (λ group. IsData (transactions_text group)) groups
@@ -34,13 +26,6 @@ blocks_again (group ∷ others) tail (is, fit) ends =
     ∙ blocks_of_block (transactions_text group) (rest ++ tail) is
     ∙ ap (λ (blocks : List (List ℕ)). transactions_text group ∷ blocks) (blocks_again others tail fit ends)
 
-pub blocks_text-append : (xs ys : List (List Tx)) → blocks_text (xs ++ ys) ≡ blocks_text xs ++ blocks_text ys
-blocks_text-append xs ys = ap concat (map-append block_text xs ys) ∙ concat-append (map block_text xs) (map block_text ys)
-
-abbrev is_none : List ℕ → Bool
-is_none [] = true
-is_none (byte ∷ bytes) = false
-
 -- no bytes are the blocks of no group
 pub no_group : (groups : List (List Tx)) → [] ≡ blocks_text groups → groups ≡ []
 no_group [] none = refl
@@ -48,34 +33,9 @@ no_group (group ∷ groups) none = absurd (true≢false (ap is_none none))
 
 -- ---- groups of transactions
 
-all_joined : {X : Type 0} (P : X → Type 0) (xs ys : List X) → AllByRecursion P xs → AllByRecursion P ys → AllByRecursion P (xs ++ ys)
-all_joined P [] ys first second = second
-all_joined P (x ∷ xs) ys (is, first) second = (is, all_joined P xs ys first second)
-
 -- transactions, and others after them
 pub all_sound : (xs ys : List Tx) → AllByRecursion IsTransaction xs → AllByRecursion IsTransaction ys → AllByRecursion IsTransaction (xs ++ ys)
 all_sound = all_joined IsTransaction
-
-pub groups_joined : (some more : List (List Tx)) (xs ys : List Tx) → AreGroups some xs → AreGroups more ys → AreGroups (some ++ more) (xs ++ ys)
-groups_joined some more xs ys first second = record {
-  together = transactions_of-append some more ∙ ap (λ l. l ++ transactions_of more) first.together ∙ ap (λ l. xs ++ l) second.together;
-  fit = all_joined (λ group. IsData (transactions_text group)) some more first.fit second.fit;
-}
-
--- a group of one transaction
-abbrev pub alone : Tx → List (List Tx)
-alone tx = (tx ∷ []) ∷ []
-
-alone_fits : (tx : Tx) → IsTransaction tx → AreGroups (alone tx) (tx ∷ [])
-alone_fits tx is = record {
-  together = refl;
-  fit = (subst IsData (sym (append-nil (transaction_text tx))) (transaction_data tx is), tt);
-}
-
-blocks_text-push : (groups : List (List Tx)) (tx : Tx) → blocks_text (groups ++ alone tx) ≡ blocks_text groups ++ block_of (transaction_text tx)
-blocks_text-push groups tx =
-    blocks_text-append groups (alone tx) ∙ ap (λ bytes. blocks_text groups ++ bytes) (append-nil (block_text (tx ∷ [])))
-    ∙ ap (λ rows. blocks_text groups ++ block_of rows) (append-nil (transaction_text tx))
 
 -- no group is without a transaction
 pub none_grouped : (groups : List (List Tx)) → AreGroups groups [] → groups ≡ []
@@ -83,8 +43,10 @@ none_grouped [] are = refl
 none_grouped ([] ∷ groups) are = absurd (omega (arith, are.fit.0.some))
 none_grouped ((tx ∷ txs) ∷ groups) are = absurd (omega (arith, ap length are.together))
 
-pub none_waits : (journal : Journal) → Waits journal [] → journal.waiting ≡ []
-none_waits journal waits = waits.bytes ∙ ap blocks_text (none_grouped waits.groups waits.grouped)
+-- where no transaction waits, there is nothing to write
+pub none_waits : (journal : Journal) → Waits journal [] → whole_text journal.waiting ≡ []
+none_waits journal waits =
+    waiting_blocks [] journal.waiting waits.packs ∙ ap blocks_text (none_grouped waits.packs.groups waits.packs.packed.grouped)
 
 -- the first groups have the first transactions
 pub groups_front : (groups : List (List Tx)) (all : List Tx) (count : ℕ) → AreGroups groups all
@@ -133,12 +95,10 @@ counted_by_rows (tx ∷ txs) (suc m) (suc n) (is, sound) within same =
 
 -- one more waits
 pub waits_pushed : (before after : Journal) (waits : List Tx) (tx : Tx) → Waits before waits → IsTransaction tx
-    → after.waiting ≡ before.waiting ++ block_of (transaction_text tx) → after.next ≡ clock_after_one before.next tx
+    → Packs (waits ++ tx ∷ []) after.waiting → after.next ≡ clock_after_one before.next tx
     → after.pushed ≡ before.pushed + 1 → after.clock ≡ before.clock → after.synced ≡ before.synced → Waits after (waits ++ tx ∷ [])
-waits_pushed before after waits tx waiting is bytes next pushed clock synced = record {
-  groups = waiting.groups ++ alone tx;
-  grouped = groups_joined waiting.groups (alone tx) waits (tx ∷ []) waiting.grouped (alone_fits tx is);
-  bytes = bytes ∙ ap (λ text. text ++ block_of (transaction_text tx)) waiting.bytes ∙ sym (blocks_text-push waiting.groups tx);
+waits_pushed before after waits tx waiting is packs next pushed clock synced = record {
+  packs = packs;
   next = next ∙ ap (λ c. clock_after_one c tx) waiting.next ∙ sym (clock_after-append before.clock waits (tx ∷ []))
       ∙ ap (λ c. clock_after c (waits ++ tx ∷ [])) (sym clock);
   pushed = let l = length_push waits tx in omega (arith, waiting.pushed);

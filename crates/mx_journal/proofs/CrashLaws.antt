@@ -22,20 +22,22 @@ use Rattle.mx_row.specs.Rows.{IsTransaction, transactions_text, transactions_of}
 use Rattle.mx_row.proofs.GroupLaws.{transactions_of-append, groups_joined as rows_joined}
 use Rattle.mx_xlog.specs.Files.{ReadsAs}
 use Rattle.mx_files.specs.Names.{is_ours, same_bytes}
-use Rattle.mx_journal.proofs.BlockLaws.{blocks_again, all_sound, blocks_text-append, counted_by_rows, groups_front, groups_joined, groups_rise}
+use Rattle.mx_journal.specs.Groups.{AreGroups, blocks_text, whole_text}
+use Rattle.mx_journal.proofs.PackLaws.{blocks_text-append, groups_joined, waiting_blocks}
+use Rattle.mx_journal.proofs.BlockLaws.{blocks_again, all_sound, counted_by_rows, groups_front, groups_rise}
 use Rattle.mx_journal.specs.declared.journal.Journal.{Journal}
 use Rattle.mx_images.specs.Fair.{IsFairEnd, IsFair}
 use Rattle.mx_journal.specs.Crashes.{read_of, HasAtLeast, HasMost, NoFewer}
 use Rattle.mx_journal.specs.Making.{AppendsSynced}
 use Rattle.mx_images.specs.Changes.{Changed, KeepsOthers, with_appended, IsNow, SameOthers}
-use Rattle.mx_journal.specs.Written.{IsWritten, Waits, AreGroups, name_of, file_text, blocks_text}
+use Rattle.mx_journal.specs.Written.{IsWritten, Waits, name_of, file_text}
 use Rattle.mx_images.proofs.DiskLaws.{same_self, same_name, get_inserted, get_changed, only_one, first_one}
 use Rattle.mx_images.proofs.MomentLaws.{Steps, while_appended}
 use Rattle.mx_images.proofs.OtherLaws.{append_others}
 use Rattle.mx_images.proofs.ToldLaws.{told_both, told_weaker, where_told, now_changed}
 use Rattle.mx_journal.proofs.WrittenLaws.{bytes_extended, nothing_waits, extended_as, others_extended}
 use Rattle.mx_images.proofs.FairLaws.{fair_nothing, front_of_blocks}
-use Rattle.mx_journal.proofs.NameLaws.{name_counts, name_ours}
+use Rattle.mx_journal.proofs.MakeLaws.{name_counts, name_ours}
 
 -- ---- prefixes of lists
 
@@ -439,20 +441,21 @@ module _ (head : Head) (more : List ℕ) (txs all : List Tx) (disk : Disk) (puts
 
 -- what waits
 pub puts_waiting : (journal : Journal) (disk : Disk) (txs waits : List Tx) → IsWritten journal disk txs → Waits journal waits
-    → Puts journal.head journal.waiting txs (txs ++ waits) disk
+    → Puts journal.head (whole_text journal.waiting) txs (txs ++ waits) disk
 puts_waiting journal disk txs waits written waiting =
-    let all = groups_joined written.groups waiting.groups txs waits written.grouped waiting.grouped in
+    let groups = waiting.packs.groups in
+    let all = groups_joined written.groups groups txs waits written.grouped waiting.packs.packed.grouped in
     record {
       fits = written.fits;
       groups = written.groups;
-      later = waiting.groups;
+      later = groups;
       grouped = written.grouped;
       all_grouped = all;
       sound = all_sound txs waits written.sound waiting.sound;
       file = written.file;
       no_older = written.no_older;
-      after = ap (λ bytes. blocks_of (blocks_text written.groups ++ bytes)) waiting.bytes
-          ∙ ap blocks_of (sym (blocks_text-append written.groups waiting.groups)) ∙ groups_alone (written.groups ++ waiting.groups) all.fit;
+      after = ap (λ bytes. blocks_of (blocks_text written.groups ++ bytes)) (waiting_blocks waits journal.waiting waiting.packs)
+          ∙ ap blocks_of (sym (blocks_text-append written.groups groups)) ∙ groups_alone (written.groups ++ groups) all.fit;
     }
 
 -- the marker of the end
@@ -472,22 +475,22 @@ puts_marker journal disk txs written =
     }
 
 pub wrote_moments : {T E : Type 0} (journal : Journal) (name bytes : List ℕ) (before after : Option (List Disk)) (result : Result T E) (txs waits : List Tx)
-    → name ≡ string_bytes journal.name → bytes ≡ journal.waiting → AppendsSynced name bytes before after result
+    → name ≡ string_bytes journal.name → bytes ≡ whole_text journal.waiting → AppendsSynced name bytes before after result
     → IfKnown before (λ disk past. IsWritten journal disk txs → Waits journal waits
     → Moments (λ now. SameOthers (name_of journal.head) disk now × HasAtLeast journal.head (txs ++ waits) (length txs) now)
     (NoFewer journal.head (txs ++ waits)) after disk past)
 wrote_moments journal name bytes before after result txs waits named same =
     told_weaker before (λ disk past appends written waiting.
-    grew journal.head journal.waiting txs (txs ++ waits) disk (puts_waiting journal disk txs waits written waiting) name bytes after past result
+    grew journal.head (whole_text journal.waiting) txs (txs ++ waits) disk (puts_waiting journal disk txs waits written waiting) name bytes after past result
     (named ∙ written.named) same appends)
 
 pub wrote_reads : {T E : Type 0} (journal : Journal) (name bytes : List ℕ) (before after : Option (List Disk)) (result : Result T E) (txs waits : List Tx)
-    → name ≡ string_bytes journal.name → bytes ≡ journal.waiting → AppendsSynced name bytes before after result
+    → name ≡ string_bytes journal.name → bytes ≡ whole_text journal.waiting → AppendsSynced name bytes before after result
     → IfKnown before (λ disk past. IsWritten journal disk txs → Waits journal waits
     → Moments (HasMost journal.head (txs ++ waits)) (λ older newer. ⊤) after disk past)
 wrote_reads journal name bytes before after result txs waits named same =
     told_weaker before (λ disk past appends written waiting.
-    grew_most journal.head journal.waiting txs (txs ++ waits) disk (puts_waiting journal disk txs waits written waiting) name bytes after past result
+    grew_most journal.head (whole_text journal.waiting) txs (txs ++ waits) disk (puts_waiting journal disk txs waits written waiting) name bytes after past result
     (named ∙ written.named) same appends)
 
 pub ended_moments : {T E : Type 0} (journal : Journal) (name bytes : List ℕ) (before after : Option (List Disk)) (result : Result T E) (txs : List Tx)
@@ -511,29 +514,29 @@ counted journal disk txs waits written waiting =
     waiting.pushed ∙ ap (λ n. n + length waits) written.synced ∙ sym (length-append txs waits)
 
 pub wrote_synced : (journal : Journal) (name bytes : List ℕ) (before after : Option (List Disk)) (count : ℕ) (txs waits : List Tx)
-    → name ≡ string_bytes journal.name → bytes ≡ journal.waiting → count ≡ journal.pushed → Changed (with_appended name bytes) before after
+    → name ≡ string_bytes journal.name → bytes ≡ whole_text journal.waiting → count ≡ journal.pushed → Changed (with_appended name bytes) before after
     → IfKnown before (λ disk past. IsWritten journal disk txs → Waits journal waits
     → (count ≡ length (txs ++ waits)) × IsNow after (HasAtLeast journal.head (txs ++ waits) count))
 wrote_synced journal name bytes before after count txs waits named same pushed =
     told_weaker before (λ disk past changed written waiting.
     let total = pushed ∙ counted journal disk txs waits written waiting in
-    let is = extended_as name (name_of journal.head) bytes journal.waiting disk (named ∙ written.named) same in
-    let has = has_all journal.head journal.waiting txs (txs ++ waits) disk (puts_waiting journal disk txs waits written waiting) in (
+    let is = extended_as name (name_of journal.head) bytes (whole_text journal.waiting) disk (named ∙ written.named) same in
+    let has = has_all journal.head (whole_text journal.waiting) txs (txs ++ waits) disk (puts_waiting journal disk txs waits written waiting) in (
       total,
       now_changed (with_appended name bytes disk) after changed
           (subst (λ n. HasAtLeast journal.head (txs ++ waits) n (with_appended name bytes disk)) (sym total)
           (subst (HasAtLeast journal.head (txs ++ waits) (length (txs ++ waits))) (sym is) has)),
     ))
 
-pub caught_up_synced : (journal : Journal) (states : Option (List Disk)) (count : ℕ) (txs waits : List Tx) → journal.waiting ≡ [] → count ≡ journal.pushed
-    → IfKnown states (λ disk past. IsWritten journal disk txs → Waits journal waits
+pub caught_up_synced : (journal : Journal) (states : Option (List Disk)) (count : ℕ) (txs waits : List Tx) → whole_text journal.waiting ≡ []
+    → count ≡ journal.pushed → IfKnown states (λ disk past. IsWritten journal disk txs → Waits journal waits
     → (count ≡ length (txs ++ waits)) × IsNow states (HasAtLeast journal.head (txs ++ waits) count))
 caught_up_synced journal states count txs waits none pushed =
     where_told states _ (λ disk past told written waiting.
     let total = pushed ∙ counted journal disk txs waits written waiting in
     let nothing : waits ≡ [] = nothing_waits journal waits none waiting in
     let same : length txs ≡ count = sym (ap length (ap (λ more. txs ++ more) nothing ∙ append-nil txs)) ∙ sym total in
-    let has = has_before journal.head journal.waiting txs (txs ++ waits) disk (puts_waiting journal disk txs waits written waiting) in
+    let has = has_before journal.head (whole_text journal.waiting) txs (txs ++ waits) disk (puts_waiting journal disk txs waits written waiting) in
     (total, (disk, past, told, subst (λ n. HasAtLeast journal.head (txs ++ waits) n disk) same has)))
 
 -- the calls change no file that isn't ours

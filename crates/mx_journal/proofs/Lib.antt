@@ -1,7 +1,6 @@
 pub mod CallLaws
 pub mod MakeLaws
-pub mod BegunLaws
+pub mod PackLaws
 pub mod BlockLaws
-pub mod NameLaws
 pub mod WrittenLaws
 pub mod CrashLaws

@@ -1,17 +1,20 @@
 -- Crash images where a draft gets a file's name.
-use Rattle.std.proofs.Common.{◌≡◌, ◌⊎◌, inl, inr, ℕ, zero, suc, ◌+◌, Bool, true, false, ◌&&◌, ◌||◌, cond, List, [], ◌∷◌, ◌++◌, length, take, drop, Option, Some, None, Any, codes, refl, sym, ap, ◌∙◌, arith}
-use Rattle.std.proofs.lemmas.List.{length-append}
+use Rattle.std.proofs.Common.{◌≡◌, true, ◌||◌, sum, ap, ◌⊎◌, inl, inr, ℕ, zero, suc, ◌+◌, Bool, false, ◌&&◌, cond, List, [], ◌∷◌, ◌++◌, length, take, drop, Option, Some, None, Any, codes, refl, sym, ◌∙◌, arith}
+use Rattle.std.proofs.lemmas.List.{length-append, append-nil, drop_all}
 use Rattle.std.proofs.lemmas.Bool.{eqb-true}
 use Rattle.std.proofs.Math.Seq.{take-length, drop-append-add}
-use mathlib.Core.Bool.{true≢false}
-use mathlib.Core.Path.{subst}
-use Rattle.std.specs.FinMap as finite
 use Rattle.std.specs.FinMap.{get-empty}
 use Rattle.std.specs.Cmp.Lexicographic.{slice_cmp}
 use Rattle.std.specs.Ordering.{nat_cmp}
+use Rattle.mx_xlog.specs.declared.head.Head.{Head}
+use Rattle.mx_files.specs.Names.{is_snapshot, counts, is_ours, draft_ending, is_numbered, same_bytes}
+use Rattle.mx_files.proofs.NameLaws.{draft-is_draft, journal_name-is_journal}
+use Rattle.mx_images.proofs.OtherLaws.{counts_ours, draft_ours, differs_by_count}
+use Rattle.mx_journal.specs.Written.{name_of, draft_name_of}
+use mathlib.Core.Bool.{true≢false}
+use mathlib.Core.Path.{subst}
 use Rattle.mx_outside.specs.Disks.{Disk, File, Files, IfKnown, KnownAlike, Became, Stayed, Leaves, synced_file, outcomes, or_none, names_synced, renamed, unsynced}
 use Rattle.mx_outside.specs.Moments.{Moments}
-use Rattle.mx_files.specs.Names.{draft_ending, is_numbered, is_snapshot, same_bytes, counts}
 use Rattle.mx_images.specs.Fair.{IsFair, IsFairEnd}
 use Rattle.mx_images.specs.Changes.{SameBut, Changed, with_draft, renamed_durably, IsNow}
 use Rattle.mx_journal.specs.Making.{CountsSame, HasMade, MayMakeFile}
@@ -19,8 +22,25 @@ use Rattle.mx_journal.proofs.CallLaws.{KeepsCounting, get_older, get_older_itsel
 use Rattle.mx_images.proofs.DiskLaws.{same_name, get_inserted, get_removed, get_drafted, get_moved, get_made, at_itself, only_one, first_one}
 use Rattle.mx_images.proofs.FairLaws.{fair_nothing}
 use Rattle.mx_images.proofs.MomentLaws.{moments_may, moments_two, joined_from, weaker}
-use Rattle.mx_images.proofs.OtherLaws.{differs_by_count}
 use Rattle.mx_images.proofs.ToldLaws.{told_weaker, told_both, told_after, told_nothing, now_changed}
+use Rattle.mx_xlog.specs.Headers.{IsHead, header_of}
+use Rattle.mx_xlog.specs.Reading.{blocks_of}
+use Rattle.mx_xlog.proofs.ReadingLaws.{blocks_of_nothing}
+use Rattle.mx_xlog.specs.Files.{ReadsAs}
+use Rattle.mx_journal.specs.Crashes.{HasBegun, MayBegin, read_of}
+use Rattle.std.specs.FinMap as finite
+
+-- ---- the name of a journal counts, and it and its draft's are ours
+
+-- a journal's name counts
+pub name_counts : (head : Head) → counts (name_of head) ≡ true
+name_counts head = ap (λ test. test || is_snapshot (name_of head)) (journal_name-is_journal (sum head.clock))
+
+pub name_ours : (head : Head) → is_ours (name_of head) ≡ true
+name_ours head = counts_ours (name_of head) (name_counts head)
+
+pub draft_name_ours : (head : Head) → is_ours (draft_name_of head) ≡ true
+draft_name_ours head = draft_ours (draft_name_of head) (draft-is_draft (sum head.clock))
 
 -- ---- a draft's name never counts
 
@@ -250,6 +270,14 @@ failed_moments draft again name bytes before middle after one two alike made kee
     (names_failed again name bytes middle after (ap counts two ∙ draft_counts name)
     (draft_there again bytes before middle alike (subst (λ d. Changed (with_draft d bytes) before middle) (one ∙ sym two) made)) put)
 
+-- a draft has the header that was put into it
+pub drafted_header : (draft again bytes : List ℕ) (before middle : Option (List Disk)) (head : Head) → bytes ≡ header_of head → draft ≡ again
+    → KnownAlike before middle → Changed (with_draft draft bytes) before middle
+    → IfKnown middle (λ disk past. finite.get disk.now again ≡ Some (synced_file (header_of head)))
+drafted_header draft again bytes before middle head is same alike made =
+    told_weaker middle (λ disk past there. there ∙ ap (λ b. Some (synced_file b)) is)
+    (draft_there again bytes before middle alike (subst (λ d. Changed (with_draft d bytes) before middle) same made))
+
 -- at the end
 pub there_now : (name bytes : List ℕ) (before after : Option (List Disk)) → counts name ≡ true
     → Changed (λ disk. renamed_durably (name ++ draft_ending) name (with_draft (name ++ draft_ending) bytes disk)) before after
@@ -257,3 +285,55 @@ pub there_now : (name bytes : List ℕ) (before after : Option (List Disk)) → 
 there_now name bytes before after counting = told_weaker before (λ disk past step.
     now_changed (renamed_durably (name ++ draft_ending) name (with_draft (name ++ draft_ending) bytes disk)) after step
     (made_there (name ++ draft_ending) name bytes disk (draft_counts name) counting))
+
+-- ---- crash images while a journal is begun
+
+take_none : (count : ℕ) → ◌≡◌ {A = List (List ℕ)} (take count []) []
+take_none zero = refl
+take_none (suc count) = refl
+
+-- after a header a crash image has no block
+header_alone : (head : Head) (end : List ℕ) → IsHead head → IsFairEnd (synced_file (header_of head)) end
+    → ReadsAs (header_of head ++ end) (Some (read_of head []))
+header_alone head end fits fair =
+    let header = header_of head in
+    let left = fair head (length header) record { fits = fits; sized = refl; begins = ([], sym (append-nil header)) } in
+    let none : take left.0 (blocks_of (drop (length header) header)) ≡ [] =
+    ap (λ bytes. take left.0 (blocks_of bytes)) (drop_all (length header) header (omega arith)) ∙ ap (take left.0) blocks_of_nothing ∙ take_none left.0 in (
+      record { fits = fits; sized = refl; begins = (end, refl) },
+      sym (ap (λ front. blocks_of (drop (length header) (front ++ end))) (sym (take-length header)) ∙ left.1 ∙ none),
+    )
+
+has_begun : (head : Head) (disk : Disk) (image : Files) → IsHead head → HasMade (name_of head) (header_of head) disk image → HasBegun head disk image
+has_begun head disk image fits (was, fair, same, end, ends, is) =
+    (was, fair, same, ([], record { together = refl; fit = tt }, synced_file (header_of head ++ end), is, header_alone head end fits ends))
+
+may_begin : (head : Head) (older newer : Disk) → IsHead head → MayMakeFile (name_of head) (header_of head) older newer → MayBegin head older newer
+may_begin head older newer fits may image fair = by_file (may image fair)
+  where
+    by_file : IsFair older image ⊎ HasMade (name_of head) (header_of head) older image → IsFair older image ⊎ HasBegun head older image
+    by_file (inl before) = inl before
+    by_file (inr made) = inr (has_begun head older image fits made)
+
+-- ---- the states of a directory
+
+pub begins_moments : (head : Head) (name bytes : List ℕ) (before after : Option (List Disk)) → IsHead head → name ≡ name_of head → bytes ≡ header_of head
+    → MakesFile name bytes before after → IfKnown before (λ disk past. Moments (MayBegin head disk) (MayBegin head) after disk past)
+begins_moments head name bytes before after fits named same makes =
+    told_weaker before (λ disk past. weaker (λ newer. may_begin head disk newer fits) (λ older newer here. may_begin head older newer fits) after disk past)
+    (subst (λ n. MakesFile n (header_of head) before after) named (subst (λ b. MakesFile name b before after) same makes))
+
+pub begun_there : (head : Head) (name bytes : List ℕ) (before after : Option (List Disk)) → IsHead head → name ≡ name_of head → bytes ≡ header_of head
+    → IfKnown before (λ disk past. IsNow after (λ now. (image : Files) → IsFair now image → HasMade name bytes disk image))
+    → IfKnown before (λ disk past. IsNow after (λ now. (image : Files) → IsFair now image → HasBegun head disk image))
+begun_there head name bytes before after fits named same = told_weaker before begun
+  where
+    begun : (disk : Disk) (past : List Disk) → IsNow after (λ now. (image : Files) → IsFair now image → HasMade name bytes disk image)
+        → IsNow after (λ now. (image : Files) → IsFair now image → HasBegun head disk image)
+    begun disk past (now, others, told, made) = (
+      now,
+      others,
+      told,
+      λ image fair. has_begun head disk image fits
+          (subst (λ n. HasMade n (header_of head) disk image) named (subst (λ b. HasMade name b disk image) same (made image fair))),
+    )

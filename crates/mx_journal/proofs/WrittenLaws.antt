@@ -21,8 +21,10 @@ use Rattle.mx_row.proofs.ClockLaws.{clock_after-append}
 use Rattle.mx_journal.specs.declared.journal.Journal.{Journal}
 use Rattle.mx_journal.specs.Counting.{SameButPushed, caught_up}
 use Rattle.mx_images.specs.Changes.{Changed, with_draft, with_appended, renamed_durably, IsNow, SameOthers}
-use Rattle.mx_journal.specs.Written.{IsWritten, Waits, IsNewest, HasEnded, Created, file_text, name_of, draft_name_of, blocks_text}
-use Rattle.mx_journal.proofs.BlockLaws.{all_sound, groups_joined, blocks_text-append, no_group}
+use Rattle.mx_journal.specs.Groups.{Packed, blocks_text, whole_text}
+use Rattle.mx_journal.specs.Written.{AddsPacked, IsWritten, Waits, IsNewest, HasEnded, Created, file_text, name_of, draft_name_of}
+use Rattle.mx_journal.proofs.PackLaws.{blocks_text-append, groups_joined, waiting_blocks}
+use Rattle.mx_journal.proofs.BlockLaws.{all_sound, no_group}
 use Rattle.mx_images.proofs.DiskLaws.{same_self, same_name, get_extended, get_made, only_one, first_one}
 use Rattle.mx_images.proofs.ToldLaws.{told_both, told_weaker, where_told, now_changed}
 
@@ -117,44 +119,48 @@ file_text-append head some more =
     append_assoc (header_of head) (blocks_text some) (blocks_text more) ∙ ap (λ text. header_of head ++ text) (sym (blocks_text-append some more))
 
 -- a journal that put what waited after its file
-abbrev pub wrote : Journal → ℕ → Journal
-wrote journal long = caught_up (record journal { length = long; waiting = [] })
+abbrev pub wrote : Journal → ℕ → Packed → Journal
+wrote journal long pack = caught_up (record journal { length = long; waiting = pack })
 
-pub wrote_written : (journal : Journal) (long : ℕ) (disk : Disk) (txs waits : List Tx) → long ≡ journal.length + length journal.waiting
-    → IsWritten journal disk txs → Waits journal waits
-    → IsWritten (wrote journal long) (with_appended (name_of journal.head) journal.waiting disk) (txs ++ waits)
-    × SameOthers (name_of journal.head) disk (with_appended (name_of journal.head) journal.waiting disk)
-wrote_written journal long disk txs waits sum written waiting =
+pub wrote_written : (journal : Journal) (long : ℕ) (pack : Packed) (disk : Disk) (txs waits : List Tx)
+    → long ≡ journal.length + length (whole_text journal.waiting) → IsWritten journal disk txs → Waits journal waits
+    → IsWritten (wrote journal long pack) (with_appended (name_of journal.head) (whole_text journal.waiting) disk) (txs ++ waits)
+    × SameOthers (name_of journal.head) disk (with_appended (name_of journal.head) (whole_text journal.waiting) disk)
+wrote_written journal long pack disk txs waits sum written waiting =
     let name = name_of journal.head in
+    let more = whole_text journal.waiting in
+    let groups = waiting.packs.groups in
     let text = file_text journal.head written.groups in
-    let all : text ++ journal.waiting ≡ file_text journal.head (written.groups ++ waiting.groups) =
-    ap (λ more. text ++ more) waiting.bytes ∙ file_text-append journal.head written.groups waiting.groups in (
+    let all : text ++ more ≡ file_text journal.head (written.groups ++ groups) =
+    ap (λ bytes. text ++ bytes) (waiting_blocks waits journal.waiting waiting.packs) ∙ file_text-append journal.head written.groups groups in (
       record {
         fits = written.fits;
         kind = written.kind;
         named = written.named;
-        groups = written.groups ++ waiting.groups;
-        grouped = groups_joined written.groups waiting.groups txs waits written.grouped waiting.grouped;
-        file = bytes_extended name journal.waiting text disk written.file ∙ ap (λ bytes. Some (synced_file bytes)) all;
+        groups = written.groups ++ groups;
+        grouped = groups_joined written.groups groups txs waits written.grouped waiting.packs.packed.grouped;
+        file = bytes_extended name more text disk written.file ∙ ap (λ bytes. Some (synced_file bytes)) all;
         no_older = written.no_older;
-        newest = newest_extended name journal.waiting disk (synced_file text) written.file written.newest;
+        newest = newest_extended name more disk (synced_file text) written.file written.newest;
         clock = waiting.next ∙ ap (λ clock. clock_after clock waits) written.clock ∙ sym (clock_after-append journal.head.clock txs waits);
-        long = sum ∙ ap (λ n. n + length journal.waiting) written.long ∙ sym (length-append text journal.waiting) ∙ ap length all;
+        long = sum ∙ ap (λ n. n + length more) written.long ∙ sym (length-append text more) ∙ ap length all;
         synced = waiting.pushed ∙ ap (λ n. n + length waits) written.synced ∙ sym (length-append txs waits);
         sound = all_sound txs waits written.sound waiting.sound;
       },
-      others_extended name journal.waiting disk (synced_file text) written.file,
+      others_extended name more disk (synced_file text) written.file,
     )
 
--- nothing waits where there are no bytes
-pub nothing_waits : (journal : Journal) (waits : List Tx) → journal.waiting ≡ [] → Waits journal waits → waits ≡ []
+-- nothing waits where there is nothing to write
+pub nothing_waits : (journal : Journal) (waits : List Tx) → whole_text journal.waiting ≡ [] → Waits journal waits → waits ≡ []
 nothing_waits journal waits none waiting =
-    sym waiting.grouped.together ∙ ap transactions_of (no_group waiting.groups (sym none ∙ waiting.bytes))
+    sym waiting.packs.packed.grouped.together
+    ∙ ap transactions_of (no_group waiting.packs.groups (sym none ∙ waiting_blocks waits journal.waiting waiting.packs))
 
 -- a journal in which nothing waited
-pub caught_up_written : (journal : Journal) (disk : Disk) (txs waits : List Tx) → journal.waiting ≡ []
-    → IsWritten journal disk txs → Waits journal waits → IsWritten (caught_up journal) disk (txs ++ waits) × SameOthers (name_of journal.head) disk disk
-caught_up_written journal disk txs waits none written waiting =
+pub caught_up_written : (journal : Journal) (pack : Packed) (disk : Disk) (txs waits : List Tx) → whole_text journal.waiting ≡ []
+    → IsWritten journal disk txs → Waits journal waits
+    → IsWritten (caught_up (record journal { waiting = pack })) disk (txs ++ waits) × SameOthers (name_of journal.head) disk disk
+caught_up_written journal pack disk txs waits none written waiting =
     let nothing : waits ≡ [] = nothing_waits journal waits none waiting in
     let same : txs ++ waits ≡ txs = ap (λ more. txs ++ more) nothing ∙ append-nil txs in (
       record {
@@ -174,9 +180,26 @@ caught_up_written journal disk txs waits none written waiting =
       record { files = λ other differs. refl; older = refl },
     )
 
--- the journal's file is there
-pub file_there : (journal : Journal) (disk : Disk) → (txs : List Tx) × IsWritten journal disk txs → IsSome (finite.get disk.now (string_bytes journal.name))
-file_there journal disk (txs, written) = rw (ap (finite.get disk.now) written.named ∙ written.file) refl
+-- what waited was packed
+pub added_packed : (journal : Journal) (disk : Disk) (waits : List Tx) → Waits journal waits
+    → AddsPacked journal.head waits disk (with_appended (name_of journal.head) (whole_text journal.waiting) disk)
+added_packed journal disk waits waiting = record {
+  groups = waiting.packs.groups;
+  packed = waiting.packs.packed;
+  file = λ bytes is. bytes_extended (name_of journal.head) (whole_text journal.waiting) bytes disk is
+      ∙ ap (λ more. Some (synced_file (bytes ++ more))) (waiting_blocks waits journal.waiting waiting.packs);
+}
+
+-- so was nothing
+nothing_packed : (journal : Journal) (disk : Disk) (waits : List Tx) → whole_text journal.waiting ≡ [] → Waits journal waits
+    → AddsPacked journal.head waits disk disk
+nothing_packed journal disk waits none waiting = record {
+  groups = waiting.packs.groups;
+  packed = waiting.packs.packed;
+  file = λ bytes is. is
+      ∙ ap (λ text. Some (synced_file text))
+      (sym (append-nil bytes) ∙ ap (λ more. bytes ++ more) (sym none ∙ waiting_blocks waits journal.waiting waiting.packs));
+}
 
 -- a file that was ended
 pub ended : (journal : Journal) (disk : Disk) (txs : List Tx) → IsWritten journal disk txs
@@ -208,29 +231,45 @@ begun_now journal name bytes before after fits kind named clock long synced is s
     ∙ ap (λ b. renamed_durably (draft_name_of journal.head) (name_of journal.head) (with_draft (draft_name_of journal.head) b disk)) same))
     (begun_written journal disk fits kind named clock long synced newest))) changed newest
 
-pub wrote_now : (journal new : Journal) (long : ℕ) (name bytes : List ℕ) (before after : Option (List Disk)) (txs waits : List Tx)
-    → new ≡ wrote journal long → long ≡ journal.length + length journal.waiting → name ≡ string_bytes journal.name → bytes ≡ journal.waiting
-    → Changed (with_appended name bytes) before after → IfKnown before (λ disk past. IsWritten journal disk txs → Waits journal waits
+pub wrote_now : (journal new : Journal) (long : ℕ) (pack : Packed) (name bytes : List ℕ) (before after : Option (List Disk)) (txs waits : List Tx)
+    → new ≡ wrote journal long pack → long ≡ journal.length + length (whole_text journal.waiting) → name ≡ string_bytes journal.name
+    → bytes ≡ whole_text journal.waiting → Changed (with_appended name bytes) before after
+    → IfKnown before (λ disk past. IsWritten journal disk txs → Waits journal waits
     → IsNow after (λ now. IsWritten new now (txs ++ waits) × SameOthers (name_of journal.head) disk now))
-wrote_now journal new long name bytes before after txs waits is sum named same changed =
+wrote_now journal new long pack name bytes before after txs waits is sum named same changed =
     told_weaker before (λ disk past step written waiting. now_changed (with_appended name bytes disk) after step
     (subst (λ now. IsWritten new now (txs ++ waits) × SameOthers (name_of journal.head) disk now)
-    (sym (extended_as name (name_of journal.head) bytes journal.waiting disk (named ∙ written.named) same))
-    (subst (λ j. IsWritten j (with_appended (name_of journal.head) journal.waiting disk) (txs ++ waits)
-    × SameOthers (name_of journal.head) disk (with_appended (name_of journal.head) journal.waiting disk)) (sym is)
-    (wrote_written journal long disk txs waits sum written waiting)))) changed
+    (sym (extended_as name (name_of journal.head) bytes (whole_text journal.waiting) disk (named ∙ written.named) same))
+    (subst (λ j. IsWritten j (with_appended (name_of journal.head) (whole_text journal.waiting) disk) (txs ++ waits)
+    × SameOthers (name_of journal.head) disk (with_appended (name_of journal.head) (whole_text journal.waiting) disk)) (sym is)
+    (wrote_written journal long pack disk txs waits sum written waiting)))) changed
 
-pub caught_up_now : (journal new : Journal) (states : Option (List Disk)) (txs waits : List Tx) → new ≡ caught_up journal → journal.waiting ≡ []
+pub caught_up_now : (journal new : Journal) (pack : Packed) (states : Option (List Disk)) (txs waits : List Tx)
+    → new ≡ caught_up (record journal { waiting = pack }) → whole_text journal.waiting ≡ []
     → IfKnown states (λ disk past. IsWritten journal disk txs → Waits journal waits
     → IsNow states (λ now. IsWritten new now (txs ++ waits) × SameOthers (name_of journal.head) disk now))
-caught_up_now journal new states txs waits is none =
+caught_up_now journal new pack states txs waits is none =
     where_told states _ (λ disk past told written waiting. (
       disk,
       past,
       told,
       subst (λ j. IsWritten j disk (txs ++ waits) × SameOthers (name_of journal.head) disk disk) (sym is)
-          (caught_up_written journal disk txs waits none written waiting),
+          (caught_up_written journal pack disk txs waits none written waiting),
     ))
+
+pub packed_now : (journal : Journal) (name bytes : List ℕ) (before after : Option (List Disk)) (txs waits : List Tx)
+    → name ≡ string_bytes journal.name → bytes ≡ whole_text journal.waiting → Changed (with_appended name bytes) before after
+    → IfKnown before (λ disk past. IsWritten journal disk txs → Waits journal waits → IsNow after (AddsPacked journal.head waits disk))
+packed_now journal name bytes before after txs waits named same changed =
+    told_weaker before (λ disk past step written waiting. now_changed (with_appended name bytes disk) after step
+    (subst (AddsPacked journal.head waits disk)
+    (sym (extended_as name (name_of journal.head) bytes (whole_text journal.waiting) disk (named ∙ written.named) same))
+    (added_packed journal disk waits waiting))) changed
+
+pub nothing_packed_now : (journal : Journal) (states : Option (List Disk)) (txs waits : List Tx) → whole_text journal.waiting ≡ []
+    → IfKnown states (λ disk past. IsWritten journal disk txs → Waits journal waits → IsNow states (AddsPacked journal.head waits disk))
+nothing_packed_now journal states txs waits none =
+    where_told states _ (λ disk past told written waiting. (disk, past, told, nothing_packed journal disk waits none waiting))
 
 pub ended_now : (journal : Journal) (name bytes : List ℕ) (before after : Option (List Disk)) (txs : List Tx)
     → name ≡ string_bytes journal.name → bytes ≡ end_marker → Changed (with_appended name bytes) before after
@@ -243,7 +282,7 @@ ended_now journal name bytes before after txs named same changed =
     (ended journal disk txs written))) changed
 
 -- a transaction that was pushed changes nothing of what is written
-pub pushed_written : (journal after : Journal) (waiting : List ℕ) (disk : Disk) (txs : List Tx) → SameButPushed (record journal { waiting = waiting }) after
+pub pushed_written : (journal after : Journal) (waiting : Packed) (disk : Disk) (txs : List Tx) → SameButPushed (record journal { waiting = waiting }) after
     → IsWritten journal disk txs → IsWritten after disk txs
 pushed_written journal after waiting disk txs same written = record {
   fits = rw same.head written.fits;

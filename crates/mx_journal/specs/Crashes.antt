@@ -8,7 +8,8 @@ use Rattle.mx_row.specs.declared.tx.Tx.{Tx}
 use Rattle.mx_row.specs.Rows.{transactions_text}
 use Rattle.mx_xlog.specs.Files.{FileRead, ReadsAs}
 use Rattle.mx_images.specs.Fair.{IsFair}
-use Rattle.mx_journal.specs.Written.{AreGroups, name_of}
+use Rattle.mx_journal.specs.Groups.{AreGroups}
+use Rattle.mx_journal.specs.Written.{name_of}
 use Rattle.mx_images.specs.Changes.{SameBut}
 
 -- a journal's file of these groups of transactions, a block each, as it reads

@@ -1,3 +1,5 @@
+pub mod Groups
+pub mod Packing
 pub mod Written
 pub mod Crashes
 pub mod Counting

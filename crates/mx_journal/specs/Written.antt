@@ -1,32 +1,24 @@
 -- What a journal has written.
-use Rattle.std.specs.Prelude.{◌≡◌, ◌⊎◌, ℕ, ◌+◌, true, false, List, ◌++◌, length, map, take, sum, Any, Some, None, IsSome, if◌then◌else◌, string_bytes}
-use Rattle.std.specs.List.{concat, AllByRecursion}
+use Rattle.std.specs.Prelude.{◌≡◌, ◌⊎◌, ℕ, ◌+◌, true, false, List, ◌++◌, length, take, sum, Any, Some, None, IsSome, if◌then◌else◌, string_bytes}
+use Rattle.std.specs.List.{AllByRecursion}
 use Rattle.std.specs.Ordering.{nat_cmp}
 use Rattle.std.specs.Cmp.Lexicographic.{slice_cmp}
 use Rattle.std.specs.declared.cmp.Ordering.TheVariants.{Greater}
 use Rattle.std.specs.FinMap as finite
 use Rattle.mx_xlog.specs.declared.head.Head.{Head}
 use Rattle.mx_xlog.specs.Headers.{IsHead, header_of}
-use Rattle.mx_xlog.specs.Blocks.{IsData, block_of, end_marker}
+use Rattle.mx_xlog.specs.Blocks.{end_marker}
 use Rattle.mx_outside.specs.Disks.{Disk, synced_file, outcomes}
 use Rattle.mx_row.specs.declared.tx.Tx.{Tx}
 use Rattle.mx_row.specs.Clocks.{clock_after}
-use Rattle.mx_row.specs.Rows.{IsTransaction, transactions_of, transactions_text}
+use Rattle.mx_row.specs.Rows.{IsTransaction}
 use Rattle.mx_files.specs.Names.{journal_name, draft_ending, is_journal, is_snapshot, same_bytes}
 use Rattle.mx_journal.specs.declared.journal.Journal.{Journal}
-
--- a block for each group of transactions
-abbrev pub blocks_text : List (List Tx) → List ℕ
-blocks_text groups = concat (map (λ group. block_of (transactions_text group)) groups)
+use Rattle.mx_journal.specs.Groups.{AreGroups, ArePacked, Packs, blocks_text}
 
 -- a journal's file of these groups of transactions
 abbrev pub file_text : Head → List (List Tx) → List ℕ
 file_text head groups = header_of head ++ blocks_text groups
-
--- these groups are the transactions in order, and the rows of each group fit into a block
-pub record AreGroups (groups : List (List Tx)) (transactions : List Tx) : Type 0 where
-  pub together : transactions_of groups ≡ transactions
-  pub fit : AllByRecursion (λ group. IsData (transactions_text group)) groups
 
 abbrev pub name_of : Head → List ℕ
 name_of head = journal_name (sum head.clock)
@@ -56,14 +48,19 @@ pub record IsWritten (journal : Journal) (disk : Disk) (transactions : List Tx) 
   pub synced : journal.synced ≡ length transactions
   pub sound : AllByRecursion IsTransaction transactions
 
--- these transactions wait to be written in groups, a block each
+-- these transactions wait to be written, packed into blocks
 pub record Waits (journal : Journal) (transactions : List Tx) : Type 0 where
-  pub groups : List (List Tx)
-  pub grouped : AreGroups groups transactions
-  pub bytes : journal.waiting ≡ blocks_text groups
+  pub packs : Packs transactions journal.waiting
   pub next : journal.next ≡ clock_after journal.clock transactions
   pub pushed : journal.pushed ≡ journal.synced + length transactions
   pub sound : AllByRecursion IsTransaction transactions
+
+-- these transactions were put after the journal's file, packed into blocks, and all of it is durable
+pub record AddsPacked (head : Head) (transactions : List Tx) (before after : Disk) : Type 0 where
+  pub groups : List (List Tx)
+  pub packed : ArePacked groups transactions
+  pub file : (bytes : List ℕ) → finite.get before.now (name_of head) ≡ Some (synced_file bytes)
+      → finite.get after.now (name_of head) ≡ Some (synced_file (bytes ++ blocks_text groups))
 
 -- the journal's file has these transactions in groups, a block each, and the marker of its end, and all of it is durable
 abbrev pub HasEnded : Head → List Tx → Disk → Type 0

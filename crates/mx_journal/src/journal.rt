@@ -1,46 +1,44 @@
 //! The journal.
 
-ghost use Rattle.std.specs.Prelude.{◌≡◌, ◌+◌, ◌++◌, ◌∷◌, [], ⊤, false, true, List, length, take, Some, IfOk, MatchResult, OnErr, OnOk};
+ghost use Rattle.std.specs.Prelude.{◌≡◌, ◌+◌, ◌++◌, ◌∷◌, [], ⊤, false, true, List, length, Some, IfOk, OnErr, OnOk};
 ghost use Rattle.mx_outside.specs.Causes.{HasCauseOf};
 ghost use Rattle.mx_outside.specs.Disks.{Disk, Files, IfKnown, KnownAlike};
 ghost use Rattle.mx_outside.specs.Moments.{Moments};
 ghost use Rattle.mx_xlog.specs.Headers.{IsHead};
-ghost use Rattle.mx_xlog.specs.Blocks.{block_of};
 ghost use Rattle.mx_row.specs.declared.tx.Tx.{Tx};
-ghost use Rattle.mx_row.specs.Rows.{IsTransaction, transaction_text};
+ghost use Rattle.mx_row.specs.Rows.{IsTransaction};
 ghost use Rattle.mx_row.specs.Clocks.{follows, clock_after_one};
 ghost use Rattle.mx_journal.specs.Counting.{SameButPushed, caught_up};
 ghost use Rattle.mx_journal.specs.declared.fault.JournalFault.TheVariants.{Failed};
 ghost use Rattle.mx_images.specs.Fair.{IsFair};
+ghost use Rattle.mx_journal.specs.Groups.{whole_text};
 ghost use Rattle.mx_journal.specs.Crashes.{HasAtLeast, HasBegun, HasMost, MayBegin, NoFewer};
-ghost use Rattle.mx_journal.specs.Written.{IsWritten, Waits, IsNewest, HasEnded, Created, name_of};
+ghost use Rattle.mx_journal.specs.Written.{AddsPacked, IsWritten, Waits, IsNewest, HasEnded, Created, name_of};
 ghost use Rattle.mx_images.specs.Changes.{IsNow, KeepsOthers, SameOthers};
 
 use crate::fault::JournalFault;
 use crate::making::{append_synced, make_file};
+use crate::pack::Pack;
 use mx_files::journal_name;
 use mx_msgpack::Bytes;
 use mx_outside::Dir;
-use mx_row::{Tx, write_tx};
+use mx_row::Tx;
 use mx_vclock::Vclock;
-use mx_xlog::{Head, begin_block, end_block, write_end, write_header};
+use mx_xlog::{Head, write_end, write_header};
 use std::alloc::{AllocError, Global};
-
-/// The maximum size of waiting bytes whose memory is kept for the next ones.
-const MAX_KEPT_SIZE: usize = 1_048_576;
 
 /// A journal that writes to one file of a directory, whose name is the signature of the vclock at
 /// which the file begins. It doesn't own the directory; each call takes it.
 ///
-/// Transactions are pushed, and wait until they are written out, each as one block, and synced.
-#[derive(Debug, Drop)]
+/// Transactions are pushed, and wait until they are written out, in as few blocks as fit, and synced.
+#[derive(Drop)]
 pub struct Journal {
     head: Head,
     name: String,
     clock: Vclock,
     length: u64,
     synced: u64,
-    waiting: Bytes,
+    waiting: Pack,
     next: Vclock,
     pushed: u64,
 }
@@ -78,7 +76,7 @@ impl Journal {
             clock: head.clock,
             length: header.len() as u64,
             synced: 0,
-            waiting: Bytes::new(alloc),
+            waiting: Pack::new(alloc),
             next: head.clock,
             pushed: 0,
         })
@@ -101,7 +99,7 @@ impl Journal {
         let Some(pushed) = self.pushed.checked_add(1) else {
             return Err(AllocError);
         };
-        append_block(alloc, tx, &mut self.waiting)?;
+        self.waiting.push(alloc, tx)?;
         self.note_pushed(tx, pushed);
         Ok(())
     }
@@ -137,6 +135,8 @@ impl Journal {
         ensures others { IfKnown (D.states dir.old) (λ disk past. Moments (λ _. ⊤) KeepsOthers (D.states dir.new) disk past) }
         ensures synced { (txs waits : List Tx) → IfKnown (D.states dir.old) (λ disk past. IsWritten self.old disk txs → Waits self.old waits
             → IfOk result (λ count. (count ≡ length (txs ++ waits)) × IsNow (D.states dir.new) (HasAtLeast self.old.head (txs ++ waits) count))) }
+        ensures packed { (txs waits : List Tx) → IfKnown (D.states dir.old) (λ disk past. IsWritten self.old disk txs → Waits self.old waits
+            → OnOk result (IsNow (D.states dir.new) (AddsPacked self.old.head waits disk))) }
         ensures none { IfOk result (λ count. Waits self.new [] × (count ≡ self.old.pushed) × (self.new.clock ≡ self.old.next)) }
         ensures head { self.new.head ≡ self.old.head }
         ensures cause { HasCauseOf Failed (D.faults dir.old) (D.faults dir.new) result }
@@ -144,12 +144,13 @@ impl Journal {
         if self.waiting.is_empty() {
             return Ok(self.note_written());
         }
-        let Some(length) = self.length.checked_add(self.waiting.len() as u64) else {
+        let blocks = self.waiting.take_blocks(alloc);
+        let Some(length) = self.length.checked_add(blocks.len() as u64) else {
             return Err(JournalFault::NoMemory);
         };
-        append_synced(alloc, dir, self.name.as_str(), self.waiting.as_slice())?;
+        append_synced(alloc, dir, self.name.as_str(), blocks.as_slice())?;
         self.length = length;
-        clear(alloc, &mut self.waiting);
+        self.waiting.reuse(blocks);
         Ok(self.note_written())
     }
 
@@ -169,7 +170,7 @@ impl Journal {
     /// A call on the directory failed, or out of memory.
     pub fn end<D: Dir>(self, alloc: Global, dir: &mut D) -> Result<(), JournalFault>
         requires written { IfKnown (D.states dir.old) (λ disk past. (txs : List Tx) × IsWritten self disk txs) }
-        requires none { self.waiting ≡ [] }
+        requires none { whole_text self.waiting ≡ [] }
         ensures told { KnownAlike (D.states dir.old) (D.states dir.new) }
         ensures ended { (txs : List Tx) → IfKnown (D.states dir.old) (λ disk past. IsWritten self disk txs
             → OnOk result (IsNow (D.states dir.new) (λ now. HasEnded self.head txs now × SameOthers (name_of self.head) disk now))) }
@@ -206,40 +207,5 @@ impl Journal {
         ensures { result ≡ self.now.length }
     {
         self.length
-    }
-}
-
-/// Appends a block of this transaction; at an error nothing is appended.
-fn append_block(alloc: Global, tx: &Tx, out: &mut Bytes) -> Result<(), AllocError>
-    requires { IsTransaction tx.now }
-    ensures { MatchResult result (λ _. out.new ≡ out.old ++ block_of (transaction_text tx.now)) (λ _. out.new ≡ out.old) }
-{
-    let before = out.len();
-    let written = write_block_in_place(alloc, tx, out);
-    if written.is_err() {
-        out.truncate(before);
-    }
-    written
-}
-
-/// As `append_block`, but at an error the room for the block's head may have been appended.
-fn write_block_in_place(alloc: Global, tx: &Tx, out: &mut Bytes) -> Result<(), AllocError>
-    requires { IsTransaction tx.now }
-    ensures { MatchResult result (λ _. out.new ≡ out.old ++ block_of (transaction_text tx.now)) (λ _. take (length out.old) out.new ≡ out.old) }
-{
-    let at = out.len();
-    begin_block(out)?;
-    write_tx(alloc, tx, out)?;
-    end_block(at, out);
-    Ok(())
-}
-
-fn clear(alloc: Global, bytes: &mut Bytes)
-    ensures { bytes.new ≡ [] }
-{
-    if bytes.len() > MAX_KEPT_SIZE {
-        *bytes = Bytes::new(alloc);
-    } else {
-        bytes.truncate(0);
     }
 }

@@ -4,6 +4,7 @@
 mod fault;
 mod journal;
 mod making;
+mod pack;
 
 pub use fault::JournalFault;
 pub use journal::Journal;

@@ -4,6 +4,8 @@ ghost use Rattle.std.specs.Prelude.{◌≡◌, ◌++◌, ⊤, true, false, List,
 ghost use Rattle.mx_outside.specs.Causes.{HasCauseOf};
 ghost use Rattle.mx_outside.specs.Disks.{Files, IfKnown, IsThere, KnownAlike};
 ghost use Rattle.mx_outside.specs.Moments.{Moments};
+ghost use Rattle.mx_xlog.specs.declared.head.Head.{Head};
+ghost use Rattle.mx_xlog.specs.Headers.{header_of};
 ghost use Rattle.mx_files.specs.Names.{draft_ending, counts, is_ours};
 ghost use Rattle.mx_journal.specs.declared.fault.JournalFault.TheVariants.{Failed};
 ghost use Rattle.mx_images.specs.Fair.{IsFair};
@@ -29,7 +31,7 @@ pub(crate) fn make_file<D: Dir>(
         (D.states dir.old) (D.states dir.new)) }
     ensures moments { IfKnown (D.states dir.old) (λ disk past.
         Moments (MayMakeFile name.now bytes.now disk) (MayMakeFile name.now bytes.now) (D.states dir.new) disk past) }
-    ensures others { is_ours name.now ≡ true → is_ours (name.now ++ draft_ending) ≡ true
+    ensures others { (head : Head) → bytes.now ≡ header_of head → is_ours name.now ≡ true → is_ours (name.now ++ draft_ending) ≡ true
         → IfKnown (D.states dir.old) (λ disk past. Moments (λ _. ⊤) KeepsOthers (D.states dir.new) disk past) }
     ensures there { counts name.now ≡ true → IfKnown (D.states dir.old) (λ disk past. OnOk result (IsNow (D.states dir.new) (λ now.
         (image : Files) → IsFair now image → HasMade name.now bytes.now disk image))) }

@@ -13,7 +13,7 @@ use Rattle.std.proofs.lemmas.Int.{ints}
 use Rattle.byteorder.specs.Endian.{big_bytes}
 use Rattle.byteorder.specs.Numbers.{big_from-cons, big_from-bytes}
 use Rattle.mx_msgpack.specs.Writing.{Fits64}
-use Rattle.mx_msgpack.proofs.OrderLaws.{then_assoc, digits_order}
+use Rattle.mx_bytes.proofs.OrderLaws.{then_assoc, digits_order}
 use Rattle.mx_key.specs.Keys.{Key, KeyPart, Boolean, Integer, Text, Binary, IsFit, AreFit, part_cmp, key_cmp, is_prefix, is_key_prefix}
 use Rattle.mx_key.specs.Comparable.{number_above_least, content_bytes, part_bytes, comparable_of}
 

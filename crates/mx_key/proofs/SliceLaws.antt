@@ -1,7 +1,7 @@
 -- The fields between neighbouring places.
-use Rattle.std.proofs.Common.{◌≡◌, ℕ, zero, suc, ◌+◌, ◌-◌, ◌<◌, ◌≤◌, List, [], ◌∷◌, ◌++◌, length, take, drop, get_or, Option, Some, None, refl, sym, ap, ◌∙◌, append_assoc, arith, min}
-use Rattle.std.specs.List.{concat, scan, slice_get}
-use Rattle.std.proofs.lemmas.List.{take_at, take_min, drop_at, drop_min, length-append}
+use Rattle.std.proofs.Common.{◌≡◌, ℕ, zero, suc, ◌+◌, ◌-◌, ◌<◌, ◌≤◌, List, [], ◌∷◌, length, take, drop, get_or, Option, Some, None, refl, sym, ap, ◌∙◌, arith, min}
+use Rattle.std.specs.List.{slice_get}
+use Rattle.std.proofs.lemmas.List.{take_min, drop_min}
 use Rattle.std.proofs.lemmas.Option.{slice_get_read}
 use Rattle.mx_key.specs.Fields.{slices}
 
@@ -25,25 +25,6 @@ no_slice bytes [] n short = refl
 no_slice bytes (x ∷ []) n short = refl
 no_slice bytes (x ∷ y ∷ places) zero short = absurd (omega arith)
 no_slice bytes (x ∷ y ∷ places) (suc n) short = no_slice bytes (y ∷ places) n (omega arith)
-
--- fields that stand in a row after a head, with the places where they begin and the last one ends
-row_sliced : (before : List ℕ) (fields : List (List ℕ)) (bytes : List ℕ) (place : ℕ) → place ≡ length before → bytes ≡ before ++ concat fields
-    → slices bytes (place ∷ scan (λ place field. place + length field) (λ place field. place + length field) place fields) ≡ fields
-row_sliced before [] bytes place at parts = refl
-row_sliced before (field ∷ fields) bytes place at parts =
-    let l = length-append before field in
-    let size : length field ≡ (place + length field) - place = omega arith in
-    let first : take ((place + length field) - place) (drop place bytes) ≡ field =
-    ap (λ (x : List ℕ). take ((place + length field) - place) x) (ap (drop place) parts ∙ drop_at before (field ++ concat fields) place (sym at))
-    ∙ take_at field (concat fields) ((place + length field) - place) size in
-    let others = row_sliced (before ++ field) fields bytes (place + length field) (omega arith) (parts ∙ sym (append_assoc before field (concat fields))) in
-    λ i. first i ∷ others i
-
-pub row_slices : (head : List ℕ) (fields : List (List ℕ))
-    → slices (head ++ concat fields) (length head ∷ scan (λ place field. place + length field) (λ place field. place + length field) (length head) fields) ≡ fields
-row_slices head fields = row_sliced head fields (head ++ concat fields) (length head) refl refl
-
--- ---- what the code reads
 
 -- the place that indexing gave
 pub place_read : (places : List ℕ) (n place : ℕ) → n < length places → place ≡ get_or places n place → slice_get places n ≡ Some place

@@ -12,7 +12,7 @@ use std::cmp::Ord;
 use std::ops::Bound;
 
 /// An end of a range: comparable bytes, which lie in the range or not, or no bound.
-#[derive(Debug, Drop)]
+#[derive(Drop)]
 pub enum Edge {
     Inclusive(Bytes),
     Exclusive(Bytes),
@@ -20,7 +20,7 @@ pub enum Edge {
 }
 
 /// A range of keys. A key lies in it where its comparable bytes do.
-#[derive(Debug, Drop)]
+#[derive(Drop)]
 pub struct KeyRange {
     pub low: Edge,
     pub high: Edge,

@@ -9,7 +9,7 @@ use crate::part::PartKind;
 use std::alloc::AllocError;
 
 /// Why a tuple's fields make no key.
-#[derive(Clone, Copy, Debug, Drop, PartialEq, Eq)]
+#[derive(Clone, Copy, Drop, PartialEq, Eq)]
 pub enum NoKey {
     /// The tuple has no such field.
     Missing { field: u32 },
@@ -18,7 +18,7 @@ pub enum NoKey {
 }
 
 /// Why there is no key: the tuple's fields make none, or out of memory.
-#[derive(Clone, Copy, Debug, Drop, PartialEq, Eq)]
+#[derive(Clone, Copy, Drop, PartialEq, Eq)]
 pub enum KeyFault {
     /// The tuple has no such field.
     Missing { field: u32 },
@@ -57,7 +57,7 @@ pub enum Misfit {
 }
 
 /// Why a key has no range in an index: it doesn't fit, or out of memory.
-#[derive(Clone, Copy, Debug, Drop, PartialEq, Eq)]
+#[derive(Clone, Copy, Drop, PartialEq, Eq)]
 pub enum RangeFault {
     /// It doesn't fit the index.
     Misfit(Misfit),

@@ -8,7 +8,7 @@ use std::marker::Model;
 
 /// A tuple's bytes, and the places in them where its fields begin, with the place where the last one
 /// ends.
-#[derive(Debug, Drop)]
+#[derive(Drop)]
 pub struct FieldSlices<'a> {
     pub bytes: &'a [u8],
     pub places: &'a [usize],

@@ -7,7 +7,7 @@ use std::alloc::{AllocError, Global};
 use std::marker::Model;
 
 /// The parts of an index's keys, in order.
-#[derive(Debug, Drop)]
+#[derive(Drop)]
 pub struct KeyDef {
     parts: Vec<Part>,
 }

@@ -34,7 +34,7 @@ impl PartKind {
 }
 
 /// A part of an index's keys: a field of its tuples, counted from 0, of a type.
-#[derive(Clone, Copy, Debug, Drop, PartialEq, Eq)]
+#[derive(Clone, Copy, Drop, PartialEq, Eq)]
 pub struct Part {
     pub field: u32,
     pub kind: PartKind,

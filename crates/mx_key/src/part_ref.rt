@@ -14,7 +14,7 @@ use crate::part::PartKind;
 use mx_msgpack::{ValueRef, read_ref};
 
 /// A part in place.
-#[derive(Clone, Copy, Debug)]
+#[derive(Clone, Copy)]
 pub enum PartRef<'a> {
     Boolean(bool),
     Integer(i128),

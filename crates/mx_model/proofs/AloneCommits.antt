@@ -23,7 +23,7 @@ use Rattle.mx_model.specs.statements.Answer.{Answer, refusal_after, refusal_alon
 use Rattle.mx_model.specs.statements.Statement.{Statement}
 use Rattle.mx_model.proofs.AloneSound.{journal_sound, rows_sound, run_bytes}
 use Rattle.mx_model.proofs.AnswerLaws.{Agrees}
-use Rattle.mx_model.proofs.FrameCommit.{operation_agrees, row_after}
+use Rattle.mx_model.proofs.FrameRuns.{operation_agrees, row_after}
 use Rattle.mx_model.proofs.JournalLaws.{state_after-append}
 
 -- the state after rows, and then others

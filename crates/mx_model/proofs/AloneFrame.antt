@@ -1,4 +1,4 @@
--- The frame of a transaction that runs alone: where nothing that rows touch are_met what it read, it is answered the same after them.
+-- The frame of a transaction that runs alone: where nothing that rows touch meets what it read, it is answered the same after them.
 use Rattle.std.proofs.Common.{◌≡◌, Bool, true, false, not, ◌&&◌, List, [], ◌∷◌, ◌++◌, Option, Some, None, refl, sym, ap, ◌∙◌, subst}
 use Rattle.std.specs.Prelude.{◌==◌, if◌then◌else◌}
 use Rattle.std.specs.List.{AllByRecursion}
@@ -18,7 +18,7 @@ use Rattle.mx_model.specs.RunAlone.{Run, answer_in_run, run_alone, run_with, sta
 use Rattle.mx_model.specs.Touches.{rows_meet}
 use Rattle.mx_model.specs.statements.Answer.{Answer, refusal_after, refusal_alone}
 use Rattle.mx_model.specs.statements.Statement.{Statement}
-use Rattle.mx_model.proofs.FrameReads.{both_false, missed_parts}
+use Rattle.mx_model.proofs.FrameTuples.{both_false, missed_parts}
 use Rattle.mx_model.proofs.FrameRuns.{AreFramed, first_sound, framed_after, statement_same}
 use Rattle.mx_model.proofs.FrameSteps.{row_agrees}
 

@@ -21,9 +21,8 @@ use Rattle.mx_model.specs.statements.Answer.{Answer}
 use Rattle.mx_model.proofs.AloneFrame.{IsAnsweredSame, rows_leave_run}
 use Rattle.mx_model.proofs.FrameRuns.{rows_stay_sound}
 use Rattle.mx_model.proofs.JournalLaws.{state_after-append}
-use Rattle.mx_model.proofs.OverlapCommits.{is_met, overlap_later, prefix_kept}
+use Rattle.mx_model.proofs.OverlapCommits.{is_met, overlap_later, prefix_kept, standing_moved}
 use Rattle.mx_model.proofs.OverlapFound.{overlap_found}
-use Rattle.mx_model.proofs.OverlapStandings.{standing_moved}
 
 -- the whole journal is a prefix of it
 pub whole_state : (base : State) (journal : List Tx) → state_after_first base journal (length journal) ≡ state_after base journal

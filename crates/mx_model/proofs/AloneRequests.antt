@@ -27,10 +27,8 @@ use Rattle.mx_model.specs.Streams.{Ends, Goes, Opens, Outcome, Streams, begins_b
 use Rattle.mx_model.specs.Transactions.{state_after}
 use Rattle.mx_model.specs.statements.Answer.{Answer}
 use Rattle.mx_model.specs.statements.Statement.{Operation, Selects, Statement, Writes, statement_of, write_statement}
-use Rattle.mx_model.proofs.AloneNames.{named_has}
+use Rattle.mx_model.proofs.AloneStreams.{named_has, answer_now, statement_alone, step_now, GoesAlone, IsKept, Stands}
 use Rattle.mx_model.proofs.AloneSound.{numbered_bytes, run_bytes, statement_bytes}
-use Rattle.mx_model.proofs.AloneSteps.{answer_now, statement_alone, step_now}
-use Rattle.mx_model.proofs.AloneStreams.{GoesAlone, IsKept, Stands}
 
 module _ (streams : Streams) (name : TxnName) (all : AllStandAlone streams) where
   abbrev ids : Ids

@@ -29,9 +29,8 @@ use Rattle.mx_model.specs.statements.Select.{iterator_of}
 use Rattle.mx_model.specs.statements.Statement.{Operation, Selects, Statement, Writes}
 use Rattle.mx_model.specs.statements.Write.{answer_of_outcome}
 use Rattle.mx_model.proofs.EachLaws.{each_of_both}
-use Rattle.mx_model.proofs.FrameCommit.{last_sound}
-use Rattle.mx_model.proofs.FrameRuns.{rows_stay_sound}
-use Rattle.mx_model.proofs.SelectLaws.{select_no_row}
+use Rattle.mx_model.proofs.FrameRuns.{last_sound, rows_stay_sound}
+use Rattle.mx_model.proofs.AnswerLaws.{select_no_row}
 
 -- ---- the row of a statement
 

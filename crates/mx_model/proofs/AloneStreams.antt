@@ -1,21 +1,96 @@
 -- All open transactions stand alone after a request whose commit is of bytes and whose statement, where it is one of theirs, stands alone.
-use Rattle.std.proofs.Common.{◌≡◌, ℕ, not, List, [], ◌∷◌, ◌++◌, append-nil, Some, sym, subst}
-use Rattle.std.specs.Prelude.{⊤, ◌==◌}
-use Rattle.std.specs.List.{AllByRecursion}
+use Rattle.std.proofs.Common.{◌≡◌, Bool, true, false, List, [], ◌∷◌, Some, refl, subst, ◌≢◌, ◌⊎◌, length, map, sym, ap, ◌∙◌, arith, ℕ, not, ◌++◌, append-nil}
+use Rattle.std.specs.Prelude.{if◌then◌else◌, ⊤, ◌==◌}
+use Rattle.std.specs.List.{AllByRecursion, AllZip}
 use Rattle.mx_base.specs.declared.ids.TxnName.{TxnName}
-use Rattle.mx_row.specs.declared.row.Row.{Row}
+use Rattle.mx_model.specs.Overlaps.{TransactionStep, Transaction, Doomed, place_by, place_read, standing, standing_after_step, state_after_first, statements_in}
+use Rattle.mx_model.specs.Streams.{is_name, transaction_named, transaction_with, with_step, Becomes, Ends, Goes, Opens, Outcome, Stays, Streams, commit_with, open_after, streams_after, streams_left}
+use Rattle.mx_base.specs.declared.refusal.Refusal.TheVariants.{Conflict}
 use Rattle.mx_row.specs.declared.tx.Tx.{Tx}
 use Rattle.mx_schema.specs.State.{State}
-use Rattle.mx_schema.proofs.AloneLaws.{each_follows}
 use Rattle.mx_model.specs.declared.ids.Ids.{Ids}
-use Rattle.mx_model.specs.Alone.{AllStandAlone, HaveBytes, StandsAlone}
-use Rattle.mx_model.specs.Overlaps.{Transaction}
-use Rattle.mx_model.specs.Streams.{Becomes, Ends, Goes, Opens, Outcome, Stays, Streams, commit_with, is_name, open_after, streams_after, streams_left, transaction_named, transaction_with}
-use Rattle.mx_model.proofs.AloneNames.{each_with_step}
+use Rattle.mx_model.specs.declared.reply.Reply.{Reply}
+use Rattle.mx_model.specs.declared.reply.Reply.TheVariants.{Refused}
+use Rattle.mx_model.specs.Alone.{IsToldAlone, StandsAlone, answers_alone, AllStandAlone, HaveBytes}
+use Rattle.mx_model.specs.Frame.{IsDataStatement}
+use Rattle.mx_model.specs.RunAlone.{answer_alone, run_alone, writes}
+use Rattle.mx_model.specs.statements.Answer.{Answer}
+use Rattle.mx_model.specs.statements.Statement.{Statement}
+use Rattle.mx_model.proofs.OverlapSteps.{overlap_stays, standing_after, standing_at}
+use Rattle.mx_row.specs.declared.row.Row.{Row}
+use Rattle.mx_schema.proofs.AloneLaws.{each_follows}
 use Rattle.mx_model.proofs.AlonePlaces.{commit_alone}
 use Rattle.mx_model.proofs.AloneSound.{journal_sound}
-use Rattle.mx_model.proofs.AloneSteps.{begins_alone}
 use Rattle.mx_model.proofs.EachLaws.{each_kept, each_of_both}
+
+-- ---- what each open transaction has: that of a name has it, and the others where that one goes on
+
+-- the one of a name has it
+pub named_has : (P : Transaction → Type 0) (name : TxnName) (all : List Transaction) (transaction : Transaction) → AllByRecursion P all → transaction_named name all ≡ Some transaction → P transaction
+named_has P name [] transaction have is = absurd cc
+named_has P name (one ∷ others) transaction have is = by_test (is_name one.name name) is (named_has P name others transaction have.1)
+  where
+    by_test : (b : Bool) → (if b then Some one else transaction_named name others) ≡ Some transaction → (transaction_named name others ≡ Some transaction → P transaction) → P transaction
+    by_test true is rest = let same : one ≡ transaction = cc in subst P same have.0
+    by_test false is rest = rest is
+
+-- also where that one has gone on
+pub each_with_step : (P : Transaction → Type 0) (name : TxnName) (step : TransactionStep) (all : List Transaction) → AllByRecursion P all
+    → ((transaction : Transaction) → transaction_named name all ≡ Some transaction → P (transaction_with step transaction)) → AllByRecursion P (with_step name step all)
+each_with_step P name step [] have goes = tt
+each_with_step P name step (one ∷ others) have goes = by_test (is_name one.name name) goes (each_with_step P name step others have.1)
+  where
+    by_test : (b : Bool) → ((transaction : Transaction) → (if b then Some one else transaction_named name others) ≡ Some transaction → P (transaction_with step transaction))
+        → (((transaction : Transaction) → transaction_named name others ≡ Some transaction → P (transaction_with step transaction)) → AllByRecursion P (with_step name step others))
+        → AllByRecursion P (if b then transaction_with step one ∷ others else one ∷ with_step name step others)
+    by_test true goes rest = (goes one refl, have.1)
+    by_test false goes rest = (have.0, rest goes)
+
+-- ---- a further statement of an open transaction that was answered alone, and a transaction that begins
+
+-- a transaction that begins now
+pub begins_alone : (ids : Ids) (base : State) (journal : List Tx) (name : TxnName) → StandsAlone ids base journal (record { name = name; begun = length journal; steps = [] })
+unfolding run_alone
+begins_alone ids base journal name = record {
+  within = record { begun = omega arith; made = tt };
+  plain = tt;
+  reads = refl;
+  told = tt;
+  exact = λ still. refl;
+}
+
+module _ (ids : Ids) (base : State) (journal : List Tx) (transaction : Transaction) (statement : Statement) where
+  -- what the statement is answered alone, at the transaction's place
+  abbrev pub answer_now : Answer
+  answer_now = answer_alone ids (state_after_first base journal (place_read base journal transaction)) statement (statements_in transaction.steps)
+
+  abbrev pub step_now : Reply → TransactionStep
+  step_now reply = record { statement = statement; after = length journal; reply = reply; reads = answer_now.reads }
+
+  -- the transaction has it answered in front of its earlier ones
+  answers_further : (reply : Reply) → answers_alone ids base journal (transaction_with (step_now reply) transaction) ≡ answer_now ∷ answers_alone ids base journal transaction
+  unfolding run_alone
+  answers_further reply =
+      ap (λ overlap. (run_alone ids (state_after_first base journal (place_by (length journal) overlap)) (statement ∷ statements_in transaction.steps)).answers)
+      (overlap_stays base journal (step_now reply) transaction refl)
+
+  pub statement_alone : StandsAlone ids base journal transaction → IsDataStatement statement → (reply : Reply)
+      → (reply ≡ answer_now.reply) ⊎ (reply ≡ Refused Conflict) → (standing ids base journal (writes statement.operation) transaction ≢ Doomed → reply ≡ answer_now.reply)
+      → StandsAlone ids base journal (transaction_with (step_now reply) transaction)
+  statement_alone alone plain reply told exact = record {
+    within = record { begun = alone.within.begun; made = (omega arith, alone.within.made) };
+    plain = (plain, alone.plain);
+    reads = (λ i. answer_now.reads ∷ alone.reads i) ∙ ap (map (λ (answer : Answer). answer.reads)) (sym (answers_further reply));
+    told = subst (AllZip IsToldAlone (step_now reply ∷ transaction.steps)) (sym (answers_further reply)) (told, alone.told);
+    exact = λ still.
+        let now : standing ids base journal (writes statement.operation) transaction ≢ Doomed =
+        λ doomed. still (standing_after ids base journal (step_now reply) transaction refl ∙ sym (standing_at ids base journal (writes statement.operation) transaction) ∙ doomed) in
+        let before : standing ids base journal false transaction ≢ Doomed =
+        λ doomed. still (standing_after ids base journal (step_now reply) transaction refl ∙ ap (standing_after_step (writes statement.operation)) doomed) in
+        (λ i. exact now i ∷ alone.exact before i) ∙ ap (map (λ (answer : Answer). answer.reply)) (sym (answers_further reply));
+  }
+
+-- ---- all open transactions stand alone after a request whose commit is of bytes and whose statement, where it is one of theirs, stands alone
 
 -- a transaction that is open stands alone
 abbrev pub Stands : Streams → Transaction → Type 0

@@ -1,41 +1,129 @@
 -- What a request is answered on a state, by the first test that it fails.
-use Rattle.std.proofs.Common.{◌≡◌, ◌⊎◌, inl, inr, ℕ, Bool, true, false, List, [], ◌∷◌, ◌++◌, refl, sym, ap, ◌∙◌, length, subst, ◌<◌, ◌≤◌, ◌^◌}
-use Rattle.std.specs.Prelude.{Option, Some, None, Ok, Err, Result, nat_lt, if◌then◌else◌}
-use Rattle.std.proofs.lemmas.Bool.{lt-ltb, le-ltb}
-use Rattle.mx_base.specs.declared.refusal.Refusal.{Refusal}
+use Rattle.std.proofs.Common.{◌≡◌, ℕ, ◌<◌, ◌^◌, Some, None, Ok, Bool, true, false, List, ◌++◌, refl, inr, zero, suc, [], length, sym, ap, ◌∙◌, ◌⊎◌, inl, ◌∷◌, subst, ◌≤◌}
+use Rattle.std.specs.Prelude.{Option, Result, Err, nat_lt, if◌then◌else◌}
+use Rattle.std.proofs.lemmas.Bool.{ne_eqb, lt-ltb, le-ltb}
+use Rattle.std.specs.Option.{option_map, unwrap_or}
+use Rattle.mx_row.specs.declared.row.Row.{Row}
+use Rattle.mx_row.specs.Rows.{IsRow}
+use Rattle.mx_schema.specs.Sound.{IsSound}
+use Rattle.mx_schema.specs.State.{State, source_of}
+use Rattle.mx_write.specs.Change.{state_after_changed}
+use Rattle.mx_write.specs.Judge.{judged_write, row_change, row_refusal}
+use Rattle.mx_write.specs.Made.{Made}
+use Rattle.mx_write.specs.Writes.{HasBytes, Write, IsWellFormed, Insert, Replace, Update, Delete, Upsert, write_in}
+use Rattle.mx_write.specs.declared.writable.Writer.TheVariants.{Client}
 use Rattle.mx_base.specs.declared.kinds.Unsupported.TheVariants.{HashIterator}
-use Rattle.mx_base.specs.declared.refusal.Refusal.TheVariants.{SpaceMissing, IndexMissing, ResultTooLong, Unsupported}
+use Rattle.mx_base.specs.declared.refusal.Refusal.TheVariants.{ResultTooLong, Unsupported, KeyPartCount, SpaceMissing, IndexMissing}
 use Rattle.mx_key.specs.declared.fault.Misfit.{Misfit}
 use Rattle.mx_key.specs.declared.iterator.IterKind.{IterKind}
 use Rattle.mx_key.specs.Keys.{Key}
-use Rattle.mx_key.specs.Parts.{key_of_array}
 use Rattle.mx_key.specs.Ranges.{Range, range_of}
-use Rattle.mx_request.specs.declared.request.Request.{Request}
-use Rattle.mx_request.specs.declared.request.Request.TheVariants as request
-use Rattle.mx_request.specs.Spelling.{IsAskable}
-use Rattle.mx_row.specs.declared.row.Row.{Row}
-use Rattle.mx_model.specs.Answers.{answer_to, state_after_row}
-use Rattle.mx_model.specs.Bases.{is_write}
-use Rattle.mx_write.specs.Change.{state_after_changed}
-use Rattle.mx_write.specs.Judge.{judged_write, row_change}
-use Rattle.mx_write.specs.Made.{Made}
-use Rattle.mx_write.specs.Writes.{Write, Insert, Replace, Update, Delete, Upsert, IsWellFormed, write_in}
-use Rattle.mx_write.specs.declared.writable.Writer.TheVariants.{Client}
-use Rattle.mx_model.specs.statements.Write.{answer_of_outcome, write_answer_in}
-use Rattle.mx_model.proofs.SelectLaws.{select_no_row}
-use Rattle.mx_model.proofs.WriteLaws.{changes_again, changes_nothing}
 use Rattle.mx_schema.specs.declared.index_def.IndexDef.{IndexDef}
 use Rattle.mx_schema.specs.declared.schema.Schema.{Schema}
 use Rattle.mx_schema.specs.Catalogues.{index_with, schema_of}
 use Rattle.mx_schema.specs.Picks.{Selection, pick, entries_of, total_bytes, max_result_size}
-use Rattle.mx_schema.specs.Sound.{IsSound}
-use Rattle.mx_schema.specs.State.{State, source_of}
-use Rattle.mx_write.specs.Lookup.{misfit_refusal}
+use Rattle.mx_write.specs.Reads.{schema_reads, space_read}
+use Rattle.mx_model.specs.statements.Answer.{refusal_after, tuples_after, Answer}
+use Rattle.mx_model.specs.statements.Lookup.{in_def, in_schema, in_index, in_space}
+use Rattle.mx_model.specs.statements.Select.{asked_key, part_count, range_reads, select_found, select_by_key, select_in_index, select_answer, select_answer_in, takes_iterator, key_by_kind, iterator_of}
+use Rattle.mx_base.specs.declared.refusal.Refusal.{Refusal}
+use Rattle.mx_msgpack.specs.Items.{after_value, array_of, items_of, values_from}
+use Rattle.mx_key.specs.declared.fault.Misfit.TheVariants.{TooLong}
+use Rattle.mx_key.specs.declared.part.Part.{Part}
+use Rattle.mx_key.specs.Parts.{parts_of_items, whole_key, whole_key_of_items, key_of_array}
+use Rattle.mx_schema.specs.declared.index_def.IndexKind.TheVariants.{Hash}
 use Rattle.mx_model.specs.SelectSteps.{RefusesKey, TakesKey}
-use Rattle.mx_model.specs.statements.Select.{asked_key, part_count, range_reads, select_found, select_by_key, iterator_of, select_in_index, select_answer, select_answer_in, takes_iterator}
-use Rattle.mx_write.specs.Reads.{space_read, schema_reads}
-use Rattle.mx_model.specs.statements.Lookup.{in_def, in_index, in_schema, in_space}
-use Rattle.mx_model.specs.statements.Answer.{Answer, refusal_after, tuples_after}
+use Rattle.mx_request.specs.declared.request.Request.{Request}
+use Rattle.mx_request.specs.Spelling.{IsAskable}
+use Rattle.mx_model.specs.Answers.{answer_to, state_after_row}
+use Rattle.mx_model.specs.statements.Write.{answer_of_outcome, write_answer_in}
+use Rattle.mx_write.specs.Lookup.{misfit_refusal}
+use Rattle.mx_write.proofs.RowJudgeLaws as judge
+use Rattle.mx_write.proofs.SoundLaws as sound
+use Rattle.mx_request.specs.declared.request.Request.TheVariants as request
+
+-- ---- what the rows of writes change, whether they can be written, and that a state stays sound
+
+module _ (before : State) (space : ℕ) (write : Write) (made : Made) where
+  pub changes_nothing : (judged_write Client before space write).outcome ≡ Ok made → made.row ≡ None → made.change ≡ None
+  changes_nothing = judge.no_row_no_change before space write made
+
+  pub changes_again : (row : Row) → IsSound before → (judged_write Client before space write).outcome ≡ Ok made → made.row ≡ Some row → row_change before row ≡ made.change
+  changes_again row sound outcome leaves = (judge.takes_again before space made row sound leaves write outcome).1
+
+  pub takes_again : (row : Row) → IsSound before → (judged_write Client before space write).outcome ≡ Ok made → made.row ≡ Some row → row_refusal before row ≡ None
+  takes_again row sound outcome leaves = (judge.takes_again before space made row sound leaves write outcome).0
+
+  pub row_written : (row : Row) → IsSound before → IsWellFormed write → space < 2 ^ 32 → (judged_write Client before space write).outcome ≡ Ok made → made.row ≡ Some row → IsRow row
+  row_written = judge.leaves_row before space write made
+
+  pub stays_sound : IsSound before → HasBytes write → (judged_write Client before space write).outcome ≡ Ok made → IsSound (state_after_changed before made.change)
+  stays_sound = sound.stays_sound Client before space write made
+
+-- ---- a SELECT writes no row
+
+answered_no_row : (space source index : ℕ) (whole : Range) (found : Selection) → (select_found space source index whole found).row ≡ None
+answered_no_row space source index whole found = by_test (nat_lt max_result_size (total_bytes found.tuples))
+  where
+    by_test : (long : Bool)
+        → (if long then refusal_after (schema_reads space ++ range_reads source index (Some whole)) ResultTooLong
+        else tuples_after (schema_reads space ++ range_reads source index found.read) found.tuples).row ≡ None
+    by_test true = refl
+    by_test false = refl
+
+selected_by_no_row : (before : State) (space limit offset : ℕ) (iterator : IterKind) (def : IndexDef) (key : Result Key Misfit)
+    → (select_by_key before space limit offset iterator def key).row ≡ None
+selected_by_no_row before space limit offset iterator def (Err misfit) = refl
+selected_by_no_row before space limit offset iterator def (Ok key) =
+    answered_no_row space (source_of space) def.id.0 (range_of iterator key) (pick (entries_of before space def) iterator key offset limit)
+
+-- a SELECT writes no row
+pub select_no_row : (before : State) (space index limit offset : ℕ) (iterator : IterKind) (key : List ℕ)
+    → (select_answer_in before space index limit offset iterator key).row ≡ None
+select_no_row before space index limit offset iterator key = by_schema (schema_of before space)
+  where
+    by_def : (schema : Schema) (def : Option IndexDef) → (in_def space schema index def (select_in_index before space limit offset iterator key)).row ≡ None
+    by_def schema None = refl
+    by_def schema (Some def) = by_test (takes_iterator def.kind iterator (part_count key))
+      where
+        by_test : (taken : Bool)
+            → (if taken then select_by_key before space limit offset iterator def (asked_key def key) else refusal_after (schema_reads space) (Unsupported HashIterator)).row ≡ None
+        by_test true = selected_by_no_row before space limit offset iterator def (asked_key def key)
+        by_test false = refl
+
+    by_schema : (schema : Option Schema) → (in_schema space schema (select_answer before space index limit offset iterator key)).row ≡ None
+    by_schema None = refl
+    by_schema (Some schema) = by_def schema (index_with index schema.indexes)
+
+-- ---- how many parts a key has
+
+length_of_values : (count : ℕ) (bytes : List ℕ) → length (values_from count bytes) ≡ count
+length_of_values zero bytes = refl
+length_of_values (suc count) bytes = ap suc (length_of_values count (after_value bytes))
+
+-- as many as its array has items
+pub parts_are_counted : (key : List ℕ) (count : ℕ) (bytes : List ℕ) → array_of key ≡ Some (count, bytes) → part_count key ≡ count
+parts_are_counted key count bytes is =
+    ap (λ found. length (unwrap_or (option_map (λ array. values_from array.0 array.1) found) [])) is ∙ length_of_values count bytes
+
+-- ---- a hash index
+
+other_key : (parts : List Part) (items : List (List ℕ)) → (length items ≡ length parts → ⊥) → whole_key_of_items parts items ≡ Err (TooLong (length items))
+other_key parts items other = ap (λ b. if b then parts_of_items 0 parts items else Err (TooLong (length items))) (ne_eqb (length items) (length parts) other)
+
+-- it refuses a key that is neither empty nor whole
+pub hash_refuses : (def : IndexDef) (iterator : IterKind) (key : List ℕ) (parts : ℕ) (refusal : Refusal) → def.kind ≡ Hash → parts ≡ part_count key
+    → takes_iterator def.kind iterator parts ≡ true → (parts ≡ 0 → ⊥) → (parts ≡ length def.key → ⊥) → refusal ≡ KeyPartCount parts (length def.key)
+    → RefusesKey def iterator key refusal
+hash_refuses def iterator key parts refusal hash same taken some other is =
+    inr (
+      TooLong (part_count key),
+      ap (takes_iterator def.kind iterator) (sym same) ∙ taken,
+      ap (λ kind. key_by_kind kind def.key key) hash
+          ∙ ap (λ none. if none then Ok [] else whole_key def.key key) (ne_eqb (part_count key) 0 (λ none. some (same ∙ none)))
+          ∙ other_key def.key (unwrap_or (items_of key) []) (λ many. other (same ∙ many)),
+      is ∙ ap (λ n. KeyPartCount n (length def.key)) same,
+    )
 
 -- ---- a space, and an index of it
 
@@ -233,24 +321,6 @@ write_answered before (request.Join instance) space write e = absurd cc
 write_answered before (request.Subscribe instance set clock) space write e = absurd cc
 write_answered before (request.Ack clock) space write e = absurd cc
 
--- it is a request that writes, and well formed where it can be asked
-pub write_writes : (asked : Request) (space : ℕ) (write : Write) → write_in asked ≡ Some (space, write) → is_write asked ≡ true
-write_writes (request.Insert in_space tuple) space write e = refl
-write_writes (request.Replace in_space tuple) space write e = refl
-write_writes (request.Update in_space index first key operations) space write e = refl
-write_writes (request.Delete in_space index key) space write e = refl
-write_writes (request.Upsert in_space first tuple operations) space write e = refl
-write_writes (request.Select in_space index limit offset iterator key) space write e = absurd cc
-write_writes request.Nop space write e = absurd cc
-write_writes request.Ping space write e = absurd cc
-write_writes request.Begin space write e = absurd cc
-write_writes request.Commit space write e = absurd cc
-write_writes request.Rollback space write e = absurd cc
-write_writes request.Id space write e = absurd cc
-write_writes (request.Join instance) space write e = absurd cc
-write_writes (request.Subscribe instance set clock) space write e = absurd cc
-write_writes (request.Ack clock) space write e = absurd cc
-
 abbrev Fits : ℕ × Write → Type 0
 Fits (space, write) = (space < 2 ^ 32) × IsWellFormed write
 
@@ -270,22 +340,3 @@ write_fits request.Id space write can e = absurd cc
 write_fits (request.Join instance) space write can e = absurd cc
 write_fits (request.Subscribe instance set clock) space write can e = absurd cc
 write_fits (request.Ack clock) space write can e = absurd cc
-
--- what is no write leaves no row
-pub no_write_no_row : (before : State) (asked : Request) → write_in asked ≡ None → (answer_to before asked).row ≡ None
-unfolding answer_to
-no_write_no_row before (request.Select space index limit offset iterator key) none = select_no_row before space.0 index.0 limit offset (iterator_of iterator) key
-no_write_no_row before (request.Insert space tuple) none = absurd cc
-no_write_no_row before (request.Replace space tuple) none = absurd cc
-no_write_no_row before (request.Update space index first key operations) none = absurd cc
-no_write_no_row before (request.Delete space index key) none = absurd cc
-no_write_no_row before (request.Upsert space first tuple operations) none = absurd cc
-no_write_no_row before request.Nop none = refl
-no_write_no_row before request.Ping none = refl
-no_write_no_row before request.Begin none = refl
-no_write_no_row before request.Commit none = refl
-no_write_no_row before request.Rollback none = refl
-no_write_no_row before request.Id none = refl
-no_write_no_row before (request.Join instance) none = refl
-no_write_no_row before (request.Subscribe instance set clock) none = refl
-no_write_no_row before (request.Ack clock) none = refl

@@ -44,10 +44,30 @@ use Rattle.mx_model.proofs.ConflictStages.{EndsOther, is_reserved}
 use Rattle.mx_model.proofs.ConflictWrites.{write_other}
 use Rattle.mx_request.specs.declared.request.Request.TheVariants as request
 
+-- the refusals that no statement comes to by itself
+abbrev pub is_conflict_or_lack : Refusal → Bool
+is_conflict_or_lack Conflict = true
+is_conflict_or_lack OutOfMemory = true
+is_conflict_or_lack other = false
+
 -- a reply is no conflict, and not out of memory
 abbrev pub TellsOther : Reply → Type 0
-TellsOther (Refused why) = is_reserved why ≡ false
+TellsOther (Refused why) = is_conflict_or_lack why ≡ false
 TellsOther other = ⊤
+
+-- nor is it a refusal as read-only, or for want of an lsn
+abbrev pub TellsOwn : Reply → Type 0
+TellsOwn (Refused why) = is_reserved why ≡ false
+TellsOwn other = ⊤
+
+pub own_other : (reply : Reply) → TellsOwn reply → TellsOther reply
+own_other (Refused why) own = by_refusal why own
+  where
+    by_refusal : (why : Refusal) → is_reserved why ≡ false → is_conflict_or_lack why ≡ false
+    by_refusal Conflict own = absurd cc
+    by_refusal OutOfMemory own = absurd cc
+    by_refusal why own = refl
+own_other reply own = tt
 
 pub tells_no_conflict : (reply : Reply) → TellsOther reply → reply ≡ Refused Conflict → ⊥
 tells_no_conflict reply other is = let wrong : true ≡ false = subst TellsOther is other in absurd cc
@@ -55,7 +75,7 @@ tells_no_conflict reply other is = let wrong : true ≡ false = subst TellsOther
 pub tells_memory : (reply : Reply) → TellsOther reply → is_out_of_memory reply ≡ false
 tells_memory (Refused why) other = by_refusal why other
   where
-    by_refusal : (why : Refusal) → is_reserved why ≡ false → (code_of why == code_of OutOfMemory) ≡ false
+    by_refusal : (why : Refusal) → is_conflict_or_lack why ≡ false → (code_of why == code_of OutOfMemory) ≡ false
     by_refusal Conflict other = absurd cc
     by_refusal OutOfMemory other = absurd cc
     by_refusal why other = refl
@@ -63,41 +83,41 @@ tells_memory reply other = refl
 
 -- ---- one statement
 
-select_other : (before : State) (space index limit offset : ℕ) (iterator : IterKind) (key : List ℕ) → TellsOther (select_answer_in before space index limit offset iterator key).reply
-select_other before space index limit offset iterator key = by_schema (schema_of before space)
+select_own : (before : State) (space index limit offset : ℕ) (iterator : IterKind) (key : List ℕ) → TellsOwn (select_answer_in before space index limit offset iterator key).reply
+select_own before space index limit offset iterator key = by_schema (schema_of before space)
   where
-    by_found : (def : IndexDef) (asked : Key) (found : Selection) → TellsOther (select_found space (source_of space) def.id.0 (range_of iterator asked) found).reply
+    by_found : (def : IndexDef) (asked : Key) (found : Selection) → TellsOwn (select_found space (source_of space) def.id.0 (range_of iterator asked) found).reply
     by_found def asked found = by_test (nat_lt max_result_size (total_bytes found.tuples))
       where
-        by_test : (b : Bool) → TellsOther
+        by_test : (b : Bool) → TellsOwn
             (if b then refusal_after (schema_reads space ++ range_reads (source_of space) def.id.0 (Some (range_of iterator asked))) ResultTooLong
             else tuples_after (schema_reads space ++ range_reads (source_of space) def.id.0 found.read) found.tuples).reply
         by_test true = refl
         by_test false = tt
 
-    by_key : (def : IndexDef) (asked : Result Key Misfit) → TellsOther (select_by_key before space limit offset iterator def asked).reply
+    by_key : (def : IndexDef) (asked : Result Key Misfit) → TellsOwn (select_by_key before space limit offset iterator def asked).reply
     by_key def (Err (TooLong given)) = refl
     by_key def (Err (WrongPart part expected)) = refl
     by_key def (Ok asked) = by_found def asked (pick (entries_of before space def) iterator asked offset limit)
 
-    by_def : (schema : Schema) (def : Option IndexDef) → TellsOther (in_def space schema index def (select_in_index before space limit offset iterator key)).reply
+    by_def : (schema : Schema) (def : Option IndexDef) → TellsOwn (in_def space schema index def (select_in_index before space limit offset iterator key)).reply
     by_def schema None = refl
     by_def schema (Some def) = by_test (takes_iterator def.kind iterator (part_count key))
       where
-        by_test : (taken : Bool) → TellsOther
+        by_test : (taken : Bool) → TellsOwn
             (if taken then select_by_key before space limit offset iterator def (asked_key def key) else refusal_after (schema_reads space) (Unsupported HashIterator)).reply
         by_test true = by_key def (asked_key def key)
         by_test false = refl
 
-    by_schema : (schema : Option Schema) → TellsOther (in_schema space schema (select_answer before space index limit offset iterator key)).reply
+    by_schema : (schema : Option Schema) → TellsOwn (in_schema space schema (select_answer before space index limit offset iterator key)).reply
     by_schema None = refl
     by_schema (Some schema) = by_def schema (index_with index schema.indexes)
 
-operation_other : (before : State) (space : ℕ) (operation : Operation) → TellsOther (answer_in_space before space operation).reply
-operation_other before space (Selects index limit offset iterator key) = select_other before space index limit offset (iterator_of iterator) key
-operation_other before space (Writes write) = by_outcome (judged_write Client before space write).outcome (write_other before space write)
+pub operation_own : (before : State) (space : ℕ) (operation : Operation) → TellsOwn (answer_in_space before space operation).reply
+operation_own before space (Selects index limit offset iterator key) = select_own before space index limit offset (iterator_of iterator) key
+operation_own before space (Writes write) = by_outcome (judged_write Client before space write).outcome (write_other before space write)
   where
-    by_outcome : (outcome : Result Made Refusal) → EndsOther outcome → TellsOther (answer_of_outcome (judged_write Client before space write).reads outcome).reply
+    by_outcome : (outcome : Result Made Refusal) → EndsOther outcome → TellsOwn (answer_of_outcome (judged_write Client before space write).reads outcome).reply
     by_outcome (Ok is) other = tt
     by_outcome (Err why) other = other
 
@@ -107,7 +127,14 @@ statement_other ids before statement = by_test (writes statement.operation && no
     by_test : (refuses : Bool)
         → TellsOther (if refuses then refusal_alone (ReadOnly (record { 0 = writable_node })) else answer_in_space before statement.space statement.operation).reply
     by_test true = refl
-    by_test false = operation_other before statement.space statement.operation
+    by_test false = own_other (answer_in_space before statement.space statement.operation).reply (operation_own before statement.space statement.operation)
+
+-- where the node takes it
+pub statement_own : (ids : Ids) (before : State) (statement : Statement) → (writes statement.operation && not (ids.me == writable_node)) ≡ false
+    → TellsOwn (statement_answer ids before statement).reply
+statement_own ids before statement taken =
+    subst (λ (refuses : Bool). TellsOwn (if refuses then refusal_alone (ReadOnly (record { 0 = writable_node })) else answer_in_space before statement.space statement.operation).reply)
+    (sym taken) (operation_own before statement.space statement.operation)
 
 -- ---- in a transaction that runs alone
 
@@ -123,6 +150,25 @@ limited_other rows answer (Some row) other = by_test (has_room rows row)
 pub further_other : (ids : Ids) (run : Run) (statement : Statement) → TellsOther (answer_in_run ids run statement).reply
 further_other ids run statement =
     let answer = statement_answer ids run.state statement in limited_other run.rows answer answer.row (statement_other ids run.state statement)
+
+-- where the node takes it
+pub further_own : (ids : Ids) (run : Run) (statement : Statement) → (writes statement.operation && not (ids.me == writable_node)) ≡ false
+    → TellsOwn (answer_in_run ids run statement).reply
+further_own ids run statement taken = by_row answer.row
+  where
+    answer : Answer
+    answer = statement_answer ids run.state statement
+
+    own : TellsOwn answer.reply
+    own = statement_own ids run.state statement taken
+
+    by_room : (room : Bool) → TellsOwn (if room then answer else refusal_after answer.reads TransactionTooLong).reply
+    by_room true = own
+    by_room false = refl
+
+    by_row : (row : Option Row) → TellsOwn (within_limits run.rows answer row).reply
+    by_row None = own
+    by_row (Some row) = by_room (has_room run.rows row)
 
 -- and all of them
 pub run_other : (ids : Ids) (before : State) (statements : List Statement)
@@ -182,15 +228,15 @@ module _ (streams : Streams) (name : TxnName) (transaction : Transaction) (named
     abbrev answer : Answer
     answer = answer_in_run streams.base.ids run statement
 
-    told_as : (one : Request) → statement_of one ≡ Some statement → outcome_of streams name one ≡ tells_statement streams name one (statement_of one)
-    told_as request.Begin is = absurd cc
-    told_as request.Commit is = absurd cc
-    told_as request.Rollback is = absurd cc
-    told_as other is = refl
+    states_as : (one : Request) → statement_of one ≡ Some statement → outcome_of streams name one ≡ tells_statement streams name one (statement_of one)
+    states_as request.Begin is = absurd cc
+    states_as request.Commit is = absurd cc
+    states_as request.Rollback is = absurd cc
+    states_as other is = refl
 
     outcome_is : outcome_of streams name asked ≡ states_standing streams statement answer (stands (writes statement.operation))
     outcome_is =
-        told_as asked is
+        states_as asked is
         ∙ ap (tells_statement streams name asked) is
         ∙ ap (λ present. states streams present statement) named
         ∙ ap (λ (b : Bool). if b then told_alone (Refused (Unsupported SchemaInTransaction)) else states_standing streams statement answer (stands (writes statement.operation))) plain

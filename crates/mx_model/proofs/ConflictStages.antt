@@ -1,9 +1,10 @@
--- No write comes to a conflict or to out of memory by itself: each of its stages has refusals of its own.
+-- No write comes to a conflict or to out of memory in its space, nor is it refused there as read-only or for want of an lsn: each of its stages
+-- has refusals of its own.
 use Rattle.std.proofs.Common.{ℕ, Bool, true, false, List, [], ◌∷◌, length, Option, Some, None, Result, Ok, Err, ◌≡◌, refl}
 use Rattle.std.specs.Prelude.{⊤, ◌||◌, nat_lt, ◌==◌, if◌then◌else◌}
-use Rattle.mx_base.specs.declared.kinds.Unsupported.TheVariants.{SchemaInPlace, SystemSpaceWrite}
+use Rattle.mx_base.specs.declared.kinds.Unsupported.TheVariants.{SchemaInPlace, SchemaInTransaction, SystemSpaceWrite}
 use Rattle.mx_base.specs.declared.refusal.Refusal.{Refusal}
-use Rattle.mx_base.specs.declared.refusal.Refusal.TheVariants.{Conflict, DuplicateKey, IndexMissing, IndexNotUnique, OutOfMemory, SpaceExists, SpaceMissing, TupleTooLong, Unsupported}
+use Rattle.mx_base.specs.declared.refusal.Refusal.TheVariants.{Conflict, DuplicateKey, IndexMissing, IndexNotUnique, LsnsUsedUp, OutOfMemory, ReadOnly, SpaceExists, SpaceMissing, TupleTooLong, Unsupported}
 use Rattle.mx_key.specs.declared.fault.Misfit.{Misfit}
 use Rattle.mx_key.specs.declared.fault.Misfit.TheVariants.{TooLong, WrongPart}
 use Rattle.mx_key.specs.declared.fault.NoKey.{NoKey}
@@ -28,10 +29,14 @@ use Rattle.mx_write.specs.Lookup.{all_indexes, holder_of, is_unique, key_or_refu
 use Rattle.mx_write.specs.Unique.{are_free, described_name, duplicate, held_refusal, is_another, is_free, is_free_if_unique}
 use Rattle.mx_write.specs.Writable.{begins_with_system_number, describes_schema, is_read_only, leader_refusal, names_leader, own_row_refusal, schema_refusal, write_refusal}
 
--- the refusals that no statement comes to by itself
+-- the refusals that no statement comes to in its space: a conflict, out of memory, that the node takes no writes, that no lsn is left, and
+-- that a transaction can't change spaces and indexes
 abbrev pub is_reserved : Refusal → Bool
 is_reserved Conflict = true
 is_reserved OutOfMemory = true
+is_reserved (ReadOnly node) = true
+is_reserved LsnsUsedUp = true
+is_reserved (Unsupported SchemaInTransaction) = true
 is_reserved other = false
 
 -- a refusal, where there is one, is another one

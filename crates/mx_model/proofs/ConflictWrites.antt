@@ -24,9 +24,9 @@ use Rattle.mx_schema.specs.Picks.{Indexed, tuples_by_index}
 use Rattle.mx_schema.specs.SchemaChecks.{fields_in, first_number}
 use Rattle.mx_schema.specs.SpaceRows.{space_in}
 use Rattle.mx_schema.specs.State.{State, Tuples, index_rows, key_in, space_rows, tuples_in}
-use Rattle.mx_space.specs.declared.build.BuildFault.{BuildFault}
-use Rattle.mx_space.specs.declared.build.BuildFault.TheVariants.{Duplicate, LacksKey, NoMemory}
-use Rattle.mx_space.specs.Builds.{build_fault, build_fault_from, row_fault}
+use Rattle.mx_entries.specs.declared.build_fault.BuildFault.{BuildFault}
+use Rattle.mx_entries.specs.declared.build_fault.BuildFault.TheVariants.{Duplicate, LacksKey, NoMemory}
+use Rattle.mx_entries.specs.Builds.{build_fault, build_fault_from, row_fault}
 use Rattle.mx_update.specs.Updates.{Argument, Failed, Overflow, UpdateFailure, updated, upserted}
 use Rattle.mx_update.specs.Updates as update
 use Rattle.mx_write.specs.declared.writable.Writer.TheVariants.{Client}

@@ -22,9 +22,8 @@ use Rattle.mx_schema.proofs.OrderLaws.{eq_is}
 use Rattle.mx_write.specs.Reads.{index_read, schema_reads, space_read}
 use Rattle.mx_write.specs.Touches.{Touched, index_by_state}
 use Rattle.mx_model.specs.Frame.{AgreeAt, AgreeBut, IsIndexTouched}
-use Rattle.mx_model.proofs.FrameReads.{AreMissed, index_key, missed_key, missed_parts}
+use Rattle.mx_model.proofs.FrameTuples.{AreMissed, index_key, missed_key, missed_parts, AreAlike, passing_same, same_option}
 use Rattle.mx_model.proofs.FrameSound.{indexes_first, spaces_first}
-use Rattle.mx_model.proofs.FrameTuples.{AreAlike, passing_same, same_option}
 
 -- ---- keys with a prefix
 

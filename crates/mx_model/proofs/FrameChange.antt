@@ -15,7 +15,7 @@ use Rattle.mx_schema.specs.Sound.{IsSound}
 use Rattle.mx_schema.specs.State.{State, Tuples, index_rows, tuples_in, with_tuple, without_tuple}
 use Rattle.mx_schema.proofs.KeyedLaws.{two_key}
 use Rattle.mx_schema.proofs.StateLaws.{tuples_set}
-use Rattle.mx_space.proofs.EntriesLaws.{tied_is, ties_itself}
+use Rattle.mx_entries.proofs.EntriesLaws.{tied_is, ties_itself}
 use Rattle.mx_write.specs.Change.{state_after_change, state_with}
 use Rattle.mx_write.specs.Descriptions.{index_named_by, space_named_by}
 use Rattle.mx_write.specs.Installs.{MayChange}

@@ -15,7 +15,7 @@ use Rattle.mx_schema.specs.Picks.{Selection, entries_of, max_result_size, pick, 
 use Rattle.mx_schema.specs.Sound.{IsSound}
 use Rattle.mx_schema.specs.State.{State, Tuples, index_rows, shown_index_rows, shown_space_rows, source_of, space_rows, tuples_in}
 use Rattle.mx_schema.proofs.DescribedLaws.{its_keyed}
-use Rattle.mx_space.proofs.IndexedLaws.{AreApart}
+use Rattle.mx_entries.proofs.IndexedLaws.{AreApart}
 use Rattle.mx_write.specs.Reads.{index_read, schema_reads, space_read}
 use Rattle.mx_write.specs.Touches.{Touched}
 use Rattle.mx_model.specs.Frame.{AgreeAt, AgreeBut}
@@ -24,9 +24,8 @@ use Rattle.mx_model.specs.statements.Lookup.{in_def, in_schema}
 use Rattle.mx_model.specs.statements.Select.{asked_key, part_count, range_reads, select_answer, select_answer_in, select_by_key, select_found, select_in_index, takes_iterator}
 use Rattle.mx_model.proofs.FrameCatalogue.{BothThere, alike_in, own_agree, schema_same, there_alike, tuples_agree}
 use Rattle.mx_model.proofs.FrameLookups.{IsAlike, by_number}
-use Rattle.mx_model.proofs.FrameReads.{AreMissed, missed_parts}
+use Rattle.mx_model.proofs.FrameTuples.{AreMissed, missed_parts, found_alike}
 use Rattle.mx_model.proofs.FrameSound.{are_apart, index_known, source_described}
-use Rattle.mx_model.proofs.FrameTuples.{found_alike}
 use Rattle.mx_model.proofs.FrameWindow.{pick_same, pick_whole}
 
 module _ (touched : List Touched) (one other : State) (agree : AgreeBut touched one other) (sound : IsSound one) (still : IsSound other) (space : ℕ) where

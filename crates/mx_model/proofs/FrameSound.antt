@@ -21,10 +21,10 @@ use Rattle.mx_schema.proofs.FirstSoundLaws.{first_primary, first_there}
 use Rattle.mx_schema.proofs.FirstStateLaws.{first_ids, has_number, schema_is, schema_listed}
 use Rattle.mx_schema.proofs.PartLaws.{own_whole}
 use Rattle.mx_schema.proofs.StoredLaws.{each_none}
-use Rattle.mx_space.specs.Built.{AreLong}
-use Rattle.mx_space.proofs.HolderLaws.{unique_apart}
-use Rattle.mx_space.proofs.IndexedLaws.{AreApart}
-use Rattle.mx_space.proofs.ScanLaws.{many_apart}
+use Rattle.mx_entries.specs.Built.{AreLong}
+use Rattle.mx_entries.proofs.HolderKeyLaws.{unique_apart}
+use Rattle.mx_entries.proofs.IndexedLaws.{AreApart}
+use Rattle.mx_entries.proofs.ScanLaws.{many_apart}
 use Rattle.mx_write.proofs.UniqueLaws.{number_is}
 use Rattle.mx_write.specs.Touches.{index_by_state}
 

@@ -36,7 +36,7 @@ use Rattle.mx_model.specs.statements.Lookup.{in_def, in_schema}
 use Rattle.mx_model.specs.statements.Select.{asked_key, iterator_of, part_count, range_reads, select_answer, select_answer_in, select_by_key, select_found, select_in_index, takes_iterator}
 use Rattle.mx_model.specs.statements.Statement.{Operation, Selects, Writes}
 use Rattle.mx_model.specs.statements.Write.{answer_of_outcome}
-use Rattle.mx_model.proofs.FrameReads.{both_false}
+use Rattle.mx_model.proofs.FrameTuples.{both_false}
 use Rattle.mx_model.proofs.FrameChange.{after_removed, agree_after, change_agrees}
 
 -- ---- a SELECT changes nothing

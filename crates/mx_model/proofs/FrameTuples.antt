@@ -1,16 +1,65 @@
 -- What two spaces' tuples have the same of an index where they have the same tuples in a range of its keys.
-use Rattle.std.proofs.Common.{◌≡◌, ℕ, Bool, true, false, cond, List, filter, Option, Some, None, refl, sym, ap, ◌∙◌}
+use Rattle.std.proofs.Common.{◌≡◌, ℕ, zero, suc, Bool, true, false, ◌&&◌, ◌||◌, List, [], ◌∷◌, ◌++◌, Some, refl, sym, ap, ◌∙◌, arith, eq-eqb, cond, filter, Option, None}
 use Rattle.std.specs.Prelude.{◌==◌, if◌then◌else◌}
+use Rattle.std.specs.List.{Contains, list_any}
+use Rattle.std.proofs.lemmas.List.Folds.{list_any-append}
 use Rattle.std.specs.FinMap.{empty, entries, find, entries_sorted, get, get-entries}
 use Rattle.std.specs.FinMap.Entries.{find-where_key, is_sorted-where_key, same_entries, where_key}
 use Rattle.mx_key.specs.Keys.{Key, key_cmp}
 use Rattle.mx_key.specs.Ranges.{Range, lies_in}
-use Rattle.mx_key.proofs.KeyLaws.{key_cmp-IsAntisymmetric, key_cmp_total}
 use Rattle.mx_schema.specs.declared.index_def.IndexDef.{IndexDef}
-use Rattle.mx_schema.specs.Picks.{Indexed, entry_key, indexed_with, tuples_by_index}
-use Rattle.mx_schema.specs.State.{Tuples}
-use Rattle.mx_space.proofs.IndexedLaws.{AreApart, held_is, held_there}
-use Rattle.mx_model.proofs.FrameReads.{index_key}
+use Rattle.mx_schema.specs.Picks.{entry_key, Indexed, indexed_with, tuples_by_index}
+use Rattle.mx_schema.specs.State.{State, Tuples}
+use Rattle.mx_write.specs.Reads.{Read}
+use Rattle.mx_write.specs.Touches.{Touched, index_by_state, is_met, lies_in_index, are_met}
+use Rattle.mx_key.proofs.KeyLaws.{key_cmp-IsAntisymmetric, key_cmp_total}
+use Rattle.mx_entries.proofs.IndexedLaws.{AreApart, held_is, held_there}
+
+-- ---- what reads say that meet nothing which was touched
+
+-- neither of two tests holds
+pub both_false : (a b : Bool) → (a || b) ≡ false → (a ≡ false) × (b ≡ false)
+both_false true b e = absurd cc
+both_false false b e = (refl, e)
+
+-- none of a list passes a test that no element passes
+none_passes : {X : Type 0} (test : X → Bool) (xs : List X) (x : X) → list_any test xs ≡ false → Contains xs x → test x ≡ false
+none_passes test [] x none (k, within, at) = absurd (omega arith)
+none_passes test (y ∷ xs) x none (zero, within, at) = ap test (sym at) ∙ (both_false (test y) (list_any test xs) none).0
+none_passes test (y ∷ xs) x none (suc k, within, at) = none_passes test xs x (both_false (test y) (list_any test xs) none).1 (k, omega arith, at)
+
+-- the key of a tuple in an index: the primary key in the index of the number 0
+abbrev pub index_key : IndexDef → Key → (tuple : List ℕ) → Key
+index_key def key tuple = if def.id.0 == 0 then key else entry_key def key tuple
+
+module _ (one : State) (touched : List Touched) where
+  -- nothing that was touched meets these reads
+  abbrev pub AreMissed : List Read → Type 0
+  AreMissed reads = are_met one touched reads ≡ false
+
+  pub missed_parts : (reads more : List Read) → AreMissed (reads ++ more) → AreMissed reads × AreMissed more
+  missed_parts reads more missed =
+      both_false (are_met one touched reads) (are_met one touched more) (sym (list_any-append (λ read. list_any (is_met one read) touched) reads more) ∙ missed)
+
+  pub missed_both : (reads more : List Read) → AreMissed reads → AreMissed more → AreMissed (reads ++ more)
+  missed_both reads more first second =
+      list_any-append (λ read. list_any (is_met one read) touched) reads more ∙ ap (λ b. b || are_met one touched more) first ∙ second
+
+  -- the key of a tuple that was touched lies outside of a range that was read
+  pub missed_key : (space index : ℕ) (range : Range) (def : IndexDef) (key : Key) (tuple : List ℕ) → AreMissed (record { space = space; index = index; range = range } ∷ [])
+      → index_by_state one space index ≡ Some def → Contains touched (record { space = space; key = key; tuple = tuple }) → lies_in range (index_key def key tuple) ≡ false
+  missed_key space index range def key tuple missed is was =
+      ap (λ o. lies_in_index o range at) (sym is)
+      ∙ ap (λ b. b && lies_in_index (index_by_state one space index) range at) (sym (eq-eqb space space refl))
+      ∙ none_passes (is_met one read) touched at (both_false (list_any (is_met one read) touched) false missed).0 was
+    where
+      at : Touched
+      at = record { space = space; key = key; tuple = tuple }
+
+      read : Read
+      read = record { space = space; index = index; range = range }
+
+-- ---- what two spaces' tuples have the same of an index where they have the same tuples in a range of its keys
 
 pub same_option : {X : Type 0} (o p : Option X) → ((x : X) → o ≡ Some x → p ≡ Some x) → ((x : X) → p ≡ Some x → o ≡ Some x) → o ≡ p
 same_option None None there back = refl
@@ -64,10 +113,3 @@ passing_same test one other same =
     by_test : (q : Key) (b : Bool) → test q ≡ b → cond b (get one q) None ≡ cond b (get other q) None
     by_test q true passes = same q passes
     by_test q false fails = refl
-
--- so it is of the entries of an index
-pub entries_alike : (def : IndexDef) (range : Range) (one other : Tuples) → AreApart def one → AreApart def other → AreAlike def range one other
-    → (test : Key → Bool) → ((key : Key) → test key ≡ true → lies_in range key ≡ true)
-    → filter (λ (entry : Indexed). test entry.0) (entries (tuples_by_index def one)) ≡ filter (λ (entry : Indexed). test entry.0) (entries (tuples_by_index def other))
-entries_alike def range one other apart still alike test within =
-    passing_same test (tuples_by_index def one) (tuples_by_index def other) (λ key passes. found_alike def range key (within key passes) one other apart still alike)

@@ -1,6 +1,5 @@
 -- What a SELECT picks of an index depends on no entry beyond the range that it read.
-use Rattle.std.proofs.Common.{◌≡◌, ℕ, zero, suc, Bool, true, false, cond, not, ◌&&◌, ◌||◌, T, List, [], ◌∷◌, ◌++◌, length, map}
-use Rattle.std.proofs.Common.{take, drop, reverse, filter, Some, refl, sym, ap, ◌∙◌, subst, arith, true≢false, eqb-true}
+use Rattle.std.proofs.Common.{◌≡◌, ℕ, zero, suc, Bool, true, false, cond, not, ◌&&◌, ◌||◌, T, List, [], ◌∷◌, ◌++◌, length, map, take, drop, reverse, filter, Some, refl, sym, ap, ◌∙◌, subst, arith, true≢false, eqb-true}
 use Rattle.std.specs.Prelude.{⊤, ◌==◌, if◌then◌else◌}
 use Rattle.std.specs.Cmp.{tied_itself}
 use Rattle.std.specs.FinMap.{entries, entries_sorted, get}
@@ -17,7 +16,7 @@ use Rattle.mx_key.proofs.KeyLaws.{key_cmp_total}
 use Rattle.mx_schema.specs.Picks.{Indexed, directed, last_key, pick, picked, range_read, up_to_last, window}
 use Rattle.mx_schema.specs.State.{Tuples}
 use Rattle.mx_schema.proofs.OrderLaws.{both, lt_is}
-use Rattle.mx_space.proofs.WindowLaws.{filter-directed}
+use Rattle.mx_entries.proofs.WindowLaws.{filter-directed}
 use Rattle.mx_model.proofs.FrameTuples.{passing_same}
 
 module _ (test : Key → Bool) where

@@ -34,9 +34,8 @@ use Rattle.mx_write.specs.Touches.{Touched}
 use Rattle.mx_write.proofs.StageLaws.{came_by, was_found}
 use Rattle.mx_model.specs.Frame.{AgreeBut}
 use Rattle.mx_model.proofs.FrameCatalogue.{tuples_agree}
-use Rattle.mx_model.proofs.FrameLookups.{IsAlike, by_number, entry_same, free_same, others_known, under_same}
-use Rattle.mx_model.proofs.FrameReads.{AreMissed, both_false, missed_parts}
-use Rattle.mx_model.proofs.FrameStages.{both_same, in_space_same, index_reads, later_same, unique_index_reads}
+use Rattle.mx_model.proofs.FrameLookups.{IsAlike, by_number, entry_same, free_same, others_known, under_same, both_same, in_space_same, index_reads, later_same, unique_index_reads}
+use Rattle.mx_model.proofs.FrameTuples.{AreMissed, both_false, missed_parts}
 
 -- ---- what only rows of spaces and indexes are asked
 

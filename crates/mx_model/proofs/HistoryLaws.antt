@@ -1,6 +1,6 @@
 -- What one step more makes of a history, and that a history whose steps all had memory is that of its asks.
 use Rattle.std.proofs.Common.{◌≡◌, inl, inr, suc, ◌≤◌, Bool, true, false, List, [], ◌∷◌, ◌++◌, length, drop, refl, sym, ap, ◌∙◌, append-nil, length-append, subst, arith}
-use Rattle.std.specs.Prelude.{◌&&◌, if◌then◌else◌}
+use Rattle.std.specs.Prelude.{if◌then◌else◌}
 use Rattle.std.proofs.lemmas.List.{drop-append-le}
 use Rattle.mx_base.specs.declared.refusal.Refusal.TheVariants.{OutOfMemory}
 use Rattle.mx_base.specs.declared.ids.TxnName.{TxnName}
@@ -8,17 +8,15 @@ use Rattle.mx_request.specs.declared.request.Ask.{Ask}
 use Rattle.mx_request.specs.declared.request.Ask.TheVariants as ask
 use Rattle.mx_request.specs.declared.request.Request.{Request}
 use Rattle.mx_row.specs.declared.tx.Tx.{Tx}
-use Rattle.mx_row.specs.Clocks.{clock_after}
 use Rattle.mx_model.specs.declared.reply.Reply.{Reply}
 use Rattle.mx_model.specs.declared.reply.Reply.TheVariants.{Refused}
 use Rattle.mx_model.specs.Bases.{Base, is_out_of_memory}
-use Rattle.mx_model.specs.Histories.{Asked, Left, Took, Confirmed, Looked, History, Ledger, ledger_of, ledger_with, journal_of, state_of, clock_of, reply_to, IsReply, IsLegal, asks_in, HasMemory, remembered, asking, leaving, step_for, history_from}
+use Rattle.mx_model.specs.Histories.{Asked, Left, Took, Confirmed, Looked, History, Ledger, ledger_of, ledger_with, journal_of, state_of, reply_to, IsReply, IsLegal, asks_in, HasMemory, remembered, asking, leaving, step_for, history_from}
 use Rattle.mx_model.specs.HistoryStreams.{streams_in}
-use Rattle.mx_model.specs.StreamHistories.{Disconnected, IsLegalStreams, Requested, lacked_memory, streams_of, streams_with}
-use Rattle.mx_model.specs.Streams.{IsTold, Streams, commit_with, outcome_of, streams_after, streams_left}
+use Rattle.mx_model.specs.StreamHistories.{Disconnected, IsLegalStreams, Requested, streams_of, streams_with}
+use Rattle.mx_model.specs.Streams.{IsTold, Streams, commit_with, outcome_of, streams_after, streams_left, told_as}
 use Rattle.mx_model.specs.Transactions.{state_after}
-use Rattle.mx_model.proofs.DemandedReplies.{demanded_memory}
-use Rattle.mx_model.proofs.StreamLaws.{base_stays}
+use Rattle.mx_model.proofs.StreamSteps.{base_stays}
 
 -- one ask more is one entry more
 pub history_from-append : (base : Base) (earlier : History) (asks : List (TxnName × Ask)) (asked : TxnName × Ask)
@@ -80,13 +78,8 @@ base_of_ledger base history = ap (λ (streams : Streams). streams.base) (streams
 pub state_of_journal : (base : Base) (history : History) → state_of base history ≡ state_after base.state (journal_of base history)
 state_of_journal base history = ap (λ (b : Base). state_after b.state (journal_of base history)) (base_of_ledger base history)
 
-pub clock_of_journal : (base : Base) (history : History) → clock_of base history ≡ clock_after base.clock (journal_of base history)
-clock_of_journal base history = ap (λ (b : Base). clock_after b.clock (journal_of base history)) (base_of_ledger base history)
-
--- ---- what an ask commits
-
 abbrev pub commits_told : Streams → TxnName → Request → Reply → List Tx
-commits_told streams name asked reply = if lacked_memory asked reply then [] else commit_with streams (outcome_of streams name asked).rows
+commits_told streams name asked reply = if is_out_of_memory reply then [] else commit_with streams (outcome_of streams name asked).rows
 
 abbrev pub commits_of : Ledger → TxnName → Ask → Reply → List Tx
 commits_of ledger name (ask.Request request) reply = commits_told ledger.streams name request reply
@@ -94,9 +87,9 @@ commits_of ledger name _ reply = []
 
 pub journal_told : (streams : Streams) (name : TxnName) (asked : Request) (reply : Reply)
     → (streams_with streams (Requested name asked reply)).journal ≡ streams.journal ++ commits_told streams name asked reply
-journal_told streams name asked reply = by_test (lacked_memory asked reply)
+journal_told streams name asked reply = by_test (is_out_of_memory reply)
   where
-    by_test : (b : Bool) → (if b then streams else streams_after streams name (outcome_of streams name asked)).journal
+    by_test : (b : Bool) → (if b then streams else streams_after streams name (told_as reply (outcome_of streams name asked))).journal
         ≡ streams.journal ++ (if b then [] else commit_with streams (outcome_of streams name asked).rows)
     by_test true = sym (append-nil streams.journal)
     by_test false = refl
@@ -211,47 +204,37 @@ history_of_asks base (Confirmed upto ∷ earlier) legal memory =
 history_of_asks base (Looked ∷ earlier) legal memory =
     history_of_asks base earlier legal.0 memory.0 ∙ ap (history_from base []) (sym (append-nil (asks_in earlier)))
 
--- in a legal history only a request that may lack memory is told out of memory, and it then counts as not asked
-told_lacking : (streams : Streams) (name : TxnName) (asked : Request) (reply : Reply) → IsTold streams name asked reply → is_out_of_memory reply ≡ true
-    → lacked_memory asked reply ≡ true
-told_lacking streams name asked reply (inl told) none =
-    let has = demanded_memory streams name asked in
-    let wrong : true ≡ false = sym none ∙ ap is_out_of_memory told ∙ has in absurd cc
-told_lacking streams name asked reply (inr (may, told)) none = λ i. may i && none i
-
-forgotten_streams : (ledger : Ledger) (name : TxnName) (asked : Ask) (reply : Reply) → IsReply ledger name asked reply → is_out_of_memory reply ≡ true
+-- a request that was told out of memory counts as not asked
+forgotten_streams : (ledger : Ledger) (name : TxnName) (asked : Ask) (reply : Reply) → is_out_of_memory reply ≡ true
     → (ledger_with ledger (Asked name asked reply)).streams ≡ ledger.streams
-forgotten_streams ledger name (ask.Refused refusal) reply told none = refl
-forgotten_streams ledger name ask.Leave reply told none = refl
-forgotten_streams ledger name (ask.Request request) reply told none =
-    ap (λ (lacks : Bool). if lacks then ledger.streams else streams_after ledger.streams name (outcome_of ledger.streams name request))
-    (told_lacking ledger.streams name request reply told.1 none)
+forgotten_streams ledger name (ask.Refused refusal) reply none = refl
+forgotten_streams ledger name ask.Leave reply none = refl
+forgotten_streams ledger name (ask.Request request) reply none =
+    ap (λ (lacks : Bool). if lacks then ledger.streams else streams_after ledger.streams name (told_as reply (outcome_of ledger.streams name request))) none
 
-remembered_streams : (base : Base) (name : TxnName) (asked : Ask) (reply : Reply) (earlier : History) → IsReply (ledger_of base earlier) name asked reply
+remembered_streams : (base : Base) (name : TxnName) (asked : Ask) (reply : Reply) (earlier : History)
     → (ledger_of base (remembered earlier)).streams ≡ (ledger_of base earlier).streams
     → (ledger_of base (remembered (Asked name asked reply ∷ earlier))).streams ≡ (ledger_of base (Asked name asked reply ∷ earlier)).streams
-remembered_streams base name asked reply earlier told same = by_memory (is_out_of_memory reply) refl
+remembered_streams base name asked reply earlier same = by_memory (is_out_of_memory reply) refl
   where
     by_memory : (none : Bool) → is_out_of_memory reply ≡ none
         → (ledger_of base (if none then remembered earlier else Asked name asked reply ∷ remembered earlier)).streams ≡ (ledger_of base (Asked name asked reply ∷ earlier)).streams
-    by_memory true none = same ∙ sym (forgotten_streams (ledger_of base earlier) name asked reply told none)
+    by_memory true none = same ∙ sym (forgotten_streams (ledger_of base earlier) name asked reply none)
     by_memory false some = streams_by_streams (ledger_of base (remembered earlier)) (ledger_of base earlier) name asked reply same
 
 -- so it is as if it hadn't been asked
-pub streams_of_remembered : (base : Base) (history : History) → IsLegal base history → (ledger_of base (remembered history)).streams ≡ (ledger_of base history).streams
-streams_of_remembered base [] legal = refl
-streams_of_remembered base (Asked name asked reply ∷ earlier) legal =
-    remembered_streams base name asked reply earlier legal.1 (streams_of_remembered base earlier legal.0)
-streams_of_remembered base (Left connection ∷ earlier) legal =
-    ap (λ (streams : Streams). streams_left streams connection) (streams_of_remembered base earlier legal.0)
-streams_of_remembered base (Took transactions upto ∷ earlier) legal = streams_of_remembered base earlier legal.0
-streams_of_remembered base (Confirmed upto ∷ earlier) legal = streams_of_remembered base earlier legal.0
-streams_of_remembered base (Looked ∷ earlier) legal = streams_of_remembered base earlier legal.0
+pub streams_of_remembered : (base : Base) (history : History) → (ledger_of base (remembered history)).streams ≡ (ledger_of base history).streams
+streams_of_remembered base [] = refl
+streams_of_remembered base (Asked name asked reply ∷ earlier) = remembered_streams base name asked reply earlier (streams_of_remembered base earlier)
+streams_of_remembered base (Left connection ∷ earlier) = ap (λ (streams : Streams). streams_left streams connection) (streams_of_remembered base earlier)
+streams_of_remembered base (Took transactions upto ∷ earlier) = streams_of_remembered base earlier
+streams_of_remembered base (Confirmed upto ∷ earlier) = streams_of_remembered base earlier
+streams_of_remembered base (Looked ∷ earlier) = streams_of_remembered base earlier
 
-remembered_step : (base : Base) (name : TxnName) (asked : Ask) (reply : Reply) (earlier : History) → IsLegal base earlier → IsReply (ledger_of base earlier) name asked reply
+remembered_step : (base : Base) (name : TxnName) (asked : Ask) (reply : Reply) (earlier : History) → IsReply (ledger_of base earlier) name asked reply
     → asking (remembered earlier) ≡ history_from base [] (asks_in (remembered earlier))
     → asking (remembered (Asked name asked reply ∷ earlier)) ≡ history_from base [] (asks_in (remembered (Asked name asked reply ∷ earlier)))
-remembered_step base name asked reply earlier legal follows before = by_memory (is_out_of_memory reply) refl
+remembered_step base name asked reply earlier follows before = by_memory (is_out_of_memory reply) refl
   where
     by_memory : (none : Bool) → is_out_of_memory reply ≡ none
         → asking (if none then remembered earlier else Asked name asked reply ∷ remembered earlier)
@@ -260,7 +243,7 @@ remembered_step base name asked reply earlier legal follows before = by_memory (
     by_memory false some =
         let told = asked_step (ledger_of base earlier) name asked reply follows some in
         let same = step_by_streams (ledger_of base earlier) (ledger_of base (asking (remembered earlier))) name asked
-        (sym (streams_of_asking base (remembered earlier) ∙ streams_of_remembered base earlier legal)) in
+        (sym (streams_of_asking base (remembered earlier) ∙ streams_of_remembered base earlier)) in
         ap (λ entry. entry ∷ asking (remembered earlier)) (told ∙ same)
         ∙ ap (λ h. step_for (ledger_of base h) (name, asked) ∷ h) before
         ∙ sym (history_from-append base [] (asks_in (remembered earlier)) (name, asked))
@@ -270,7 +253,7 @@ pub remembered_of_asks : (base : Base) (history : History) → IsLegal base hist
     → asking (remembered history) ≡ history_from base [] (asks_in (remembered history))
 remembered_of_asks base [] legal = refl
 remembered_of_asks base (Asked name asked reply ∷ earlier) legal =
-    remembered_step base name asked reply earlier legal.0 legal.1 (remembered_of_asks base earlier legal.0)
+    remembered_step base name asked reply earlier legal.1 (remembered_of_asks base earlier legal.0)
 remembered_of_asks base (Left connection ∷ earlier) legal =
     ap (λ h. Left connection ∷ h) (remembered_of_asks base earlier legal.0)
     ∙ sym (history_from-append base [] (asks_in (remembered earlier)) (leaving connection))

@@ -10,11 +10,14 @@ use Rattle.mx_row.specs.declared.tx.Tx.{Tx}
 use Rattle.mx_schema.specs.State.{State}
 use Rattle.mx_model.specs.declared.ids.Ids.{Ids}
 use Rattle.mx_model.specs.Answers.{state_after_rows}
-use Rattle.mx_model.specs.Overlaps.{IsWithin, TransactionStep, Transaction, first_overlap, has_row, has_schema_commit_since, has_written_since, is_some_row, overlap_of, reads_before, state_after_first, statements_in}
+use Rattle.mx_model.specs.Overlaps.{IsWithin, TransactionStep, Transaction, first_overlap, has_row, has_schema_commit_since, has_written_since, is_some_row, overlap_of, reads_before, state_after_first, statements_in, doomed_or_view, standing, standing_after_commit, standing_by}
 use Rattle.mx_model.specs.RunAlone.{run_alone, writes}
 use Rattle.mx_model.specs.Touches.{rows_meet}
 use Rattle.mx_model.specs.Transactions.{is_schema_commit, state_after}
 use Rattle.mx_model.proofs.JournalLaws.{state_after-append}
+use Rattle.mx_model.proofs.OverlapFound.{overlap_found}
+
+-- ---- what a further commit makes of an overlap: the one that was there stays, and else the commit is one where it touches what was read
 
 -- a commit behind others overlaps, where it touches what was read and none of these does
 first_more : (before : State) (count : ℕ) (later : List Tx) (commit : Tx) (steps : List TransactionStep) (last : ℕ) → count + length later ≡ last
@@ -84,3 +87,62 @@ module _ (ids : Ids) (base : State) (journal : List Tx) (commit : Tx) where
 
         newest : state_after (state_after_first base journal begun) (drop begun journal) ≡ state_after base journal
         newest = sym (state_after-append base (take begun journal) (drop begun journal)) ∙ ap (state_after base) (take-append-drop begun journal)
+
+-- ---- how open transactions stand after a commit
+
+-- one that wasn't overlapped is doomed where it has a row, or the commit is of the schema
+first_doom : (has_row is_schema : Bool) (place : ℕ) → doomed_or_view (has_row || false || false || (is_schema || false)) place ≡ doomed_or_view (has_row || is_schema) place
+first_doom true is_schema place = refl
+first_doom false true place = refl
+first_doom false false place = refl
+
+-- one that was is doomed as before, or where the commit is of the schema
+later_doom : (has_row has_written has_schema is_schema row meets : Bool) (count place : ℕ)
+    → doomed_or_view (has_row || has_written || false || (has_schema || (is_schema || false))) place
+    ≡ standing_after_commit row is_schema meets count (doomed_or_view (has_row || has_written || false || has_schema) place)
+later_doom true has_written has_schema is_schema row meets count place = refl
+later_doom false true has_schema is_schema row meets count place = refl
+later_doom false false true is_schema row meets count place = refl
+later_doom false false false true row meets count place = refl
+later_doom false false false false row meets count place = refl
+
+module _ (ids : Ids) (base : State) (journal : List Tx) (commit : Tx) (transaction : Transaction) (within : IsWithin (length journal) transaction) where
+  abbrev steps : List TransactionStep
+  steps = transaction.steps
+
+  abbrev count : ℕ
+  count = length journal
+
+  abbrev meets_now : Bool
+  meets_now = is_met base journal commit steps
+
+  pub standing_moved : standing ids base (journal ++ commit ∷ []) false transaction
+      ≡ standing_after_commit (has_row ids base journal count steps) (is_schema_commit commit) meets_now count (standing ids base journal false transaction)
+  standing_moved =
+      ap (standing_by ids base (journal ++ commit ∷ []) false steps) (overlap_later ids base journal commit transaction within)
+      ∙ by_overlap (overlap_of base journal transaction) refl
+    where
+      by_test : (meets : Bool)
+          → standing_by ids base (journal ++ commit ∷ []) false steps (if meets then Some (suc count) else None)
+          ≡ standing_after_commit (has_row ids base journal count steps) (is_schema_commit commit) meets count (standing_by ids base journal false steps None)
+      by_test true =
+          (λ i. doomed_or_view (row_kept ids base journal commit count steps (omega arith) i || written_before ids base journal commit steps within.made i || false
+          || behind i) count)
+          ∙ first_doom (has_row ids base journal count steps) (is_schema_commit commit) count
+        where
+          behind : has_schema_commit_since (suc count) (journal ++ commit ∷ []) ≡ (is_schema_commit commit || false)
+          behind = schema_last ids base journal commit
+      by_test false = refl
+
+      by_overlap : (overlap : Option ℕ) → overlap_of base journal transaction ≡ overlap
+          → standing_by ids base (journal ++ commit ∷ []) false steps (option_or overlap (if meets_now then Some (suc count) else None))
+          ≡ standing_after_commit (has_row ids base journal count steps) (is_schema_commit commit) meets_now count (standing_by ids base journal false steps overlap)
+      by_overlap None is = by_test meets_now
+      by_overlap (Some number) is =
+          (λ i. doomed_or_view (row_kept ids base journal commit (pred number) steps before i || has_written_since number steps || false
+          || schema_more ids base journal commit number before i) (pred number))
+          ∙ later_doom (has_row ids base journal (pred number) steps) (has_written_since number steps) (has_schema_commit_since number journal) (is_schema_commit commit)
+          (has_row ids base journal count steps) meets_now count (pred number)
+        where
+          before : pred number ≤ length journal
+          before = let found = overlap_found base journal transaction number is in omega (arith, found.within)

@@ -16,7 +16,7 @@ use Rattle.mx_model.specs.Touches.{rows_meet}
 use Rattle.mx_model.specs.statements.Answer.{Answer}
 use Rattle.mx_model.specs.statements.Select.{iterator_of}
 use Rattle.mx_model.specs.statements.Statement.{Operation, Selects, Statement, Writes}
-use Rattle.mx_model.proofs.SelectLaws.{select_no_row}
+use Rattle.mx_model.proofs.AnswerLaws.{select_no_row}
 use Rattle.mx_model.proofs.OverlapFound.{overlap_found}
 
 -- ---- at the statement

@@ -42,14 +42,13 @@ use Rattle.mx_model.specs.statements.Select.{iterator_of}
 use Rattle.mx_model.specs.statements.Statement.{Operation, Selects, Statement, Writes}
 use Rattle.mx_model.specs.statements.Write.{answer_of_outcome}
 use Rattle.mx_model.proofs.AloneFrame.{rows_leave_run}
-use Rattle.mx_model.proofs.AnswerLaws.{Agrees, select_agrees}
+use Rattle.mx_model.proofs.AnswerLaws.{Agrees, select_agrees, select_no_row}
 use Rattle.mx_model.proofs.EachLaws.{each_of_both}
 use Rattle.mx_model.proofs.FrameCatalogue.{schema_same}
-use Rattle.mx_model.proofs.FrameReads.{AreMissed, both_false, missed_both, missed_parts}
+use Rattle.mx_model.proofs.FrameTuples.{AreMissed, both_false, missed_both, missed_parts}
 use Rattle.mx_model.proofs.FrameRuns.{first_sound}
-use Rattle.mx_model.proofs.FrameStages.{first_missed, index_reads, unique_index_reads}
+use Rattle.mx_model.proofs.FrameLookups.{first_missed, index_reads, unique_index_reads}
 use Rattle.mx_model.proofs.FrameSteps.{row_agrees}
-use Rattle.mx_model.proofs.SelectLaws.{select_no_row}
 
 module _ (base : State) (touched : List Touched) where
   -- ---- a write that comes to something has read the rows of its space

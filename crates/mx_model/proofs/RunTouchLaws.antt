@@ -18,11 +18,11 @@ use Rattle.mx_schema.specs.Catalogues.{index_with, schema_of}
 use Rattle.mx_schema.specs.Sound.{IsSound}
 use Rattle.mx_schema.specs.State.{State, Tuples, index_rows, space_rows, tuples_in}
 use Rattle.mx_schema.proofs.AloneLaws.{each_follows}
-use Rattle.mx_space.specs.Overlays.{with_write}
-use Rattle.mx_space.specs.OwnChanges.{state_with_own}
-use Rattle.mx_space.specs.Reserves.{state_with}
-use Rattle.mx_space.proofs.EntriesLaws.{tied_is}
-use Rattle.mx_space.proofs.OwnChangeLaws.{tuples_with}
+use Rattle.mx_entries.specs.OwnWrites.{with_write}
+use Rattle.mx_entries.specs.OwnStates.{state_with_own}
+use Rattle.mx_entries.specs.PlainChanges.{state_with}
+use Rattle.mx_entries.proofs.EntriesLaws.{tied_is}
+use Rattle.mx_entries.proofs.OwnStateLaws.{tuples_with}
 use Rattle.mx_write.specs.Change.{Change, state_after_change, state_after_changed}
 use Rattle.mx_write.specs.Judge.{row_change}
 use Rattle.mx_write.specs.Reads.{Read}
@@ -41,7 +41,7 @@ use Rattle.mx_model.proofs.AloneCommits.{limited_agrees, run_makes, statement_ag
 use Rattle.mx_model.proofs.AloneSound.{rows_sound, run_bytes}
 use Rattle.mx_model.proofs.AnswerLaws.{Agrees}
 use Rattle.mx_model.proofs.FrameChange.{after_removed}
-use Rattle.mx_model.proofs.FrameReads.{both_false}
+use Rattle.mx_model.proofs.FrameTuples.{both_false}
 use Rattle.mx_model.proofs.FrameSteps.{IsPlainChange, described_after, plain_change}
 
 -- ---- tests

@@ -1,5 +1,5 @@
 -- What a request or a disconnect ends ran alone.
-use Rattle.std.proofs.Common.{Bool, List, None, Option, Some, [], false, length, map, refl, subst, sym, true, ℕ, ◌≡◌, ◌++◌, ◌∙◌}
+use Rattle.std.proofs.Common.{Bool, List, None, Option, Some, [], false, length, map, refl, subst, sym, true, ℕ, ◌≡◌, ◌++◌, ◌∙◌, ◌∷◌}
 use Rattle.std.specs.List.{AllByRecursion}
 use Rattle.std.specs.Prelude.{nat_le, ⊤, if◌then◌else◌, ◌==◌, ◌&&◌}
 use Rattle.mx_base.specs.Keys.{stream_key}
@@ -9,8 +9,8 @@ use Rattle.mx_base.specs.declared.refusal.Refusal.TheVariants.{AllOfConnectionOp
 use Rattle.mx_model.specs.Alone.{AllStandAlone}
 use Rattle.mx_model.specs.Overlaps.{Active, Doomed, Standing, Transaction, View, standing}
 use Rattle.mx_model.specs.RunAlone.{writes}
-use Rattle.mx_model.specs.StreamHistories.{EndedTransaction, RanAlone, ended_as, ended_where, ends_now, is_commit}
-use Rattle.mx_model.specs.Streams.{Becomes, Ends, Goes, Opens, Outcome, Stays, Streams, begins_beside, commit_with, commits, commits_standing, ends_told, in_stream, max_transactions, max_transactions_of_connection, of_connection, outcome_of, states, states_standing, streams_after, tells_statement, told_alone, transaction_named}
+use Rattle.mx_model.specs.StreamHistories.{EndedTransaction, RanAlone, ended_as, ended_where, ends_now, is_commit, Disconnected, FollowsStreams, IsLegalStreams, Requested, StreamEntry, StreamHistory, ended_by, ended_in, streams_of, streams_with}
+use Rattle.mx_model.specs.Streams.{Becomes, Ends, Goes, Opens, Outcome, Stays, Streams, begins_beside, commit_with, commits, commits_standing, ends_told, in_stream, max_transactions, max_transactions_of_connection, of_connection, outcome_of, states, states_standing, streams_after, tells_statement, told_alone, told_as, transaction_named}
 use Rattle.mx_model.specs.declared.reply.Reply.TheVariants.{Empty, Refused}
 use Rattle.mx_model.specs.statements.Answer.{Answer}
 use Rattle.mx_model.specs.statements.Statement.{Statement, statement_of}
@@ -18,13 +18,15 @@ use Rattle.mx_request.specs.declared.request.Request.{Request}
 use Rattle.mx_row.specs.declared.row.Row.{Row}
 use Rattle.mx_row.specs.declared.tx.Tx.{Tx}
 use Rattle.mx_write.specs.Writable.{describes_schema}
-use Rattle.mx_model.proofs.AloneNames.{named_has}
-use Rattle.mx_model.proofs.AloneSteps.{answer_now}
-use Rattle.mx_model.proofs.AloneStreams.{Stands}
+use Rattle.mx_model.proofs.AloneStreams.{named_has, answer_now, Stands, kept_after, kept_left}
 use Rattle.mx_model.proofs.CommitRows.{acknowledged_by, rows_by}
 use Rattle.mx_model.proofs.ConflictAnswers.{commit_by}
-use Rattle.mx_model.proofs.EachLaws.{each_kept, each_like, each_of_map}
-use Rattle.mx_model.proofs.StreamEnds.{IsEnding, ended_alone, ending_alone}
+use Rattle.mx_model.proofs.EachLaws.{each_kept, each_like, each_of_map, each_of_both}
+use Rattle.mx_model.proofs.StreamEnds.{IsEnding, ended_alone, ending_alone, ran_stays}
+use Rattle.mx_model.specs.Bases.{Base, is_out_of_memory}
+use Rattle.mx_model.specs.declared.reply.Reply.{Reply}
+use Rattle.mx_model.proofs.AloneRequests.{outcome_kept}
+use Rattle.mx_model.proofs.RecordedReplies.{told_well}
 use Rattle.mx_request.specs.declared.request.Request.TheVariants as request
 
 -- ---- what an outcome ends
@@ -34,11 +36,11 @@ module _ (streams : Streams) (name : TxnName) (all : AllStandAlone streams) wher
   journal = streams.journal
 
   -- where an outcome ends the transaction of its name, it does so with a conflict where that is doomed, and with the rows of running alone
-  abbrev EndsWell : (by_commit : Bool) → Outcome → Becomes → Type 0
+  abbrev pub EndsWell : (by_commit : Bool) → Outcome → Becomes → Type 0
   EndsWell by_commit outcome Ends = (transaction : Transaction) → transaction_named name streams.transactions ≡ Some transaction → IsEnding streams transaction by_commit outcome
   EndsWell by_commit outcome other = ⊤
 
-  abbrev IsWell : (by_commit : Bool) → Outcome → Type 0
+  abbrev pub IsWell : (by_commit : Bool) → Outcome → Type 0
   IsWell by_commit outcome = EndsWell by_commit outcome outcome.becomes
 
   if_it_ends : (by_commit : Bool) (outcome : Outcome) (becomes : Becomes)
@@ -121,7 +123,7 @@ module _ (streams : Streams) (name : TxnName) (all : AllStandAlone streams) wher
   tells_well by_commit asked None = tt
   tells_well by_commit asked (Some statement) = states_well by_commit statement (transaction_named name streams.transactions)
 
-  outcome_well : (asked : Request) → IsWell (is_commit asked) (outcome_of streams name asked)
+  pub outcome_well : (asked : Request) → IsWell (is_commit asked) (outcome_of streams name asked)
   outcome_well request.Begin = in_stream_well false _ (begins_well (transaction_named name streams.transactions))
   outcome_well request.Commit = in_stream_well true _ (commits_well (transaction_named name streams.transactions) refl)
   outcome_well request.Rollback = in_stream_well false (ends_told Empty) rollback_well
@@ -169,3 +171,75 @@ left_ran streams connection all =
     each_of_map (ends_now streams false Empty []) (RanAlone streams.base streams.journal) (of_connection connection streams.transactions)
     (each_like (Stands streams) _ (λ transaction alone. ended_alone streams transaction alone false (told_alone Empty) refl (left_ends streams transaction))
     (of_connection connection streams.transactions) (each_kept (Stands streams) (λ one. one.name.conn.0 == connection) streams.transactions all.each))
+
+-- so did all that are open, as far as they have come
+pub open_ran : (streams : Streams) → AllStandAlone streams → AllByRecursion (RanAlone streams.base streams.journal) (map (ends_now streams false Empty []) streams.transactions)
+open_ran streams all =
+    each_of_map (ends_now streams false Empty []) (RanAlone streams.base streams.journal) streams.transactions
+    (each_like (Stands streams) _ (λ transaction alone. ended_alone streams transaction alone false (told_alone Empty) refl (left_ends streams transaction)) streams.transactions all.each)
+
+-- ---- in a legal history all transactions ran alone, those that ended and those that are open
+
+-- all that steps came to ran alone: the open transactions, and those that ended
+abbrev pub AllRan : Base → Streams → List EndedTransaction → Type 0
+AllRan base streams ended = AllStandAlone streams × AllByRecursion (RanAlone base streams.journal) ended
+
+module _ (base : Base) (streams : Streams) (base_is : streams.base ≡ base) (all : AllStandAlone streams) (ended : List EndedTransaction) (ran : AllByRecursion (RanAlone base streams.journal) ended) where
+  -- those that ended before, in a longer journal
+  ran_before : (more : List Tx) → AllByRecursion (RanAlone base (streams.journal ++ more)) ended
+  ran_before more = each_like (RanAlone base streams.journal) _ (λ one so. ran_stays base streams.journal more one so) ended ran
+
+  requested : (name : TxnName) (asked : Request) (reply : Reply) → FollowsStreams streams (Requested name asked reply)
+      → AllRan base (streams_with streams (Requested name asked reply)) (ended_by streams (Requested name asked reply) ++ ended)
+  requested name asked reply follows = by_test (is_out_of_memory reply) refl
+    where
+      -- what an outcome that was told comes to
+      RanAfter : Outcome → Type 0
+      RanAfter outcome = AllRan base (streams_after streams name outcome) (ended_as streams name (is_commit asked) outcome ++ ended)
+
+      outcome : Outcome
+      outcome = outcome_of streams name asked
+
+      demanded : RanAfter outcome
+      demanded = (
+        kept_after streams name all outcome (outcome_kept streams name all asked follows.0),
+        each_of_both (RanAlone base (streams.journal ++ commit_with streams outcome.rows)) (ended_as streams name (is_commit asked) outcome) ended
+            (subst (λ one. AllByRecursion (RanAlone one (streams.journal ++ commit_with streams outcome.rows)) (ended_as streams name (is_commit asked) outcome)) base_is
+            (request_ran streams name all asked))
+            (ran_before (commit_with streams outcome.rows)),
+      )
+
+      by_test : (b : Bool) → is_out_of_memory reply ≡ b
+          → AllRan base (if b then streams else streams_after streams name (told_as reply outcome)) ((if b then [] else ended_as streams name (is_commit asked) (told_as reply outcome)) ++ ended)
+      by_test true lacks = (all, ran)
+      by_test false has = subst RanAfter (sym (told_well streams name asked reply follows.1 has)) demanded
+
+  pub entry_ran : (entry : StreamEntry) → FollowsStreams streams entry → AllRan base (streams_with streams entry) (ended_by streams entry ++ ended)
+  entry_ran (Requested name asked reply) follows = requested name asked reply follows
+  entry_ran (Disconnected connection) follows = (
+    kept_left streams connection all,
+    each_of_both (RanAlone base streams.journal) (map (ends_now streams false Empty []) (of_connection connection streams.transactions)) ended
+        (subst (λ one. AllByRecursion (RanAlone one streams.journal) (map (ends_now streams false Empty []) (of_connection connection streams.transactions))) base_is
+        (left_ran streams connection all))
+        ran,
+  )
+
+-- what a history came to began with its base
+pub base_stays : (base : Base) (history : StreamHistory) → (streams_of base history).base ≡ base
+base_stays base [] = refl
+base_stays base (Requested name asked reply ∷ earlier) = by_test (is_out_of_memory reply) ∙ base_stays base earlier
+  where
+    streams : Streams
+    streams = streams_of base earlier
+
+    by_test : (b : Bool) → (if b then streams else streams_after streams name (told_as reply (outcome_of streams name asked))).base ≡ streams.base
+    by_test true = refl
+    by_test false = refl
+base_stays base (Disconnected connection ∷ earlier) = base_stays base earlier
+
+-- whole histories
+pub history_ran : (base : Base) (history : StreamHistory) → IsLegalStreams base history → AllRan base (streams_of base history) (ended_in base history)
+history_ran base [] sound = (record { sound = sound; bytes = tt; each = tt }, tt)
+history_ran base (entry ∷ earlier) legal =
+    let before = history_ran base earlier legal.0 in
+    entry_ran base (streams_of base earlier) (base_stays base earlier) before.0 (ended_in base earlier) before.1 entry legal.1

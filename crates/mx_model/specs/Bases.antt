@@ -7,6 +7,7 @@ use Rattle.mx_request.specs.Spelling.{IsAskable}
 use Rattle.mx_request.specs.declared.request.Request.{Request}
 use Rattle.mx_request.specs.declared.request.Request.TheVariants as request
 use Rattle.mx_row.specs.declared.row.Row.{Row}
+use Rattle.mx_row.specs.declared.tx.Tx.{Tx}
 use Rattle.mx_schema.specs.State.{State}
 use Rattle.mx_write.specs.Writes.{TupleIsBytes, write_in}
 use Rattle.mx_model.specs.declared.ids.Ids.{Ids}
@@ -14,11 +15,12 @@ use Rattle.mx_model.specs.declared.reply.Reply.{Reply}
 use Rattle.mx_model.specs.declared.reply.Reply.TheVariants.{Refused}
 use Rattle.mx_model.specs.statements.Answer.{Answer, refusal_after}
 
--- what a database was when it was opened: its state, its vclock and its identifiers
+-- what a database was when it was opened: its state, its vclock, its identifiers, and the transactions that its files had
 pub record Base : Type 0 where
   pub state : State
   pub clock : List ℕ
   pub ids : Ids
+  pub earlier : List Tx
 
 -- the request can be asked, and has bytes alone
 abbrev pub CanBeAsked : Request → Type 0

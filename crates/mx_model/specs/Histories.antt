@@ -81,7 +81,8 @@ reply_to ledger name (ask.Refused refusal) = Refused refusal
 reply_to ledger name ask.Leave = Empty
 reply_to ledger name (ask.Request request) = (outcome_of ledger.streams name request).reply
 
--- the request can be asked, and the reply is the one that the ledger demands, or out of memory; a disconnect has no reply
+-- The request can be asked, and the reply is the one that the ledger demands, or out of memory where memory is asked for; a disconnect has
+-- no reply.
 abbrev pub IsReply : Ledger → TxnName → Ask → Reply → Type 0
 IsReply ledger name (ask.Refused refusal) reply = reply ≡ Refused refusal
 IsReply ledger name ask.Leave reply = ⊥

@@ -1,5 +1,5 @@
 -- Histories of streams: requests and disconnects where transactions may be open, which of these histories are legal, and that each transaction that ended ran alone.
-use Rattle.std.specs.Prelude.{◌≡◌, ◌≢◌, ◌⊎◌, ⊤, ℕ, pred, ◌+◌, ◌<◌, ◌≤◌, Bool, true, false, ◌&&◌, List, [], ◌∷◌, ◌++◌, length, map, Option, Some, slice_get, if◌then◌else◌}
+use Rattle.std.specs.Prelude.{◌≡◌, ◌≢◌, ◌⊎◌, ⊤, ℕ, pred, ◌+◌, ◌<◌, ◌≤◌, Bool, true, false, List, [], ◌∷◌, ◌++◌, length, map, Option, Some, slice_get, if◌then◌else◌}
 use Rattle.std.specs.List.{AllByRecursion, AllZip, Contains}
 use Rattle.std.specs.Option.{option_to_list}
 use Rattle.mx_base.specs.declared.ids.TxnName.{TxnName}
@@ -15,7 +15,7 @@ use Rattle.mx_model.specs.Alone.{IsToldAlone}
 use Rattle.mx_model.specs.Bases.{Base, CanBeAsked, is_out_of_memory}
 use Rattle.mx_model.specs.Overlaps.{TransactionStep, Transaction, place_read, reads_before, state_after_first, statements_in}
 use Rattle.mx_model.specs.RunAlone.{Run, run_alone}
-use Rattle.mx_model.specs.Streams.{Becomes, Ends, IsTold, Outcome, Streams, is_name, may_lack_memory, of_connection, outcome_of, streams_after, streams_left, transaction_named}
+use Rattle.mx_model.specs.Streams.{Becomes, Ends, IsTold, Outcome, Streams, is_name, of_connection, outcome_of, streams_after, streams_left, told_as, transaction_named}
 use Rattle.mx_model.specs.Touches.{rows_meet}
 use Rattle.mx_model.specs.statements.Answer.{Answer}
 
@@ -28,14 +28,11 @@ pub data StreamEntry : Type 0 where
 abbrev pub StreamHistory : Type 0
 StreamHistory = List StreamEntry
 
--- the request was told out of memory: it counts as not asked
-abbrev pub lacked_memory : Request → Reply → Bool
-lacked_memory asked reply = may_lack_memory asked && is_out_of_memory reply
-
--- what an entry makes of the journal and of the open transactions
+-- What an entry makes of the journal and of the open transactions. These record the entry's own reply; a request that was told out of
+-- memory counts as not asked.
 abbrev pub streams_with : Streams → StreamEntry → Streams
 streams_with streams (Requested name asked reply) =
-    if lacked_memory asked reply then streams else streams_after streams name (outcome_of streams name asked)
+    if is_out_of_memory reply then streams else streams_after streams name (told_as reply (outcome_of streams name asked))
 streams_with streams (Disconnected connection) = streams_left streams connection
 
 -- what a history has come to, from a base with no commits and no open transactions
@@ -43,7 +40,8 @@ abbrev pub streams_of : Base → StreamHistory → Streams
 streams_of base [] = record { base = base; journal = []; transactions = [] }
 streams_of base (entry ∷ earlier) = streams_with (streams_of base earlier) entry
 
--- a request can be asked, and its reply is the one that is demanded, or out of memory; a connection may disconnect at any time
+-- a request can be asked, and its reply is the one that is demanded, or out of memory where memory is asked for; a connection may
+-- disconnect at any time
 abbrev pub FollowsStreams : Streams → StreamEntry → Type 0
 FollowsStreams streams (Requested name asked reply) = CanBeAsked asked × IsTold streams name asked reply
 FollowsStreams streams (Disconnected connection) = ⊤
@@ -86,10 +84,11 @@ ended_where streams by_commit outcome other present = []
 abbrev pub ended_as : Streams → TxnName → (by_commit : Bool) → Outcome → List EndedTransaction
 ended_as streams name by_commit outcome = ended_where streams by_commit outcome outcome.becomes (transaction_named name streams.transactions)
 
--- the transactions that an entry ended: a COMMIT or ROLLBACK ends one, and a connection that disconnects ends all of its own
+-- the transactions that an entry ended, with the entry's own reply: a COMMIT or ROLLBACK ends one, and a connection that disconnects ends
+-- all of its own
 abbrev pub ended_by : Streams → StreamEntry → List EndedTransaction
 ended_by streams (Requested name asked reply) =
-    if lacked_memory asked reply then [] else ended_as streams name (is_commit asked) (outcome_of streams name asked)
+    if is_out_of_memory reply then [] else ended_as streams name (is_commit asked) (told_as reply (outcome_of streams name asked))
 ended_by streams (Disconnected connection) = map (ends_now streams false Empty []) (of_connection connection streams.transactions)
 
 -- the transactions that ended in a history, the last of them first

@@ -1,5 +1,5 @@
 -- Transactions in streams: what each request is told where transactions are open, and what becomes of these and of the journal.
-use Rattle.std.specs.Prelude.{◌≡◌, ◌⊎◌, ℕ, ◌+◌, Bool, true, false, not, ◌&&◌, List, [], ◌∷◌, ◌++◌, length, Option, Some, None, nat_le, nat_lt, slice_index, ◌==◌, if◌then◌else◌}
+use Rattle.std.specs.Prelude.{◌≡◌, ◌⊎◌, ℕ, ◌+◌, Bool, true, false, not, ◌&&◌, List, [], ◌∷◌, ◌++◌, length, Option, Some, None, nat_le, nat_lt, slice_index, is_some, ◌==◌, if◌then◌else◌}
 use Rattle.std.specs.List.{AllByRecursion, filter}
 use Rattle.std.specs.Option.{option_to_list}
 use Rattle.mx_vclock.specs.Vclocks.{max_lsn}
@@ -19,7 +19,7 @@ use Rattle.mx_model.specs.declared.reply.Reply.{Reply}
 use Rattle.mx_model.specs.declared.reply.Reply.TheVariants.{Empty, Refused}
 use Rattle.mx_model.specs.Answers.{answer_without_space}
 use Rattle.mx_model.specs.Bases.{Base, with_lsn, writable_node}
-use Rattle.mx_model.specs.Overlaps.{Doomed, Standing, TransactionStep, Transaction, place_read, standing, state_after_first, statements_in}
+use Rattle.mx_model.specs.Overlaps.{Doomed, Standing, TransactionStep, Transaction, is_some_row, place_read, standing, state_after_first, statements_in}
 use Rattle.mx_model.specs.RunAlone.{answer_alone, run_alone, statement_answer, writes}
 use Rattle.mx_model.specs.Transactions.{state_after}
 use Rattle.mx_model.specs.statements.Answer.{Answer}
@@ -174,16 +174,45 @@ module _ (streams : Streams) where
   outcome_of name request.Rollback = in_stream name (ends_told Empty)
   outcome_of name asked = tells_statement name asked (statement_of asked)
 
--- a request that may be told that memory ran out; such a step counts as not asked
-abbrev pub may_lack_memory : Request → Bool
-may_lack_memory request.Begin = false
-may_lack_memory request.Rollback = false
-may_lack_memory asked = true
+-- ---- out of memory
 
--- the reply is the one that is demanded, or out of memory
+-- a statement is told this before memory is asked for: a conflict of its transaction, that the node takes no writes, or that a transaction
+-- can't change spaces and indexes
+abbrev pub needs_no_memory : Reply → Bool
+needs_no_memory (Refused Conflict) = true
+needs_no_memory (Refused (ReadOnly node)) = true
+needs_no_memory (Refused (Unsupported SchemaInTransaction)) = true
+needs_no_memory other = false
+
+-- an outcome of a statement for which memory is asked
+abbrev pub statement_may_lack : Outcome → Bool
+statement_may_lack outcome = not (needs_no_memory outcome.reply)
+
+-- an outcome of COMMIT for which memory is asked: it has rows
+abbrev pub commit_may_lack : Outcome → Bool
+commit_may_lack outcome = is_some_row outcome.rows
+
+-- whether a request that has this outcome may be told that memory ran out in its place; such a step counts as not asked
+abbrev pub may_lack_memory : Request → Outcome → Bool
+may_lack_memory request.Commit outcome = commit_may_lack outcome
+may_lack_memory asked outcome = is_some (statement_of asked) && statement_may_lack outcome
+
+-- the reply is the one that is demanded; or it is out of memory, where memory is asked for
 abbrev pub IsTold : Streams → TxnName → Request → Reply → Type 0
 IsTold streams name asked reply =
-    (reply ≡ (outcome_of streams name asked).reply) ⊎ ((may_lack_memory asked ≡ true) × (reply ≡ Refused OutOfMemory))
+    (reply ≡ (outcome_of streams name asked).reply)
+    ⊎ ((may_lack_memory asked (outcome_of streams name asked) ≡ true) × (reply ≡ Refused OutOfMemory))
+
+-- ---- what was told
+
+-- what becomes of a transaction whose request was told this: a statement that it goes on with is kept with the reply
+abbrev pub becomes_told : Reply → Becomes → Becomes
+becomes_told reply (Goes step) = Goes (record step { reply = reply })
+becomes_told reply other = other
+
+-- an outcome with the reply that was told
+abbrev pub told_as : Reply → Outcome → Outcome
+told_as reply outcome = record { reply = reply; rows = outcome.rows; becomes = becomes_told reply outcome.becomes }
 
 -- ---- what comes of it
 

@@ -3,7 +3,7 @@
 use uuid::Uuid;
 
 /// The identifiers of a node.
-#[derive(Clone, Copy, Debug, Drop)]
+#[derive(Clone, Copy, Drop)]
 pub struct Ids {
     /// Its replica id, from 0 to 31.
     pub me: u8,

@@ -1,18 +1,15 @@
 //! Theorems that other crates may use.
 
-ghost use Rattle.std.specs.Prelude.{◌≡◌, [], ℕ, false, List, None, Result, Some};
+ghost use Rattle.std.specs.Prelude.{◌≡◌, [], ℕ, false, List, None, Some};
 ghost use Rattle.std.specs.List.{AllByRecursion};
 ghost use Rattle.mx_request.specs.declared.request.Request.{Request};
 ghost use Rattle.mx_row.specs.declared.row.Row.{Row};
 ghost use Rattle.mx_schema.specs.Sound.{IsSound};
 ghost use Rattle.mx_schema.specs.State.{State};
-ghost use Rattle.mx_outside.specs.Disks.{Files};
-ghost use Rattle.mx_model.specs.declared.damage.Damage.{Damage};
 ghost use Rattle.mx_model.specs.Answers.{answer_in_space, answer_to, state_after_row, state_after_rows};
-ghost use Rattle.mx_model.specs.Directories.{AllFollow, IsDirectoryState, Reached, SameOutcome};
 ghost use Rattle.mx_model.specs.Frame.{AgreeBut, IsNoSchemaWrite, IsDataStatement, OperationHasBytes, StaysSound, answers_from, reads_in, rows_in, state_after_statements};
 ghost use Rattle.mx_model.specs.Bases.{Base};
-ghost use Rattle.mx_model.specs.Histories.{History, IsLegal, asks_in, asking, history_from, journal_of, remembered, state_of};
+ghost use Rattle.mx_model.specs.Histories.{History, IsLegal, asks_in, asking, history_from, remembered};
 ghost use Rattle.mx_model.specs.Touches.{rows_meet};
 ghost use Rattle.mx_model.specs.statements.Statement.{Operation, Statement};
 ghost use Rattle.mx_write.specs.Change.{state_after_changed};
@@ -26,20 +23,6 @@ ghost use Rattle.mx_write.specs.Touches.{Touched, are_met, touched_by_change};
 pub fn replies_are_determined()
     ensures { (base : Base) (history : History) → IsLegal base history
         → asking (remembered history) ≡ history_from base [] (asks_in (remembered history)) }
-{}
-
-/// A theorem, which does nothing when it is called: what a legal history commits can be written, each
-/// commit has the next lsn, the state takes it, and stays sound.
-pub fn commits_are_sound()
-    ensures { (base : Base) (history : History) → IsLegal base history
-        → AllFollow base.state base.clock (journal_of base history) × IsSound (state_of base history) }
-{}
-
-/// A theorem, which does nothing when it is called: a directory recovers to one state only, with one
-/// vclock and one node's identifiers, or has one first damage.
-pub fn a_directory_stands_once()
-    ensures { (files : Files) (one other : Result Reached Damage) → IsDirectoryState files one
-        → IsDirectoryState files other → SameOutcome one other }
 {}
 
 /// A theorem, which does nothing when it is called: what a statement writes to the journal makes of a

@@ -4,7 +4,7 @@ use mx_base::Refusal;
 use mx_msgpack::Tuples;
 
 /// A reply to a request.
-#[derive(Debug, Drop)]
+#[derive(Drop)]
 pub enum Reply {
     /// It was done, and there is nothing to return.
     Empty,

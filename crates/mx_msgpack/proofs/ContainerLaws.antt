@@ -1,24 +1,14 @@
 -- Containers from their head on: a map's pairs are read, and what reads as an array and is one value is spelled as an array.
-use Rattle.std.proofs.Common.{◌≡◌, ℕ, suc, ◌+◌, ◌-◌, ◌*◌, ◌<◌, List, [], ◌∷◌, length, take, Ok, refl, sym, ap, ◌∙◌, subst, inl, ltb}
+use Rattle.std.proofs.Common.{◌≡◌, ℕ, suc, ◌-◌, List, [], length, take, Ok, sym, ap, ◌∙◌, subst}
 use Rattle.std.proofs.lemmas.List.{append-nil}
-use Rattle.mx_msgpack.specs.declared.bad.Bad.TheVariants.{Long}
 use Rattle.mx_msgpack.specs.declared.head.Head.{Head}
 use Rattle.mx_msgpack.specs.declared.head.Head.TheVariants.{Nil, Bool as Boolean, Int, Str, Bin, Array, Map, Fixed, Extension}
-use Rattle.mx_msgpack.specs.Grammar.{Values, Spells, max_length}
+use Rattle.mx_msgpack.specs.Grammar.{Values, Spells}
 use Rattle.mx_msgpack.specs.Grammar as grammar
-use Rattle.mx_msgpack.specs.Reading.{head_at, after_all, after_first, reading_of, Shown, ShownArray, shown}
-use Rattle.mx_msgpack.proofs.Results.{bind_ok, guard_then, ok_is}
+use Rattle.mx_msgpack.specs.Reading.{head_at, after_first, reading_of, Shown, ShownArray, shown}
+use Rattle.mx_msgpack.proofs.Results.{bind_ok, ok_is}
 use Rattle.mx_msgpack.proofs.Heads.{head_spelled, head_again}
-use Rattle.mx_msgpack.proofs.ValueLaws.{value_begins}
 use Rattle.mx_msgpack.proofs.GrammarLaws.{value_stands}
-
--- what stands after the leading byte of a map
-pub map_content : (total room count : ℕ) (pairs rest : List ℕ) → count < 0x10 → after_first total (suc room) ((0x80 + count) ∷ pairs) ≡ Ok rest
-    → after_all (after_first total room) (2 * count) pairs ≡ Ok rest
-map_content total room count pairs rest few e =
-    let bytes = (0x80 + count) ∷ pairs in
-    let head = head_again (total - length bytes) (Map count) ((0x80 + count) ∷ []) pairs (inl (few, refl)) in
-    (guard_then (ltb max_length count) (Long (total - length bytes)) _ rest (sym (value_begins total (suc room) bytes (Map count) pairs head) ∙ e)).1
 
 array_head : (head : Head) (content whole : List ℕ) (count : ℕ) (items : List ℕ) → shown head content whole ≡ ShownArray count items → head ≡ Array count
 array_head Nil content whole count items e = absurd cc

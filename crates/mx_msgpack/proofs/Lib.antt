@@ -14,7 +14,6 @@ pub mod NumberLaws
 pub mod Options
 pub mod ReaderLaws
 pub mod PieceLaws
-pub mod CutLaws
 pub mod UnsignedLaws
 pub mod SpellingLaws
 pub mod FrontLaws
@@ -35,4 +34,3 @@ pub mod LookupLaws
 pub mod InnerSteps
 pub mod InnerLaws
 pub mod PassLaws
-pub mod OrderLaws

@@ -5,13 +5,13 @@ use Rattle.std.proofs.lemmas.List.{append-nil, take_all, take-append-drop, lengt
 use Rattle.mx_msgpack.specs.declared.head.Head.{Head}
 use Rattle.mx_msgpack.specs.Grammar as grammar
 use Rattle.mx_msgpack.specs.Grammar.{Value, Spells}
-use Rattle.mx_msgpack.specs.Reading.{head_at, after_first, reading_of, Shown, ShownMap, shown}
+use Rattle.mx_msgpack.specs.Reading.{head_at, after_first, reading_of, Shown, shown}
 use Rattle.mx_msgpack.specs.Readers.{unsigned_at}
 use Rattle.mx_msgpack.specs.Items.{after_value}
 use Rattle.std.specs.Option.{option_and_then, option_map_or}
 use Rattle.std.specs.Result.{result_ok}
 use Rattle.mx_msgpack.specs.declared.bad.Bad.{Bad}
-use Rattle.mx_msgpack.specs.Maps.{Pair, pairs_from, pairs_in, map_at, pairs_at}
+use Rattle.mx_msgpack.specs.Maps.{Pair, pairs_from, pairs_in, map_at}
 use Rattle.mx_msgpack.specs.Projections.{as_map, shown_first}
 use Rattle.mx_msgpack.proofs.Options.{bind_some, same_some}
 use Rattle.mx_msgpack.proofs.ProjectionLaws.{first_read}
@@ -74,12 +74,6 @@ read_alone bytes what size e =
     let h = head_spelled 0 bytes a.0.0 a.0.1 a.1 in
     parts_alone bytes a.0.0 a.0.1 b.0 h.0 s.content s.front s.value what size (heads.1 ∙ s.parts) h.1 h.2 s.whole s.spelled
     (ap (λ (x : Shown × ℕ). x.0) same) (ap (λ (x : Shown × ℕ). x.1) same)
-
--- the pairs of a map that is shown
-pub pairs_shown : (bytes : List ℕ) (count : ℕ) (items : List ℕ) (size : ℕ) → reading_of bytes ≡ Ok (ShownMap count items, size)
-    → Some (pairs_from count items, drop size bytes) ≡ pairs_at bytes
-unfolding map_at
-pairs_shown bytes count items size e = rw (e, read_alone bytes (ShownMap count items) size e) refl
 
 -- the pairs that a reading gives
 abbrev pairs_by : Result (Shown × ℕ) Bad → List Pair

@@ -1,6 +1,5 @@
 -- Steps that may find nothing, and the steps after them.
 use Rattle.std.proofs.Common.{◌≡◌, Bool, true, false, cond, Option, Some, None, refl}
-use Rattle.std.specs.Prelude.{MatchBool}
 use Rattle.std.specs.Option.{option_map}
 use Rattle.mx_msgpack.specs.Readers.{◌>>=◌}
 
@@ -24,11 +23,6 @@ some x = Some x
 
 pub same_some : {A : Type 0} (x y : A) → some x ≡ some y → x ≡ y
 same_some x y e = cc
-
--- the fact of a test that holds
-pub when_true : (b : Bool) (P Q : Type 0) → b ≡ true → MatchBool b P Q → P
-when_true true P Q e h = h
-when_true false P Q e h = absurd cc
 
 -- a value of which a function gives another
 pub mapped_some : {A B : Type 0} (f : A → B) (o : Option A) (y : B) → option_map f o ≡ Some y → (x : A) × (o ≡ Some x) × (f x ≡ y)

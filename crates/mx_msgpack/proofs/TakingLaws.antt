@@ -177,9 +177,6 @@ pub record Came (total room count : ℕ) (bytes : List ℕ) (left : ℕ) (values
   pub so_far : AllSpelledUpTo room (list_view values) bytes rest
   pub same : after_all (after_first total room) left rest ≡ after_all (after_first total room) count bytes
 
-pub came_nowhere : (total room count : ℕ) (bytes : List ℕ) → Came total room count bytes count [] bytes
-came_nowhere total room count bytes = record { many = omega arith; so_far = ([], refl, refl); same = refl }
-
 pub came_on : (total room count : ℕ) (bytes : List ℕ) (left : ℕ) (values new : List Value) (value : Value) (rest after : List ℕ) → Came total room count bytes left values rest
     → 0 < left → new ≡ values ++ value ∷ [] → SpelledUpTo room (value_view value) rest after → Came total room count bytes (left - 1) new after
 came_on total room count bytes zero values new value rest after came some e b = absurd (omega arith)
@@ -194,19 +191,10 @@ came_on total room count bytes (suc left) values new value rest after came some 
       same = sym (ap (λ (r : Result (List ℕ) Bad). r >>= after_all (after_first total room) left) (begins_after total room (value_view value) rest after (one, parts, s))) ∙ came.same;
     })
 
-pub came_fault : (total room count : ℕ) (bytes : List ℕ) (left : ℕ) (values : List Value) (rest : List ℕ) (bad : Bad) → Came total room count bytes left values rest
-    → 0 < left → after_first total room rest ≡ Err bad → after_all (after_first total room) count bytes ≡ Err bad
-came_fault total room count bytes zero values rest bad came some e = absurd (omega arith)
-came_fault total room count bytes (suc left) values rest bad came some e =
-    sym came.same ∙ ap (λ (r : Result (List ℕ) Bad). r >>= after_all (after_first total room) left) e
-
 pub record CamePairs (total room count : ℕ) (bytes : List ℕ) (left : ℕ) (pairs : List (Value × Value)) (rest : List ℕ) : Type 0 where
   pub many : length pairs + left ≡ count
   pub so_far : PairsSpelledUpTo room (pair_list_view pairs) bytes rest
   pub same : after_all (after_first total room) (2 * left) rest ≡ after_all (after_first total room) (2 * count) bytes
-
-pub pairs_came_nowhere : (total room count : ℕ) (bytes : List ℕ) → CamePairs total room count bytes count [] bytes
-pairs_came_nowhere total room count bytes = record { many = omega arith; so_far = ([], refl, refl); same = refl }
 
 -- reading all goes on after a pair
 pair_step : (one : List ℕ → Result (List ℕ) Bad) (left : ℕ) (rest middle after : List ℕ) → one rest ≡ Ok middle → one middle ≡ Ok after
@@ -236,13 +224,6 @@ pairs_came_on total room count bytes (suc left) pairs new pair rest middle after
       );
       same = sym (pair_step (after_first total room) left rest middle after first second) ∙ came.same;
     })
-
-pub key_fault : (total room count : ℕ) (bytes : List ℕ) (left : ℕ) (pairs : List (Value × Value)) (rest : List ℕ) (bad : Bad) → CamePairs total room count bytes left pairs rest
-    → 0 < left → after_first total room rest ≡ Err bad → after_all (after_first total room) (2 * count) bytes ≡ Err bad
-key_fault total room count bytes zero pairs rest bad came some e = absurd (omega arith)
-key_fault total room count bytes (suc left) pairs rest bad came some e =
-    sym came.same ∙ ap (λ (n : ℕ). after_all (after_first total room) n rest) (twice left)
-    ∙ ap (λ (r : Result (List ℕ) Bad). r >>= after_all (after_first total room) (suc (2 * left))) e
 
 pub member_fault : (total room count : ℕ) (bytes : List ℕ) (left : ℕ) (pairs : List (Value × Value)) (key : Value) (rest middle : List ℕ) (bad : Bad)
     → CamePairs total room count bytes left pairs rest → 0 < left → SpelledUpTo room (value_view key) rest middle → after_first total room middle ≡ Err bad

@@ -1,8 +1,8 @@
 -- Numbers of 0 or more: what is read is spelled so, and what is spelled so is read, whatever follows.
-use Rattle.std.proofs.Common.{◌≡◌, ℕ, ◌-◌, ◌^◌, ◌≤◌, suc, true, List, ◌++◌, length, take, drop, Option, Some, None, Result, Ok, Err, refl, sym, ap, ◌∙◌, append_assoc, inl, arith}
-use Rattle.std.proofs.Common.{nat_lt, ltb, Bool, false, ◌<◌, ◌∷◌, cond}
+use Rattle.std.proofs.Common.{◌≡◌, ℕ, ◌-◌, ◌≤◌, suc, true, List, ◌++◌, length, take, drop, Option, Some, None, Result, Ok, Err, refl, sym, ap, ◌∙◌, append_assoc, inl, arith}
+use Rattle.std.proofs.Common.{ltb, Bool, false, ◌<◌, ◌∷◌, cond}
 use Rattle.std.proofs.lemmas.Bool.{lt-ltb}
-use Rattle.std.specs.Prelude.{ℤ, pos, negsuc, if◌then◌else◌}
+use Rattle.std.specs.Prelude.{ℤ, pos, negsuc}
 use Rattle.std.proofs.lemmas.List.{drop_at, length-append}
 use Rattle.mx_msgpack.specs.declared.bad.Bad.{Bad}
 use Rattle.mx_msgpack.specs.declared.head.Head.{Head}
@@ -10,19 +10,18 @@ use Rattle.mx_msgpack.specs.declared.head.Head.TheVariants.{Nil, Bool as Boolean
 use Rattle.mx_msgpack.specs.Grammar as grammar
 use Rattle.mx_msgpack.specs.Grammar.{SpellsNumber, SpellsUnsigned, SpellsInt}
 use Rattle.mx_msgpack.specs.Reading.{head_at, after_first, reading_of, Shown, ShownInt, shown}
-use Rattle.mx_msgpack.specs.Readers.{◌>>=◌, Advances, IsStable, as_unsigned, number_at, unsigned_at, unsigned_32_at}
+use Rattle.mx_msgpack.specs.Readers.{◌>>=◌, IsStable, as_unsigned, number_at, unsigned_at}
 use Rattle.mx_msgpack.specs.Projections.{as_int, shown_first}
 use Rattle.std.specs.Result.{result_ok}
 use Rattle.mx_msgpack.proofs.ProjectionLaws.{first_read, int_is, unsigned_is}
 use Rattle.mx_msgpack.specs.Reading as reading
 use Rattle.mx_msgpack.specs.declared.bad.Bad.TheVariants.{Short}
 use Rattle.byteorder.specs.Endian.{big_number}
-use Rattle.mx_msgpack.proofs.Options.{bind_some, allowed, same_some}
+use Rattle.mx_msgpack.proofs.Options.{bind_some, same_some}
 use Rattle.mx_msgpack.proofs.Results.{bind_ok, ok_is}
 use Rattle.mx_msgpack.proofs.ValueLaws.{value_begins}
 use Rattle.mx_msgpack.proofs.Heads.{head_spelled, head_again}
 use Rattle.mx_msgpack.proofs.Shown.{head_fails, int_seen}
-use Rattle.mx_msgpack.proofs.FrontLaws.{spelled_some}
 
 -- ---- what is read is spelled
 
@@ -109,40 +108,12 @@ unsigned_read number front rest s = int_read number front rest (inl (number, ref
 pub wide_length : (leading width number : ℕ) (front : List ℕ) → SpellsNumber leading width number front → length front ≡ suc width
 wide_length leading width number front (digits, len, n, e) = ap length e ∙ ap suc len
 
-pub unsigned_at-Advances : Advances unsigned_at
-unsigned_at-Advances bytes found e =
-    let s = unsigned_spelled bytes found e in
-    let some = spelled_some 0 (grammar.Int (pos found.0)) s.0 s.2 in
-    let l = ap length s.1 ∙ length-append s.0 found.1 in
-    omega arith
-
 pub unsigned_at-IsStable : IsStable unsigned_at
 unsigned_at-IsStable bytes more found e =
     let s = unsigned_spelled bytes found e in
     ap (λ (l : List ℕ). unsigned_at (l ++ more)) s.1
     ∙ ap unsigned_at (append_assoc s.0 found.1 more)
     ∙ int_read found.0 s.0 (found.1 ++ more) s.2
-
--- a number of at most 32 bits is one of 0 or more
-pub unsigned_32_parts : (bytes : List ℕ) (found : ℕ × List ℕ) → unsigned_32_at bytes ≡ Some found
-    → (unsigned_at bytes ≡ Some found) × (nat_lt found.0 (2 ^ 32) ≡ true)
-unfolding unsigned_32_at
-unsigned_32_parts bytes found e =
-    let a = bind_some (unsigned_at bytes) (λ number. if nat_lt number.0 (2 ^ 32) then Some number else None) found e in
-    let b = allowed (nat_lt a.0.0 (2 ^ 32)) (Some a.0) found a.2 in
-    let same = same_some a.0 found b.1 in
-    (a.1 ∙ b.1, ap (λ (x : ℕ × List ℕ). nat_lt x.0 (2 ^ 32)) (sym same) ∙ b.0)
-
-pub unsigned_32_at-Advances : Advances unsigned_32_at
-unsigned_32_at-Advances bytes found e = unsigned_at-Advances bytes found (unsigned_32_parts bytes found e).0
-
-pub unsigned_32_at-IsStable : IsStable unsigned_32_at
-unfolding unsigned_32_at
-unsigned_32_at-IsStable bytes more found e =
-    let p = unsigned_32_parts bytes found e in
-    rw (unsigned_at-IsStable bytes more found p.0, p.1) refl
-
--- ---- numbers by their leading byte
 
 headed : (bytes after : List ℕ) (number : ℕ) → head_at 0 bytes ≡ Ok (Int (pos number), after) → unsigned_at bytes ≡ Some (number, after)
 headed bytes after number e =

@@ -7,11 +7,8 @@ pub mod Projections
 pub mod Readers
 pub mod Spelling
 pub mod Owned
-pub mod Pieces
 pub mod Writing
 pub mod Items
 pub mod Types
 pub mod Lookups
 pub mod Maps
-pub mod Short
-pub mod Stored

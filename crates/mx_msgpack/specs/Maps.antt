@@ -1,6 +1,6 @@
 -- Maps by their keys, as headers and bodies have them. A key that isn't a number of 0 or more is skipped.
 use Rattle.std.specs.Prelude.{⊤, ℕ, zero, suc, Bool, false, List, [], ◌∷◌, take, drop, Option, Some, None, ◌==◌, if◌then◌else◌, IfSome}
-use Rattle.std.specs.Option.{option_map, option_map_or, option_or}
+use Rattle.std.specs.Option.{option_map_or, option_or}
 use Rattle.mx_msgpack.specs.Projections.{as_map, shown_first, first_as}
 use Rattle.mx_msgpack.specs.Readers.{Reader, ◌>>=◌, unsigned_in}
 use Rattle.mx_msgpack.specs.Items.{IsOneValue, first_value, after_value}
@@ -26,10 +26,6 @@ map_at bytes = do
   first ← shown_first bytes
   map ← as_map first.0
   Some (take first.1 bytes, drop first.1 bytes)
-
--- the pairs of the map that stands first, and the bytes after it
-abbrev pub pairs_at : Reader (List Pair)
-pairs_at bytes = option_map (λ map. (pairs_in map.0, map.1)) (map_at bytes)
 
 -- each of these that is there is one value and nothing else
 abbrev pub AreValues : List (Option (List ℕ)) → Type 0

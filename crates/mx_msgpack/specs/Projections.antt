@@ -2,7 +2,7 @@
 use Rattle.std.specs.Prelude.{ℕ, ℤ, Bool, List, Option, Some, None}
 use Rattle.std.specs.Option.{option_and_then}
 use Rattle.std.specs.Result.{result_ok}
-use Rattle.mx_msgpack.specs.Reading.{Shown, ShownBool, ShownInt, ShownStr, ShownBin, ShownArray, ShownMap, reading_of}
+use Rattle.mx_msgpack.specs.Reading.{Shown, ShownBool, ShownInt, ShownStr, ShownArray, ShownMap, reading_of}
 
 -- a Bool
 abbrev pub as_bool : Shown → Option Bool
@@ -18,11 +18,6 @@ as_int _ = None
 abbrev pub as_text : Shown → Option (List ℕ)
 as_text (ShownStr text) = Some text
 as_text _ = None
-
--- the bytes of a Bin
-abbrev pub as_binary : Shown → Option (List ℕ)
-as_binary (ShownBin content) = Some content
-as_binary _ = None
 
 -- how many values an Array has, and the bytes that spell them
 abbrev pub as_array : Shown → Option (ℕ × List ℕ)

@@ -1,5 +1,5 @@
 -- Reading small pieces from the left, and as many in a row as there are.
-use Rattle.std.specs.Prelude.{◌≡◌, ℕ, zero, suc, ◌^◌, ◌<◌, ℤ, pos, negsuc, List, [], ◌∷◌, ◌++◌, length, take, drop, Option, Some, None, nat_lt, ◌==◌, if◌then◌else◌}
+use Rattle.std.specs.Prelude.{◌≡◌, ℕ, zero, suc, ◌^◌, ◌<◌, ℤ, pos, negsuc, List, [], ◌∷◌, ◌++◌, length, take, drop, Option, Some, None, nat_lt, if◌then◌else◌}
 use Rattle.std.specs.Option.{option_map}
 use Rattle.byteorder.specs.Endian.{big_number}
 use Rattle.mx_msgpack.specs.Projections.{as_int, shown_first}
@@ -41,11 +41,6 @@ all_from read bytes = some_from read (length bytes) bytes
 -- a number of so many bytes, the highest first
 abbrev pub number_at : ℕ → Reader ℕ
 number_at width bytes = if nat_lt (length bytes) width then None else Some (big_number width (take width bytes), drop width bytes)
-
--- this byte, and the bytes after it
-abbrev pub after_byte : ℕ → List ℕ → Option (List ℕ)
-after_byte wanted [] = None
-after_byte wanted (byte ∷ rest) = if byte == wanted then Some rest else None
 
 -- so many bytes, and the bytes after them
 abbrev pub bytes_at : ℕ → Reader (List ℕ)

@@ -10,10 +10,10 @@ ghost use Rattle.mx_msgpack.specs.Spelling.{IsSpellable};
 ghost use Rattle.mx_msgpack.specs.Owned.{SpelledUpTo, AllSpelledUpTo, PairsSpelledUpTo, list_view, pair_list_view, pair_list, value_view, value_list};
 
 use crate::bad::Bad;
-use crate::bytes::Bytes;
 use crate::head::{Head, head_at};
 use crate::size::{MAX_LENGTH, MAX_NESTING, skip};
 use crate::value::{Pairs, Value, Values};
+use mx_bytes::Bytes;
 use std::alloc::{AllocError, Global};
 use thiserror::Error;
 

@@ -7,9 +7,9 @@ ghost use Rattle.mx_msgpack.specs.Owned.{list_view, pair_list_view, value_view};
 ghost use Rattle.mx_msgpack.specs.Spelling.{array_head, bin_head, IsSpellable, map_head, shortest, shortest_all, shortest_int, shortest_negative, shortest_pairs, shortest_unsigned, str_head};
 ghost use Rattle.mx_msgpack.specs.Writing.{ArePairsWritable, AreWritable, Fits64, IsWritable};
 
-use crate::bytes::Bytes;
 use crate::value::Value;
 use byteorder::{BigEndian, ByteOrder};
+use mx_bytes::Bytes;
 use std::alloc::{AllocError, Global};
 
 /// As `write_int`, of an Int of 0 or more.

@@ -8,7 +8,7 @@ use crate::bad::Bad;
 use byteorder::{BigEndian, ByteOrder};
 
 /// The type of a value, and its number or how much follows.
-#[derive(Clone, Copy, Debug, PartialEq, Eq)]
+#[derive(Clone, Copy, PartialEq, Eq)]
 pub(crate) enum Head {
     Nil,
     Bool(bool),
@@ -29,7 +29,7 @@ pub(crate) enum Head {
 }
 
 /// What a length after a leading byte counts.
-#[derive(Clone, Copy, Debug, PartialEq, Eq)]
+#[derive(Clone, Copy, PartialEq, Eq)]
 pub(crate) enum Kind {
     Str,
     Bin,

@@ -12,7 +12,7 @@ use crate::size::skip;
 use crate::value_ref::{ValueRef, read_ref};
 
 /// So many values, and the bytes in which they stand in a row.
-#[derive(Clone, Copy, Debug, Drop)]
+#[derive(Clone, Copy, Drop)]
 pub struct Items<'a> {
     pub count: u32,
     pub bytes: &'a [u8],

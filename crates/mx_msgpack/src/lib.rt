@@ -2,7 +2,6 @@
 #![tactic(auto)]
 
 mod bad;
-mod bytes;
 mod decode;
 mod encode;
 mod head;
@@ -12,16 +11,12 @@ mod lookup;
 mod maps;
 mod projections;
 mod readers;
-mod short_bytes;
 mod size;
-mod storage;
-mod tuples;
 mod value;
 mod value_ref;
 mod value_type;
 
 pub use bad::Bad;
-pub use bytes::Bytes;
 pub use decode::{ReadBad, read_value};
 pub use encode::{
     write_array_head, write_int, write_map_head, write_str_head, write_unsigned, write_value,
@@ -33,10 +28,10 @@ pub use laws::{
 };
 pub use lookup::values_at;
 pub use maps::{PairRef, PairsRef, first_pair};
+pub use mx_bytes::{Bytes, Tuples};
 pub use projections::{array_in, bool_in, int_in, map_in, text_in};
 pub use readers::{number_at, unsigned_32_at, unsigned_at, unsigned_in};
 pub use size::{MAX_LENGTH, skip};
-pub use tuples::Tuples;
 pub use value::{Pairs, Value, Values};
 pub use value_ref::{ValueRef, read_ref};
 pub use value_type::ValueType;

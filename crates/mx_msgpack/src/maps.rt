@@ -9,14 +9,14 @@ use crate::items::parted;
 use crate::readers::unsigned_at;
 
 /// So many pairs of a map, each a key and then a value, and the bytes in which they stand in a row.
-#[derive(Clone, Copy, Debug, Drop)]
+#[derive(Clone, Copy, Drop)]
 pub struct PairsRef<'a> {
     pub count: u32,
     pub bytes: &'a [u8],
 }
 
 /// A pair of a map.
-#[derive(Clone, Copy, Debug, Drop)]
+#[derive(Clone, Copy, Drop)]
 pub struct PairRef<'a> {
     /// The key, where it is a number of 0 or more.
     pub key: Option<u64>,

@@ -3,7 +3,7 @@
 ghost use Rattle.std.specs.Prelude.{◌≡◌, [], ◌∷◌, ◌++◌, length, OnOk, OnErr, IsTrue, ◌↔◌};
 ghost use Rattle.mx_msgpack.specs.Owned.{pair_list, value_list};
 
-use crate::bytes::Bytes;
+use mx_bytes::Bytes;
 use std::alloc::{AllocError, Global};
 
 /// A MessagePack value.

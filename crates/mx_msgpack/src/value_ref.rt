@@ -10,7 +10,7 @@ use crate::head::{Head, head_at, short_head};
 use crate::size::measure_behind;
 
 /// A value in place. A container is its count and the bytes of all that it holds.
-#[derive(Clone, Copy, Debug)]
+#[derive(Clone, Copy)]
 pub enum ValueRef<'a> {
     Nil,
     Bool(bool),

@@ -9,7 +9,7 @@ ghost use Rattle.mx_msgpack.specs.declared.value_type.ValueType.TheVariants.{Sca
 use crate::value_ref::ValueRef;
 
 /// The type of a value.
-#[derive(Clone, Copy, Debug, Drop, PartialEq, Eq)]
+#[derive(Clone, Copy, Drop, PartialEq, Eq)]
 pub enum ValueType {
     Any,
     /// Numbers of 0 or more.

@@ -2,14 +2,13 @@
 -- the same.
 use Rattle.std.proofs.Common.{◌≡◌, ℕ, List, [], ◌∷◌, ◌++◌, refl, sym, ap, ◌∙◌, subst}
 use Rattle.std.proofs.lemmas.List.{append-nil, append_assoc}
-use Rattle.mx_model.specs.declared.out_units.OutUnit.{OutUnit}
+use Rattle.mx_node.specs.declared.out_units.OutUnit.{OutUnit}
 use Rattle.mx_model.specs.Bases.{Base}
 use Rattle.mx_model.specs.Histories.{History, HasMemory, IsLegal, asking, asks_in, history_from}
-use Rattle.mx_model.specs.Order.{Step, asks_among, order_in}
-use Rattle.mx_model.specs.Replies.{told_on}
+use Rattle.mx_serial.specs.Order.{Step, asks_among, order_in}
+use Rattle.mx_serial.specs.Replies.{told_on}
 use Rattle.mx_model.proofs.HistoryLaws.{history_of_asks}
-use Rattle.mx_model.proofs.OrderLaws.{asks_of_order}
-use Rattle.mx_model.proofs.ToldLaws.{told_on-asking}
+use Rattle.mx_serial.proofs.ToldLaws.{asks_of_order, told_on-asking}
 use Rattle.mx_node.specs.Inputs.{InputUnit, connection_of}
 use Rattle.mx_node.specs.Order.{order_by, order_from, order_of}
 use Rattle.mx_node.specs.Starts.{Start}

@@ -9,7 +9,7 @@ use Rattle.mx_session.specs.declared.job.Job.{Job}
 use Rattle.mx_session.specs.Jobs.{ends, jobs_of}
 use Rattle.mx_session.specs.Sessions.{SessionState}
 use Rattle.mx_model.specs.Histories.{History, IsLegal}
-use Rattle.mx_model.specs.Order.{Step, order_in}
+use Rattle.mx_serial.specs.Order.{Step, order_in}
 use Rattle.mx_engine.specs.declared.engine.Engine.{Engine}
 use Rattle.mx_journal.specs.declared.journal.Journal.{Journal}
 use Rattle.mx_node.specs.declared.single.Single.{Single}
@@ -18,11 +18,13 @@ use Rattle.mx_node.specs.Connections.{came_on}
 use Rattle.mx_node.specs.Order.{departure_where, departures_of, order_by, order_of, whole_order_of, written_out}
 use Rattle.mx_node.specs.Starts.{Start}
 use Rattle.mx_node.specs.Serving.{Serves}
-use Rattle.mx_node.specs.Interrupted.{StepsSurvive, IsInterrupted}
-use Rattle.mx_model.specs.Survival.{Lasts}
+use Rattle.mx_node.specs.Interrupted.{IsInterrupted}
+use Rattle.mx_directory.specs.Survival.{Lasts}
+use Rattle.mx_store.specs.Stores.{StepsSurvive}
+use Rattle.mx_store.proofs.StoreLaws.{keep_on}
 use Rattle.mx_node.proofs.OrderLaws.{order_by-open}
 use Rattle.mx_node.proofs.KeepLaws.{ready_keeps}
-use Rattle.mx_node.proofs.LastingLaws.{breaks_none, breaks_now, breaks_among, keep_on}
+use Rattle.mx_node.proofs.LastingLaws.{breaks_none, breaks_now, breaks_among}
 use Rattle.mx_node.proofs.ServerLaws.{Did, Meets}
 
 -- nothing of the unit was done

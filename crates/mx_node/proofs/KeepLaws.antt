@@ -5,14 +5,13 @@ use Rattle.std.proofs.lemmas.List.{take_all}
 use Rattle.mx_outside.specs.Disks.{Disk, IfKnown}
 use Rattle.mx_model.specs.Bases.{Base}
 use Rattle.mx_model.specs.Histories.{History, Asked, Left, Took, Confirmed, Looked, journal_of}
-use Rattle.mx_model.specs.Replies.{told_by, told_in}
+use Rattle.mx_serial.specs.Replies.{told_by, told_in}
 use Rattle.mx_engine.specs.declared.engine.Engine.{Engine}
 use Rattle.mx_journal.specs.declared.journal.Journal.{Journal}
-use Rattle.mx_node.specs.Interrupted.{StepsSurvive}
-use Rattle.mx_model.specs.Survival.{Survive, Lasts}
-use Rattle.mx_node.specs.Ready.{Ready, taken_of}
-use Rattle.mx_node.proofs.LastingLaws.{keep_longer, keep_on}
-use Rattle.mx_node.proofs.ServingLaws.{behind_keeps}
+use Rattle.mx_store.specs.Stores.{StepsSurvive, taken_of}
+use Rattle.mx_directory.specs.Survival.{Survive, Lasts}
+use Rattle.mx_node.specs.Ready.{Ready}
+use Rattle.mx_store.proofs.StoreLaws.{journal_keeps, keep_longer, keep_on}
 
 pub ready_keeps : (base : Base) (history : History) (engine : Engine) (journal : Journal) (states : Option (List Disk))
     → Ready base history engine journal states → StepsSurvive base history history states
@@ -20,7 +19,7 @@ ready_keeps base history engine journal states ready = λ origin transactions al
     let commits = journal_of base history in
     let taken : taken_of base history ≡ commits = ap (λ n. take n commits) ready.taken ∙ take_all (length commits) commits (omega arith) in
     subst (λ txs. IfKnown states (λ disk past. Survive origin transactions (length (all.earlier ++ txs)) disk)) taken
-    (behind_keeps base history engine journal states ready.behind origin transactions all)
+    (journal_keeps base history journal states ready.behind.stands.legal ready.behind.has origin transactions all)
 
 -- ---- steps without a reply
 

@@ -5,18 +5,12 @@ use Rattle.mx_frame.specs.Packets.{rest_of}
 use Rattle.mx_session.specs.declared.job.Job.{Job}
 use Rattle.mx_session.specs.Jobs.{jobs_of, ends}
 use Rattle.mx_model.specs.Histories.{Entry, Asked, Left, Took, Confirmed, Looked, History}
-use Rattle.mx_model.specs.Order.{Step, DepartureStep, order_in, step_in}
+use Rattle.mx_serial.specs.Order.{Step, DepartureStep, order_in, step_in}
 use Rattle.mx_node.specs.Inputs.{InputUnit, Bytes}
 use Rattle.mx_node.specs.Connections.{came_on, is_ended_by}
-use Rattle.mx_node.specs.Order.{job_steps, written_out, departure_where, order_by, order_from, order_of}
+use Rattle.mx_node.specs.Order.{written_out, departure_where, order_by, order_from, order_of}
 use Rattle.mx_node.proofs.TableLaws.{left_by}
 use Rattle.mx_node.proofs.ConnectionLaws.{jobs_by-open, jobs_by-ended, jobs_by-nothing, is_ended_by-open, is_ended_by-ended, is_ended_by-nothing}
-
--- three steps, one after the other
-pub three_more : (steps : List Step) (one two three : Step)
-    → ((steps ++ one ∷ []) ++ two ∷ []) ++ three ∷ [] ≡ steps ++ one ∷ two ∷ three ∷ []
-three_more steps one two three =
-    ap (λ (l : List Step). l ++ three ∷ []) (append_assoc steps (one ∷ []) (two ∷ [])) ∙ append_assoc steps (one ∷ two ∷ []) (three ∷ [])
 
 -- the steps of a history that goes on
 pub order_in-append : (more earlier : History) → order_in (more ++ earlier) ≡ order_in earlier ++ order_in more
@@ -102,16 +96,6 @@ departed on true [] history is = absurd (omega (arith, ap length is))
 departed on true (entry ∷ more) history is =
     let same = same_from_push (order_in more) [] (step_in entry) (DepartureStep on) is in
     ap (λ (h : History). entry ∷ (h ++ history)) (none_made more same.0) ∙ ap (λ (e : Entry). e ∷ history) (left_there on entry same.1)
-
-pub written_out-append : (jobs more : List Job) → written_out (jobs ++ more) ≡ written_out jobs ++ written_out more
-written_out-append [] more = refl
-written_out-append (job ∷ jobs) more =
-    ap (λ (l : List Step). job_steps job ++ l) (written_out-append jobs more)
-    ∙ sym (append_assoc (job_steps job) (written_out jobs) (written_out more))
-
-pub written_out-push : (jobs : List Job) (job : Job) → written_out (jobs ++ job ∷ []) ≡ written_out jobs ++ job_steps job
-written_out-push jobs job =
-    written_out-append jobs (job ∷ []) ∙ ap (λ (l : List Step). written_out jobs ++ l) (append-nil (job_steps job))
 
 pub order_from-append : (earlier units more : List InputUnit)
     → order_from earlier (units ++ more) ≡ order_from earlier units ++ order_from (earlier ++ units) more

@@ -6,16 +6,18 @@ use Rattle.mx_frame.specs.Packets.{rest_of}
 use Rattle.mx_session.specs.declared.job.Job.{Job}
 use Rattle.mx_session.specs.Jobs.{jobs_of, ends}
 use Rattle.mx_session.proofs.JobLaws.{nothing_after_the_end, in_pieces}
-use Rattle.mx_model.specs.Replies.{Told, has_left, told_on, told_now}
+use Rattle.mx_serial.specs.Replies.{Told, has_left, told_on, told_now}
 use Rattle.mx_model.specs.Bases.{Base}
 use Rattle.mx_model.specs.Histories.{History}
-use Rattle.mx_model.specs.ReplyStream.{packet_told, packets_of_replies}
-use Rattle.mx_model.specs.declared.out_units.OutUnit.{OutUnit}
+use Rattle.mx_serial.specs.ReplyStream.{packet_told, packets_of_replies}
+use Rattle.mx_node.specs.declared.out_units.OutUnit.{OutUnit}
+use Rattle.mx_link.specs.Asks.{sync_of}
 use Rattle.mx_node.specs.Inputs.{InputUnit, Bytes, Close, connection_of}
 use Rattle.mx_node.specs.Connections.{came_on, gained}
 use Rattle.mx_node.specs.Starts.{Start, start_greeting}
-use Rattle.mx_node.specs.Outputs.{sync_of, sent_to, sent_on, closed_on, closing, output_for}
-use Rattle.mx_node.proofs.ConnectionLaws.{ends-nothing, gained-append, gained-nothing, is_ended_by-open, is_ended_by-ended, is_ended_by-nothing, jobs_of-nothing}
+use Rattle.mx_node.specs.Outputs.{sent_to, sent_on, closed_on, closing, output_for}
+use Rattle.mx_link.proofs.PieceLaws.{ends-nothing, jobs_of-nothing}
+use Rattle.mx_node.proofs.ConnectionLaws.{gained-append, gained-nothing, is_ended_by-open, is_ended_by-ended, is_ended_by-nothing}
 use Rattle.mx_node.proofs.TableLaws.{left_by}
 
 -- ---- packets of replies

@@ -7,15 +7,16 @@ use Rattle.mx_frame.specs.Packets.{rest_of, breaks_off, packets_of}
 use Rattle.mx_session.specs.declared.job.Job.{Job}
 use Rattle.mx_session.specs.Jobs.{job_in, broken_job, up_to_end, jobs_of, ends}
 use Rattle.mx_session.proofs.JobLaws.{in_pieces}
-use Rattle.mx_model.specs.Replies.{Told, told_by, told_now}
+use Rattle.mx_serial.specs.Replies.{Told, told_by, told_now}
 use Rattle.mx_model.specs.Bases.{Base}
 use Rattle.mx_model.specs.Histories.{Asked, Left, Took, Confirmed, Looked, History}
-use Rattle.mx_model.specs.Order.{Step, RequestStep, DepartureStep, TakeStep, ConfirmStep, LookStep, order_in}
-use Rattle.mx_model.proofs.ToldLaws.{AreElsewhere, told_now-asked, told_now-elsewhere, told_now-left}
+use Rattle.mx_serial.specs.Order.{Step, RequestStep, DepartureStep, TakeStep, ConfirmStep, LookStep, order_in}
+use Rattle.mx_serial.proofs.ToldLaws.{AreElsewhere, told_now-asked, told_now-elsewhere, told_now-left}
 use Rattle.mx_node.specs.Inputs.{InputUnit, Bytes, Close, connection_of}
 use Rattle.mx_node.specs.Connections.{came_after, came_on, is_open, is_ended_by, jobs_by, AreOf}
-use Rattle.mx_node.specs.Order.{departure_where, order_by, order_from, order_of, written_out}
-use Rattle.mx_node.proofs.ConnectionLaws.{came_elsewhere, came_here, came_on-push, ends-nothing, ends-piece, ends-stays, jobs_of-nothing, none_came}
+use Rattle.mx_node.specs.Order.{departure_where, order_by, order_from, order_of, requests_of, written_out}
+use Rattle.mx_link.proofs.PieceLaws.{ends-nothing, ends-piece, ends-stays, jobs_of-nothing}
+use Rattle.mx_node.proofs.ConnectionLaws.{came_elsewhere, came_here, came_on-push, none_came}
 use Rattle.mx_node.proofs.OrderLaws.{departed, none_made, order_by-ended, order_by-open, split_order}
 use Rattle.mx_node.proofs.TableLaws.{left_by}
 
@@ -82,10 +83,14 @@ are_elsewhere connection (Looked ∷ earlier) none =
     are_elsewhere connection earlier (each-parts (IsElsewhere connection) (order_in earlier) _ none).0
 
 module _ (connection on : ℕ) (other : (on == connection) ≡ false) where
+  requests_of-elsewhere : (jobs : List Job) → AreOf on jobs → Each (IsElsewhere connection) (requests_of jobs)
+  requests_of-elsewhere [] are = tt
+  requests_of-elsewhere (job ∷ jobs) are = (ap (λ (n : ℕ). n == connection) are.0 ∙ other, requests_of-elsewhere jobs are.1)
+
   written_out-elsewhere : (jobs : List Job) → AreOf on jobs → Each (IsElsewhere connection) (written_out jobs)
   written_out-elsewhere [] are = tt
   written_out-elsewhere (job ∷ jobs) are =
-      (ap (λ (n : ℕ). n == connection) are.0 ∙ other, (tt, (tt, written_out-elsewhere jobs are.1)))
+      each-append (IsElsewhere connection) (requests_of (job ∷ jobs)) (TakeStep ∷ ConfirmStep ∷ []) (requests_of-elsewhere (job ∷ jobs) are) (tt, (tt, tt))
 
   departure-elsewhere : (departs : Bool) → Each (IsElsewhere connection) (departure_where on departs)
   departure-elsewhere true = (other, tt)
@@ -125,13 +130,25 @@ requests-append (TakeStep ∷ steps) more = requests-append steps more
 requests-append (ConfirmStep ∷ steps) more = requests-append steps more
 requests-append (LookStep ∷ steps) more = requests-append steps more
 
+requests_of-own : (on : ℕ) (jobs : List Job) → AreOf on jobs → Each (IsOwn on) (requests_of jobs)
+requests_of-own on [] are = tt
+requests_of-own on (job ∷ jobs) are = (are.0, requests_of-own on jobs are.1)
+
 written_out-own : (on : ℕ) (jobs : List Job) → AreOf on jobs → Each (IsOwn on) (written_out jobs)
 written_out-own on [] are = tt
-written_out-own on (job ∷ jobs) are = (are.0, (tt, (tt, written_out-own on jobs are.1)))
+written_out-own on (job ∷ jobs) are =
+    each-append (IsOwn on) (requests_of (job ∷ jobs)) (TakeStep ∷ ConfirmStep ∷ []) (requests_of-own on (job ∷ jobs) are) (tt, (tt, tt))
+
+requests_of-requests : (jobs : List Job) → requests (requests_of jobs) ≡ length jobs
+requests_of-requests [] = refl
+requests_of-requests (job ∷ jobs) = ap suc (requests_of-requests jobs)
 
 written_out-requests : (jobs : List Job) → requests (written_out jobs) ≡ length jobs
 written_out-requests [] = refl
-written_out-requests (job ∷ jobs) = ap suc (written_out-requests jobs)
+written_out-requests (job ∷ jobs) =
+    let parts : requests (written_out (job ∷ jobs)) ≡ requests (requests_of (job ∷ jobs)) + 0 =
+    requests-append (requests_of (job ∷ jobs)) (TakeStep ∷ ConfirmStep ∷ []) in
+    omega (arith, parts, requests_of-requests (job ∷ jobs))
 
 -- the replies that a connection gains
 pub record Gains (base : Base) (on : ℕ) (earlier history : History) (count : ℕ) : Type 0 where

@@ -4,11 +4,11 @@ use Rattle.std.specs.Prelude.{◌==◌}
 use Rattle.std.proofs.lemmas.Bool.{eq-eqb, eqb-true, eqb-false}
 use Rattle.std.proofs.lemmas.List.{append-nil, append_assoc}
 use Rattle.mx_session.specs.Jobs.{ends}
-use Rattle.mx_model.specs.declared.out_units.OutUnit.{OutUnit}
+use Rattle.mx_node.specs.declared.out_units.OutUnit.{OutUnit}
 use Rattle.mx_model.specs.Histories.{History}
-use Rattle.mx_model.specs.Order.{order_in}
-use Rattle.mx_model.specs.Replies.{told_on}
-use Rattle.mx_model.proofs.ToldLaws.{told_on-elsewhere}
+use Rattle.mx_serial.specs.Order.{order_in}
+use Rattle.mx_serial.specs.Replies.{told_on}
+use Rattle.mx_serial.proofs.ToldLaws.{told_on-elsewhere}
 use Rattle.mx_node.specs.Inputs.{InputUnit, Bytes, Close, connection_of}
 use Rattle.mx_node.specs.Connections.{came_after, came_on, is_ended_by}
 use Rattle.mx_node.specs.Order.{order_by}

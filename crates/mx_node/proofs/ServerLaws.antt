@@ -11,9 +11,9 @@ use Rattle.mx_session.specs.Jobs.{ends, jobs_of}
 use Rattle.mx_session.specs.Sessions.{SessionState}
 use Rattle.mx_model.specs.Bases.{Base}
 use Rattle.mx_model.specs.Histories.{History, Left}
-use Rattle.mx_model.specs.Replies.{told_now}
-use Rattle.mx_model.specs.Order.{Step, order_in}
-use Rattle.mx_model.specs.ReplyStream.{packets_of_replies}
+use Rattle.mx_serial.specs.Replies.{told_now}
+use Rattle.mx_serial.specs.Order.{Step, order_in}
+use Rattle.mx_serial.specs.ReplyStream.{packets_of_replies}
 use Rattle.mx_engine.specs.declared.engine.Engine.{Engine}
 use Rattle.mx_engine.specs.Standing.{EngineStandsFor}
 use Rattle.mx_journal.specs.declared.journal.Journal.{Journal}
@@ -21,14 +21,16 @@ use Rattle.mx_node.specs.declared.single.Single.{Single}
 use Rattle.mx_node.specs.Inputs.{InputUnit, Bytes, Close, connection_of, max_connection}
 use Rattle.mx_node.specs.Connections.{came_after, came_on, is_open, AreOf}
 use Rattle.mx_node.specs.Order.{departure_where, order_by, written_out}
+use Rattle.mx_link.specs.Asks.{sync_of}
 use Rattle.mx_node.specs.Starts.{Start, start_greeting}
-use Rattle.mx_node.specs.Outputs.{sync_of, sent_on, closed_on, output_for}
-use Rattle.mx_model.specs.declared.out_units.OutUnit.{OutUnit}
+use Rattle.mx_node.specs.Outputs.{sent_on, closed_on, output_for}
+use Rattle.mx_node.specs.declared.out_units.OutUnit.{OutUnit}
 use Rattle.mx_node.specs.Ready.{Ready, IsReady, AnswersJobs, TakenAll}
-use Rattle.mx_model.specs.Survival.{Lasts}
+use Rattle.mx_directory.specs.Survival.{Lasts}
 use Rattle.mx_node.specs.Serving.{Attends, CanServe, HasSession, IsIdle, IsTable, Serves, AnswersUnit, goes_on, opened, session_at}
-use Rattle.mx_node.proofs.ConnectionLaws.{came_elsewhere, came_here, none_came, came_on-push, ends-nothing, ends-piece, ends-stays, rest_of-nothing}
-use Rattle.mx_node.proofs.LastingLaws.{lasts_longer, lasts_none}
+use Rattle.mx_link.proofs.PieceLaws.{ends-nothing, ends-piece, ends-stays, rest_of-nothing}
+use Rattle.mx_node.proofs.ConnectionLaws.{came_elsewhere, came_here, none_came, came_on-push}
+use Rattle.mx_store.proofs.StoreLaws.{has_still, lasts_longer, lasts_none}
 use Rattle.mx_node.proofs.OrderLaws.{order_by-ended, order_by-nothing, order_by-open, order_of_more, order_of-push}
 use Rattle.mx_node.proofs.OutputLaws.{opening, opening-ended, output_for-ended, output_for-left, output_for-nothing, output_for-open}
 use Rattle.mx_node.proofs.RepliesLaws.{HasReplies, jobs_now-open, jobs_of-whose, replies_of_order, same_twice}
@@ -97,11 +99,7 @@ pub ready_left : (base : Base) (history : History) (old new : Engine) (journal :
 ready_left base history old new journal states on ready stands = record {
   behind = record {
     stands = stands;
-    begins = ready.behind.begins;
-    whose = ready.behind.whose;
-    clock = ready.behind.clock;
-    waits = ready.behind.waits;
-    written = ready.behind.written;
+    has = has_still base (Left on ∷ []) history journal states stands.legal tt ready.behind.has;
   };
   taken = ready.taken;
   gate = ready.gate;
@@ -113,14 +111,7 @@ ready_told : (base : Base) (history : History) (old new : Engine) (journal : Jou
     → Ready base (left_by on (not ended) history) new journal states
 ready_told base history old new journal states on true ready stands = ready_left base history old new journal states on ready stands
 ready_told base history old new journal states on false ready stands = record {
-  behind = record {
-    stands = stands;
-    begins = ready.behind.begins;
-    whose = ready.behind.whose;
-    clock = ready.behind.clock;
-    waits = ready.behind.waits;
-    written = ready.behind.written;
-  };
+  behind = record { stands = stands; has = ready.behind.has };
   taken = ready.taken;
   gate = ready.gate;
 }

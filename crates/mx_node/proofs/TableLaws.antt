@@ -5,9 +5,9 @@ use Rattle.std.specs.Vec.{with_items}
 use Rattle.std.proofs.lemmas.List.{append-nil, append_assoc, take_at, take_more, length-set, length-take-le, set-set}
 use Rattle.mx_session.specs.Sessions.{SessionState}
 use Rattle.mx_model.specs.Bases.{Base}
-use Rattle.mx_model.specs.Histories.{History, Left, clock_of, state_of}
-use Rattle.mx_model.specs.Replies.{told_in}
-use Rattle.mx_model.specs.Order.{Step, order_in}
+use Rattle.mx_model.specs.Histories.{History, Left, clock_of, journal_of, state_of}
+use Rattle.mx_serial.specs.Replies.{told_in}
+use Rattle.mx_serial.specs.Order.{Step, order_in}
 use Rattle.mx_node.specs.Inputs.{InputUnit}
 use Rattle.mx_node.specs.Connections.{came_on, is_open}
 use Rattle.mx_node.specs.Order.{departure_where, departures_from}
@@ -77,7 +77,18 @@ left_by-clock : (base : Base) (connection : ℕ) (stays : Bool) (history : Histo
 left_by-clock base connection true history = refl
 left_by-clock base connection false history = refl
 
--- the state and the vclock stay
+left_by-journal : (base : Base) (connection : ℕ) (stays : Bool) (history : History) → journal_of base (left_by connection stays history) ≡ journal_of base history
+left_by-journal base connection true history = refl
+left_by-journal base connection false history = refl
+
+-- the journal, the state and the vclock stay
+pub left_from-journal : (base : Base) (connection : ℕ) (sessions : List (Option SessionState)) (history : History)
+    → journal_of base (left_from connection sessions history) ≡ journal_of base history
+left_from-journal base connection [] history = refl
+left_from-journal base connection (None ∷ sessions) history = left_from-journal base (suc connection) sessions history
+left_from-journal base connection (Some session ∷ sessions) history =
+    left_from-journal base (suc connection) sessions (left_by connection session.ended history) ∙ left_by-journal base connection session.ended history
+
 pub left_from-state : (base : Base) (connection : ℕ) (sessions : List (Option SessionState)) (history : History)
     → state_of base (left_from connection sessions history) ≡ state_of base history
 left_from-state base connection [] history = refl

@@ -1,8 +1,5 @@
 -- What the units of an input bring to its connections: bytes, by them jobs, and their ends.
 use Rattle.std.specs.Prelude.{◌≡◌, ⊤, ℕ, Bool, false, not, ◌&&◌, List, [], ◌∷◌, ◌++◌, length, drop, ◌==◌, if◌then◌else◌}
-use Rattle.mx_request.specs.declared.request.Ask.{Ask}
-use Rattle.mx_request.specs.declared.request.Ask.TheVariants as ask
-use Rattle.mx_request.specs.Spelling.{IsAskable}
 use Rattle.mx_session.specs.declared.job.Job.{Job}
 use Rattle.mx_session.specs.Jobs.{jobs_of, ends}
 use Rattle.mx_node.specs.Inputs.{InputUnit, Bytes, Close}
@@ -38,15 +35,6 @@ jobs_by earlier (Close on) = []
 abbrev pub is_ended_by : List InputUnit → InputUnit → Bool
 is_ended_by earlier (Bytes on bytes) = not (ends on (came_on on earlier)) && ends on (came_on on earlier ++ bytes)
 is_ended_by earlier (Close on) = is_open on (came_on on earlier)
-
--- A job is a request that can be asked, or its refusal, and no disconnect.
-abbrev pub IsSoundAsk : Ask → Type 0
-IsSoundAsk (ask.Request request) = IsAskable request
-IsSoundAsk (ask.Refused refusal) = ⊤
-IsSoundAsk ask.Leave = ⊥
-
-abbrev pub IsJob : Job → Type 0
-IsJob job = IsSoundAsk job.ask
 
 -- each of these jobs came on the connection
 abbrev pub AreOf : (connection : ℕ) → List Job → Type 0

@@ -1,18 +1,20 @@
 -- In which order the steps for the units of an input come.
 use Rattle.std.specs.Prelude.{ℕ, zero, suc, Bool, List, [], ◌∷◌, ◌++◌, if◌then◌else◌}
 use Rattle.mx_session.specs.declared.job.Job.{Job}
-use Rattle.mx_model.specs.Order.{Step, RequestStep, DepartureStep, TakeStep, ConfirmStep}
+use Rattle.mx_serial.specs.Order.{Step, RequestStep, DepartureStep, TakeStep, ConfirmStep}
 use Rattle.mx_node.specs.Inputs.{InputUnit, connection_of, max_connection}
 use Rattle.mx_node.specs.Connections.{came_on, is_open, jobs_by, is_ended_by}
 
--- a request, and then what writes out all that was committed
-abbrev pub job_steps : Job → List Step
-job_steps job = RequestStep job.name job.ask ∷ TakeStep ∷ ConfirmStep ∷ []
+-- the requests of these jobs, in order
+abbrev pub requests_of : List Job → List Step
+requests_of [] = []
+requests_of (job ∷ jobs) = RequestStep job.name job.ask ∷ requests_of jobs
 
--- the steps for the jobs that a unit brings: all is written out after each
+-- the steps for the jobs that a unit brings: they are answered, one after the other, and then all that was committed is written
+-- out, once
 abbrev pub written_out : List Job → List Step
 written_out [] = []
-written_out (job ∷ jobs) = job_steps job ++ written_out jobs
+written_out (job ∷ jobs) = requests_of (job ∷ jobs) ++ TakeStep ∷ ConfirmStep ∷ []
 
 -- a connection's departure, where it departs
 abbrev pub departure_where : (connection : ℕ) → Bool → List Step

@@ -1,19 +1,16 @@
 -- What connections are sent for what came.
 use Rattle.std.specs.Prelude.{◌≡◌, ℕ, List, [], ◌∷◌, ◌++◌, map, ◌==◌, if◌then◌else◌}
-use Rattle.mx_session.specs.declared.job.Job.{Job}
 use Rattle.mx_session.specs.Jobs.{jobs_of}
-use Rattle.mx_model.specs.Replies.{told_on}
-use Rattle.mx_model.specs.ReplyStream.{packets_of_replies}
-use Rattle.mx_model.specs.declared.out_units.OutUnit.{OutUnit}
+use Rattle.mx_serial.specs.Replies.{told_on}
+use Rattle.mx_serial.specs.ReplyStream.{packets_of_replies}
+use Rattle.mx_node.specs.declared.out_units.OutUnit.{OutUnit}
 use Rattle.mx_model.specs.Histories.{History}
-use Rattle.mx_model.specs.Order.{order_in}
+use Rattle.mx_serial.specs.Order.{order_in}
 use Rattle.mx_node.specs.Inputs.{InputUnit, Bytes, Close, connection_of}
 use Rattle.mx_node.specs.Connections.{came_on, gained, is_ended_by}
 use Rattle.mx_node.specs.Order.{order_by}
+use Rattle.mx_link.specs.Asks.{sync_of}
 use Rattle.mx_node.specs.Starts.{Start, start_greeting}
-
-abbrev pub sync_of : Job → ℕ
-sync_of job = job.sync.0
 
 -- What a connection is sent since these bytes opened it: the greeting, and then a reply for each packet that is answered, in
 -- order.

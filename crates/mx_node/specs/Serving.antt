@@ -1,40 +1,49 @@
 -- What a server has done for the units so far.
 use Rattle.std.specs.Prelude.{◌≡◌, ℕ, suc, ◌≤◌, Bool, false, not, List, [], ◌∷◌, ◌++◌, length, slice_index_or, sum, Option, Some, None, IfSome, if◌then◌else◌, Ok}
 use Rattle.std.specs.FinMap as finite
+use Rattle.std.specs.List.{filter}
 use Rattle.mx_outside.specs.Disks.{Disk, IfKnown, synced_file}
 use Rattle.mx_xlog.specs.Blocks.{end_marker}
-use Rattle.mx_files.specs.Names.{journal_name}
+use Rattle.mx_files.specs.Names.{is_journal, journal_name}
 use Rattle.mx_frame.specs.Packets.{rest_of}
 use Rattle.mx_session.specs.Jobs.{ends}
 use Rattle.mx_session.specs.Sessions.{SessionState}
 use Rattle.mx_model.specs.Bases.{Base}
-use Rattle.mx_model.specs.Histories.{History, Left, IsLegal, state_of, clock_of}
-use Rattle.mx_model.specs.Replies.{told_in}
-use Rattle.mx_model.specs.Order.{order_in}
+use Rattle.mx_model.specs.Histories.{History, Left, IsLegal, clock_of, journal_of, state_of}
+use Rattle.mx_serial.specs.Replies.{told_in}
+use Rattle.mx_serial.specs.Order.{order_in}
 use Rattle.mx_node.specs.declared.single.Single.{Single}
 use Rattle.mx_node.specs.Inputs.{InputUnit, max_connection}
 use Rattle.mx_node.specs.Connections.{came_on}
 use Rattle.mx_node.specs.Order.{order_by, order_of, whole_order_of}
 use Rattle.mx_node.specs.Starts.{Start, start_greeting}
 use Rattle.mx_node.specs.Outputs.{output_for}
-use Rattle.mx_model.specs.declared.out_units.OutUnit.{OutUnit}
+use Rattle.mx_node.specs.declared.out_units.OutUnit.{OutUnit}
 use Rattle.mx_node.specs.Ready.{Ready, IsReady}
-use Rattle.mx_model.specs.Survival.{Lasts}
-use Rattle.mx_model.specs.Directories.{Reached, IsDirectoryState}
+use Rattle.mx_directory.specs.Survival.{Lasts}
+use Rattle.mx_directory.specs.Directories.{Reached, IsDirectoryState}
 use Rattle.mx_images.specs.Fair.{AllDurable}
+use Rattle.mx_recover.specs.Durability.{HasNoDraft}
 
--- the journal that goes on from the base was ended in order: the marker is the end of its file
-abbrev pub HasEndMarker : Base → Disk → Type 0
-HasEndMarker base disk = (text : List ℕ) × (finite.get disk.now (journal_name (sum base.clock)) ≡ Some (synced_file (text ++ end_marker)))
+-- the journal that goes on from the base is the last one, and was ended in order: the marker is the end of its file
+pub record HasEndMarker (base : Base) (disk : Disk) : Type 0 where
+  pub earlier : List (List ℕ)
+  pub last : filter is_journal (finite.keys disk.now) ≡ earlier ++ journal_name (sum base.clock) ∷ []
+  pub text : List ℕ
+  pub ends : finite.get disk.now (journal_name (sum base.clock)) ≡ Some (synced_file (text ++ end_marker))
 
--- The directory recovers to what the history has come to. All of its journals are durable, and the last one was ended in order.
+-- The directory recovers to what the history has come to, and has its transactions behind those that it had. All of its journals and
+-- names are durable, no file waits for its name, and the last journal was ended in order.
 pub record DirectoryHolds (base : Base) (history : History) (disk : Disk) : Type 0 where
   pub reached : Reached
   pub stands : IsDirectoryState disk.now (Ok reached)
   pub ids : reached.ids ≡ Some base.ids
   pub state : reached.state ≡ state_of base history
   pub clock : reached.clock ≡ clock_of base history
+  pub transactions : reached.transactions ≡ base.earlier ++ journal_of base history
   pub synced : AllDurable disk
+  pub names : disk.older ≡ finite.empty
+  pub drafts : HasNoDraft disk
   pub marker : HasEndMarker base disk
 
 -- The session of a connection on which these bytes came: none of its replies waits or is to be sent, and the bytes after the

@@ -1,42 +1,14 @@
 //! Theorems that other crates may use.
 
-ghost use Rattle.std.specs.Prelude.{◌≡◌, ℕ, ◌≤◌, List, [], ◌∷◌, ◌++◌, length, take, Some};
-ghost use Rattle.std.specs.FinMap as finite;
-ghost use Rattle.mx_outside.specs.Disks.{Disk, IsImage};
-ghost use Rattle.mx_row.specs.declared.tx.Tx.{Tx};
-ghost use Rattle.mx_images.specs.Fair.{IsFairEnd};
-ghost use Rattle.mx_model.specs.Directories.{Origin, new_database};
-ghost use Rattle.mx_model.specs.Survival.{FollowFrom, ReadsMost, Recovers, Survive};
-ghost use Rattle.mx_model.specs.declared.out_units.OutUnit.{OutUnit};
+ghost use Rattle.std.specs.Prelude.{◌≡◌, ℕ, List, ◌++◌};
+ghost use Rattle.mx_node.specs.declared.out_units.OutUnit.{OutUnit};
 ghost use Rattle.mx_model.specs.Histories.{History, HasMemory, IsLegal};
-ghost use Rattle.mx_model.specs.Order.{order_in};
+ghost use Rattle.mx_serial.specs.Order.{order_in};
 ghost use Rattle.mx_node.specs.Inputs.{InputUnit};
 ghost use Rattle.mx_node.specs.Order.{order_of};
 ghost use Rattle.mx_node.specs.Connections.{came_on};
 ghost use Rattle.mx_node.specs.Outputs.{AnswersAll, bytes_on, sent_to};
 ghost use Rattle.mx_node.specs.Starts.{Start};
-
-/// A theorem, which does nothing when it is called: a directory without files recovers to a new
-/// database, with no transaction.
-pub fn an_empty_directory_recovers()
-    ensures { Recovers new_database [] (Some (record { now = finite.empty; older = finite.empty } ∷ [])) }
-{}
-
-/// A theorem, which does nothing when it is called: a crash image, where so many transactions
-/// survive, recovers a prefix of them, of at least so many.
-pub fn what_a_crash_leaves_recovers()
-    ensures { (origin : Origin) (transactions : List Tx) (least : ℕ) (disk image : Disk) → FollowFrom origin transactions → Survive origin transactions least disk
-        → IsImage IsFairEnd disk image
-        → (count : ℕ) × (least ≤ count) × (count ≤ length transactions) × Recovers origin (take count transactions) (Some (image ∷ [])) }
-{}
-
-/// A theorem, which does nothing when it is called: a directory as a killed process leaves it, synced
-/// or not, recovers what it reads as, and that is no less than what survives a crash.
-pub fn what_a_kill_leaves_recovers()
-    ensures { (origin : Origin) (transactions : List Tx) (least : ℕ) (disk : Disk) (past : List Disk) → FollowFrom origin transactions → Survive origin transactions least disk
-        → ReadsMost origin transactions disk
-        → (count : ℕ) × (least ≤ count) × (count ≤ length transactions) × Recovers origin (take count transactions) (Some (disk ∷ past)) }
-{}
 
 /// A theorem, which does nothing when it is called: a history answers units exactly where it has their
 /// steps, in their order.

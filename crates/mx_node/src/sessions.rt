@@ -8,10 +8,10 @@ ghost use Rattle.mx_node.specs.Outputs.{sent_on, closed_on};
 ghost use Rattle.mx_node.specs.Serving.{IsTable, goes_on, left_from, opened, session_at};
 
 use crate::commits::leave;
+use crate::out_units::{OutUnit, OutUnits};
 use crate::unit::MAX_CONNECTION;
 use mx_base::ConnId;
 use mx_engine::Engine;
-use mx_model::{OutUnit, OutUnits};
 use mx_msgpack::Bytes;
 use mx_session::Session;
 use std::alloc::{AllocError, Global};

@@ -3,20 +3,22 @@
 ghost use Rattle.std.specs.Prelude.{◌≡◌, ◌<◌, ◌≤◌, ◌++◌, [], Err, IfOk, OnOk, OnErr};
 
 use crate::commits::leave;
-use crate::jobs::{Buffers, answer_bytes};
+use crate::jobs::answer_bytes;
+use crate::out_units::OutUnits;
 use crate::sessions::{
     drop_session, keep_session, leave_all, no_sessions, send_and_end, take_session,
 };
-use crate::start::{Opened, open};
 use crate::unit::Unit;
 use mx_base::ConnId;
 use mx_engine::Engine;
 use mx_journal::{Journal, JournalFault};
-use mx_model::{Ids, OutUnits};
+use mx_link::Buffers;
+use mx_model::Ids;
 use mx_outside::Dir;
 use mx_recover::RecoverFault;
 use mx_reply::write_greeting;
 use mx_session::Session;
+use mx_store::{Opened, open};
 use std::alloc::{AllocError, Global};
 
 /// A node in one thread, with its connections. It doesn't own its directory; each call is given it.
@@ -40,17 +42,18 @@ impl Single {
     ghost use Rattle.mx_images.specs.Changes.{KeepsOthers};
     ghost use Rattle.mx_journal.specs.declared.fault.JournalFault.TheVariants.{Failed as JournalFailed};
     ghost use Rattle.mx_row.specs.declared.tx.Tx.{Tx};
-    ghost use Rattle.mx_model.specs.declared.damage.Damage.{Damage};
-    ghost use Rattle.mx_model.specs.Directories.{IsDirectoryState, Origin};
+    ghost use Rattle.mx_directory.specs.declared.damage.Damage.{Damage};
+    ghost use Rattle.mx_directory.specs.Directories.{IsDirectoryState, Origin};
     ghost use Rattle.mx_model.specs.Bases.{Base};
     ghost use Rattle.mx_model.specs.Histories.{History};
-    ghost use Rattle.mx_model.specs.Survival.{Lasts, Recovers, FollowFrom, ReadsMost, Survive, NoFewerSurvive};
+    ghost use Rattle.mx_directory.specs.Survival.{Lasts, Recovers, FollowFrom, ReadsMost, Survive, NoFewerSurvive};
     ghost use Rattle.mx_recover.specs.declared.fault.RecoverFault.TheVariants.{Damaged, Failed};
     ghost use Rattle.mx_node.specs.Inputs.{InputUnit, Bytes, Close, connection_of, max_connection};
     ghost use Rattle.mx_node.specs.Views.{unit_view};
     ghost use Rattle.mx_node.specs.Order.{order_by, order_of, whole_order_of};
     ghost use Rattle.mx_node.specs.Starts.{Start, IsStart};
-    ghost use Rattle.mx_node.specs.Ready.{Ready};
+    ghost use Rattle.mx_engine.specs.Standing.{EngineStandsFor};
+    ghost use Rattle.mx_store.specs.Stores.{JournalHas};
     ghost use Rattle.mx_node.specs.Interrupted.{IsInterrupted};
     ghost use Rattle.mx_node.specs.Serving.{CanServe, EndedNode, IsTable, Serves, AnswersUnit};
 
@@ -84,8 +87,8 @@ impl Single {
 
     /// A node over an opened directory, which has no connection yet.
     fn over(alloc: Global, salt: &[u8; 32], opened: Opened) -> Result<Single, AllocError>
-        ensures { (start : Start) (states : Option (List Disk)) → start.salt ≡ salt.now → Ready start.base [] opened.engine opened.journal states
-            → IfOk result (λ single. Serves start single [] [] states) }
+        ensures { (start : Start) (states : Option (List Disk)) → start.salt ≡ salt.now → EngineStandsFor opened.engine start.base []
+            → JournalHas start.base [] opened.journal states → IfOk result (λ single. Serves start single [] [] states) }
     {
         let Opened { engine, journal } = opened;
         Ok(Single {

@@ -6,7 +6,7 @@ use mx_base::ConnId;
 pub const MAX_CONNECTION: u32 = 1023;
 
 /// What comes to a node on one of its connections, whose numbers are at most 1,023.
-#[derive(Clone, Copy, Debug)]
+#[derive(Clone, Copy)]
 pub enum Unit<'a> {
     /// Bytes, cut anywhere. The first bytes open the connection.
     Bytes { conn: ConnId, bytes: &'a [u8] },

@@ -11,7 +11,7 @@ pub enum ShapeFault {
 }
 
 /// The first of several operations that isn't one.
-#[derive(Clone, Copy, Debug, Drop, PartialEq, Eq)]
+#[derive(Clone, Copy, Drop, PartialEq, Eq)]
 pub struct OperationFault {
     /// Which one, counted from 0.
     pub place: u32,

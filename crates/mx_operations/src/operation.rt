@@ -2,7 +2,7 @@
 
 /// What is done to a field of a tuple. A field's number counts from the front or, below 0, from the
 /// end.
-#[derive(Clone, Copy, Debug, Drop)]
+#[derive(Clone, Copy, Drop)]
 pub enum Operation<'a> {
     /// `=`: the field becomes this value, which is spelled so.
     Assign {

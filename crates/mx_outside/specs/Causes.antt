@@ -1,5 +1,5 @@
 -- When a call on an object outside may fail.
-use Rattle.std.specs.Prelude.{◌≡◌, ℕ, ◌+◌, ◌-◌, ◌^◌, ◌≤◌, ◌⊎◌, min, Result, OnOk, OnErr, IsErrOf}
+use Rattle.std.specs.Prelude.{◌≡◌, ℕ, ◌+◌, ◌-◌, ◌^◌, ◌≤◌, ◌⊎◌, Bool, true, false, min, Result, OnOk, OnErr, IsErrOf}
 
 -- A count of faults rose. One that stands at its last value counts as risen.
 abbrev pub Rose : ℕ → ℕ → Type 0
@@ -18,3 +18,9 @@ pub record HasCauseOf {T E : Type 0} (failure : E) (before now : ℕ) (result : 
   pub failed : IsErrOf result failure → Rose before now
   pub done : OnOk result (now ≡ before)
   pub quiet : IsErrOf result failure ⊎ (now ≡ before)
+
+-- A sync succeeds only where none has failed: what one that failed may have lost, no later one makes durable.
+pub record SyncsOnlyWhole {T E : Type 0} (failure : E) (before now : Bool) (result : Result T E) : Type 0 where
+  pub done : OnOk result ((before ≡ false) × (now ≡ false))
+  pub failed : IsErrOf result failure → now ≡ true
+  pub stays : before ≡ true → now ≡ true

@@ -15,6 +15,3 @@ pub use failed::Failed;
 pub use names::Names;
 pub use sink::Sink;
 pub use source::Source;
-
-#[cfg(test)]
-mod tests;

@@ -1,11 +1,9 @@
 //! The answer to a line.
 
-use crate::arguments::Arguments;
-use crate::fault::{Fault, Stop};
-use crate::{
-    base, completion, fake, frame, hash, key, msgpack, real, reply, request, row, schema, session,
-    tracker, tuple, txn, update, vclock, xlog,
-};
+use crate::stop::Stop;
+use crate::{fake, hash, real, schema, session, tracker, txn, update};
+use mx_arguments::{Arguments, Fault, no_call};
+use mx_formats::{base, completion, frame, key, msgpack, reply, request, row, tuple, vclock, xlog};
 use std::alloc::AllocError;
 
 /// The answer to the call in a line of this number, or what is wrong with it, as a whole line.
@@ -61,10 +59,4 @@ fn called(
         "real" => real::answer(host, call, arguments),
         _ => no_call(arguments),
     }
-}
-
-/// The answer where no call has the name.
-pub fn no_call(arguments: &mut Arguments<'_>) -> Result<String, AllocError> {
-    arguments.refuse(Fault::NoCall);
-    Ok(String::new(arguments.alloc()))
 }

@@ -4,9 +4,8 @@
 ghost use Rattle.std.specs.Prelude.{IfOk, IsTrue};
 ghost use Rattle.mx_outside.specs.Disks.{IsThere};
 
-use crate::arguments::Arguments;
-use crate::display::Hex;
 use crate::streams::show_read;
+use mx_arguments::{Arguments, Hex};
 use mx_outside::{Dir, DirFault};
 use std::alloc::{AllocError, Global};
 

@@ -1,11 +1,9 @@
 //! The calls of `mx_fake`. Each has a list of the calls on its object that fail, counted from 1.
 
-use crate::answers::no_call;
-use crate::arguments::Arguments;
 use crate::dir;
 use crate::dir::StepDir;
-use crate::display::Hex;
 use crate::streams::{reads, sink_step};
+use mx_arguments::{Arguments, Hex, no_call};
 use mx_fake::{MemoryDir, MemorySink, MemorySource};
 use std::alloc::{AllocError, Global};
 

@@ -1,8 +1,6 @@
 //! The calls of `mx_hash`. Steps are written as in `insert:6b:7`, and are taken on one map.
 
-use crate::answers::no_call;
-use crate::arguments::Arguments;
-use crate::display::Hex;
+use mx_arguments::{Arguments, Hex, no_call};
 use mx_hash::Hash;
 use mx_msgpack::Bytes;
 use std::alloc::{AllocError, Global};

@@ -2,34 +2,21 @@
 #![tactic(auto)]
 
 mod answers;
-mod arguments;
-mod base;
-mod completion;
 mod dir;
-mod display;
 mod fake;
-mod fault;
-mod frame;
 mod hash;
-mod key;
-mod msgpack;
 mod real;
-mod reply;
-mod request;
-mod row;
 mod schema;
 mod session;
+mod stop;
 mod streams;
 mod tracker;
-mod tuple;
 mod txn;
 mod update;
-mod vclock;
-mod xlog;
 
-use fault::Stop;
 use std::io::{Read, Write};
 use std::process::ExitCode;
+use stop::Stop;
 
 fn main(rt: HostRuntime) -> ExitCode {
     match answer_all(&rt, rt.stdin(), rt.stdout()) {

@@ -1,12 +1,9 @@
 //! The calls of `mx_real`.
 
-use crate::answers::no_call;
-use crate::arguments::Arguments;
 use crate::dir;
 use crate::dir::StepDir;
-use crate::display::Hex;
-use crate::fault::Fault;
 use crate::streams::{reads, sink_step};
+use mx_arguments::{Arguments, Fault, Hex, no_call};
 use mx_real::{FolderDir, OpenFault, ReaderSource, WriterSink};
 use std::alloc::{AllocError, Global};
 use std::fs::{File, Files};

@@ -1,10 +1,7 @@
 //! The calls of `mx_schema`. Rows are written in hexadecimal with commas between them, `-` for none,
 //! and stand behind those of a new database.
 
-use crate::answers::no_call;
-use crate::arguments::Arguments;
-use crate::display::Text;
-use crate::fault::Fault;
+use mx_arguments::{Arguments, Fault, Text, no_call};
 use mx_base::{IndexId, Refusal, SpaceId, code_of, text_of};
 use mx_key::KeyDef;
 use mx_msgpack::Bytes;

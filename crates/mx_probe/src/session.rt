@@ -2,9 +2,7 @@
 
 ghost use Rattle.std.specs.Prelude.{◌≤◌};
 
-use crate::answers::no_call;
-use crate::arguments::Arguments;
-use crate::display::Hex;
+use mx_arguments::{Arguments, Hex, no_call};
 use mx_base::ConnId;
 use mx_request::Ask;
 use mx_session::{Job, Next, Session};

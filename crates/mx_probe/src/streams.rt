@@ -1,7 +1,6 @@
 //! Sources and sinks, for the calls of `mx_fake` and `mx_real`.
 
-use crate::arguments::Arguments;
-use crate::display::Hex;
+use mx_arguments::{Arguments, Hex};
 use mx_outside::{Sink, Source};
 use std::alloc::AllocError;
 

@@ -2,9 +2,7 @@
 //! is written as its space, its index and its two ends, as in `512:0:inc:62:exc:64`, with `open:-` for no
 //! end, and a key as in `512:0:63`; commas stand between several.
 
-use crate::answers::no_call;
-use crate::arguments::Arguments;
-use crate::display::Hex;
+use mx_arguments::{Arguments, Hex, no_call};
 use mx_tracker::{Edge, MarkSet, Read, Reads, SLOTS, Touched, TouchedKeys, Tracker};
 use std::alloc::AllocError;
 

@@ -4,8 +4,7 @@
 ghost use Rattle.std.specs.Prelude.{IfSome};
 ghost use Rattle.mx_txn.specs.Slots.{IsLive};
 
-use crate::answers::no_call;
-use crate::arguments::Arguments;
+use mx_arguments::{Arguments, no_call};
 use mx_txn::{MAX_OPEN, Slot, Slots, TxnState};
 use std::alloc::AllocError;
 

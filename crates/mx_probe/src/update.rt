@@ -5,9 +5,7 @@ ghost use Rattle.std.specs.Prelude.{◌≤◌, length, IsTrue};
 ghost use Rattle.mx_msgpack.specs.Items.{IsArray};
 ghost use Rattle.mx_tuple.specs.Fields.{max_tuple_size};
 
-use crate::answers::no_call;
-use crate::arguments::Arguments;
-use crate::display::{Ends, Hex};
+use mx_arguments::{Arguments, Ends, Hex, no_call};
 use mx_msgpack::array_of;
 use mx_operations::{Operation, first_fault};
 use mx_tuple::MAX_TUPLE_SIZE;

@@ -1,6 +1,6 @@
 //! A run that failed, as it is printed on standard error.
 
-ghost use Rattle.std.specs.Prelude.{◌≡◌, ◌≢◌, IfOk};
+ghost use Rattle.std.specs.Prelude.{◌≡◌, ◌≢◌, ◌↔◌, IsOk, IfOk, IfErr};
 ghost use Rattle.mx_top.specs.declared.status.Status.TheVariants.{NoMemory};
 ghost use Rattle.mx_program.specs.Exits.{unopened};
 
@@ -39,6 +39,18 @@ impl Failure {
             _ => Some(format!(in alloc; "{path}: {fault}")?),
         };
         Ok(Failure { status, cause })
+    }
+}
+
+/// The result of a run that ended with this status: a success at `Ok` alone.
+pub fn result_of(status: Status) -> Result<(), Failure>
+    ensures ok { IsOk result ↔ (status ≡ Status.Ok) }
+    ensures status { IfErr result (λ failure. failure.status ≡ status) }
+    ensures failed { IfErr result (λ failure. failure.status ≢ Status.Ok) }
+{
+    match status {
+        Status::Ok => Ok(()),
+        failed => Err(Failure::of(failed)),
     }
 }
 

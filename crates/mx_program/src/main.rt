@@ -10,7 +10,7 @@ mod tests;
 
 ghost use Rattle.std.specs.Prelude.{◌≡◌, ◌≢◌, IfOk, IfErr, length};
 
-use failure::Failure;
+use failure::{Failure, result_of};
 use mx_outside::Names;
 use mx_real::{FolderDir, ReaderSource, WriterSink};
 use mx_top::{Status, directory_argument};
@@ -86,10 +86,7 @@ fn run<
         &mut ReaderSource::new(input),
         &mut WriterSink::new(output),
     );
-    match status {
-        Status::Ok => Ok(()),
-        failed => Err(Failure::of(failed)),
-    }
+    result_of(status)
 }
 
 /// Opens the one directory of this path.

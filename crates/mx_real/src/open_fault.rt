@@ -1,5 +1,9 @@
 //! Why a folder can't be opened.
 
+ghost use Rattle.std.specs.Prelude.{◌≡◌};
+ghost use Rattle.mx_real.specs.declared.open_fault.OpenFault.TheVariants.{NoMemory};
+ghost use Rattle.mx_real.specs.Faults.{open_fault_of};
+
 use std::alloc::AllocError;
 use std::io;
 use std::io::ErrorKind;
@@ -23,6 +27,8 @@ pub enum OpenFault {
 }
 
 impl From<io::Error> for OpenFault {
+    ghost from_gives = { λ error fault. fault ≡ open_fault_of error };
+
     fn from(error: io::Error) -> OpenFault {
         match error.kind() {
             ErrorKind::OutOfMemory => OpenFault::NoMemory,
@@ -33,6 +39,8 @@ impl From<io::Error> for OpenFault {
 }
 
 impl From<AllocError> for OpenFault {
+    ghost from_gives = { λ _ fault. fault ≡ NoMemory };
+
     fn from(_: AllocError) -> OpenFault {
         OpenFault::NoMemory
     }

@@ -1,7 +1,8 @@
 //! The files of a folder, by calls of the system.
 
-ghost use Rattle.std.specs.Prelude.{◌≡◌, ◌++◌, ◌∷◌, IsTrue, IfOk};
+ghost use Rattle.std.specs.Prelude.{◌≡◌, ◌++◌, ◌∷◌, IsTrue, IfOk, OnOk};
 ghost use Rattle.std.specs.Cmp.Lexicographic.{slice_cmp};
+ghost use Rattle.std.specs.Io.KnownBytes.{Appends};
 ghost use Rattle.std.specs.List.Sorted.{IsStrictlySortedBy};
 ghost use Rattle.std.specs.Ordering.{nat_cmp};
 ghost use Rattle.std.specs.String.{string_bytes};
@@ -20,7 +21,7 @@ use std::{fs, io};
 ///
 /// The file that was last created or appended to stays open, until its name goes to another file or
 /// a sync of it fails.
-#[derive(Debug, Drop)]
+#[derive(Drop)]
 pub(crate) struct OpenFolder<R> {
     files: R,
     path: String,
@@ -29,7 +30,7 @@ pub(crate) struct OpenFolder<R> {
 }
 
 /// An open file, whose writes go to its end, and its name.
-#[derive(Debug, Drop)]
+#[derive(Drop)]
 struct Held {
     name: String,
     file: File,
@@ -126,7 +127,7 @@ impl<R: Files<File = File> + Clone + Drop> OpenFolder<R> {
             Some(held) if held.name.as_str() == name => held,
             _ => self.open_to_append(alloc, name, false)?,
         };
-        self.held.insert(held).file.write_all(bytes)
+        append_all(&mut self.held.insert(held).file, bytes)
     }
 
     /// Syncs a file's bytes. A handle whose sync failed isn't used again.
@@ -218,6 +219,16 @@ impl<R: Files<File = File> + Clone + Drop> OpenFolder<R> {
         path.push_str(name)?;
         Ok(path)
     }
+}
+
+/// Writes all of the bytes behind what the file holds.
+///
+/// # Errors
+/// A prefix of them may have been written even so.
+fn append_all<W: Write>(file: &mut W, bytes: &[u8]) -> io::Result<()>
+    ensures bytes { OnOk result (Appends (W.contents file.old) (W.contents file.new) bytes.now) }
+{
+    file.write_all(bytes)
 }
 
 /// These names in ascending order, each once.

@@ -6,7 +6,7 @@ use mx_outside::{Failed, Sink, Source};
 use std::io::{Read, Write};
 
 /// A source over a reader.
-#[derive(Debug, Drop)]
+#[derive(Drop)]
 pub struct ReaderSource<R> {
     inner: R,
     faults: u64,
@@ -39,7 +39,7 @@ impl<R: Read> Source for ReaderSource<R> {
 }
 
 /// A sink over a writer.
-#[derive(Debug, Drop)]
+#[derive(Drop)]
 pub struct WriterSink<W> {
     inner: W,
     faults: u64,

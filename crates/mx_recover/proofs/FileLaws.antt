@@ -12,12 +12,12 @@ use Rattle.std.proofs.lemmas.List.Elements.{filter-append}
 use Rattle.std.proofs.lemmas.Result.{on_ok_weaker}
 use Rattle.std.proofs.lemmas.Map.Text.{is_eq-slice_cmp}
 use Rattle.mx_outside.specs.Disks.{Disk, File, Files, IfKnown, IsThere, OfFile}
-use Rattle.mx_model.specs.declared.damage.Damage.{Damage}
-use Rattle.mx_model.specs.Directories.{Named, Reached, ReadAll, IsDirectoryState, nothing_yet, and_then, after_file, after_files, directory_state}
+use Rattle.mx_directory.specs.declared.damage.Damage.{Damage}
+use Rattle.mx_directory.specs.Directories.{Named, Reached, ReadAll, IsDirectoryState, nothing_yet, and_then, after_file, after_files, directory_state}
 use Rattle.mx_xlog.specs.Files.{FileRead, ReadsAs}
 use Rattle.mx_files.specs.Names.{is_journal, is_snapshot}
-use Rattle.mx_model.proofs.DirectoryLaws.{by_name, names_in, names_of, after_files-append, append_all, map-append}
-use Rattle.mx_model.proofs.OnceLaws.{IsListed, all_there, each_read}
+use Rattle.mx_directory.proofs.DirectoryLaws.{by_name, names_in, names_of, after_files-append, append_all, map-append}
+use Rattle.mx_directory.proofs.OnceLaws.{IsListed, all_there, each_read}
 use Rattle.mx_images.proofs.ToldLaws.{where_told, told_weaker, told_both}
 use Rattle.mx_recover.specs.Replay.{Passes, IsUnderway}
 

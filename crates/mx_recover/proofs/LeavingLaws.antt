@@ -119,7 +119,7 @@ pub removed_cleans : (name : List ℕ) (disk : Disk) → is_draft name ≡ true 
 removed_cleans name disk is = record {
   leaves = removed_leaves name disk is;
   reads = removed_contents name disk is;
-  others = removed_others name disk (draft_ours name is);
+  others = removed_others name disk (draft_ours name is) (draft_counts_not name is);
 }
 
 pub names_clean : (disk : Disk) → OnlyCleans disk (names_synced disk)

@@ -1,7 +1,8 @@
-mod LoadingLaws
 mod PassingLaws
 mod TurnLaws
 mod DurabilityLaws
-mod ReplayLaws
+pub mod ReplayLaws
 mod FileLaws
 pub mod LeavingLaws
+mod AppliedLaws
+mod FirstRowLaws

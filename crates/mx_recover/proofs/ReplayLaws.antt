@@ -1,13 +1,17 @@
 -- What a transaction, a block and a header make of what memory holds.
-use Rattle.std.proofs.Common.{◌≡◌, ℕ, zero, suc, ◌+◌, ◌-◌, ◌<◌, ◌≤◌, Bool, true, false, ◌&&◌, ◌==◌, List, [], ◌∷◌, length, take, drop, Option, Some, None, Result, Ok, Err, refl, sym, ap, subst, ◌∙◌, arith}
-use Rattle.std.specs.Prelude.{slice_index_or, slice_set, ◌||◌, is_err, unwrap_or, IfOk, MatchOption, MatchResult, if◌then◌else◌, not}
+use Rattle.std.proofs.Common.{◌≡◌, ◌⊎◌, ℕ, ◌+◌, ◌≤◌, min, List, ◌∷◌, [], ◌++◌, length, take, drop, Option, Some, None, IfSome, refl, sym, ap, ◌∙◌, subst, inl, inr, arith, zero, suc, ◌-◌, ◌<◌, Bool, true, false, ◌&&◌, ◌==◌, Result, Ok, Err}
+use Rattle.std.proofs.lemmas.List.{length-append, length-drop, length-take-le, take_all, get_or-set_other}
+use Rattle.std.proofs.Math.Seq.{take-append_seam, drop-append_seam, take-add}
+use Rattle.std.specs.Prelude.{slice_index_or, slice_set, ◌||◌, unwrap_or, IfOk, MatchOption, if◌then◌else◌, not}
 use Rattle.std.specs.List.{list_any}
 use Rattle.std.specs.Cmp.Lexicographic.{bytes_decides}
 use Rattle.std.proofs.lemmas.Bool.{and_from, and_parts, eqb-true, cond-true, cond-false}
 use Rattle.std.proofs.lemmas.Grind.{same_number_lists}
-use Rattle.std.proofs.lemmas.List.{length-append, length-take-le, length-drop, get_or-set_other}
 use Rattle.std.proofs.lemmas.List.Elements.{All-set}
 use Rattle.std.proofs.Math.ListN.{length-set}
+use Rattle.std.specs.declared.alloc.AllocError.{AllocError}
+use Rattle.mx_outside.specs.Disks.{File, Disk, OfFile, ReadsAt}
+use Rattle.mx_recover.specs.Load.{ReadsOn}
 use Rattle.mx_xlog.specs.declared.head.Head.{Head}
 use Rattle.mx_xlog.specs.Headers.{IsHead}
 use Rattle.mx_vclock.specs.Vclocks.{IsVclock, Covers, max_lsn}
@@ -17,32 +21,103 @@ use Rattle.mx_xlog.specs.Blocks.{StandsAt, block_of}
 use Rattle.mx_xlog.specs.Reading.{block_at, blocks_of}
 use Rattle.mx_xlog.proofs.ReadingLaws.{blocks_stand, end_stands, empty_stands, torn_stands, blocks_of_none}
 use Rattle.mx_model.specs.declared.ids.Ids.{Ids}
-use Rattle.mx_model.specs.declared.damage.Damage.{Damage}
-use Rattle.mx_model.specs.declared.damage.DamageKind.TheVariants.{Head as HeadDamage, Gap}
+use Rattle.mx_directory.specs.declared.damage.Damage.{Damage}
+use Rattle.mx_directory.specs.declared.damage.DamageKind.TheVariants.{Head as HeadDamage, Gap}
 use Rattle.mx_row.specs.declared.tx.Tx.{Tx}
 use Rattle.mx_row.specs.declared.row.Row.{Row}
-use Rattle.std.specs.declared.alloc.AllocError.{AllocError}
 use Rattle.mx_space.specs.Stored.{Holds}
-use Rattle.mx_space.specs.declared.state.State as coded
 use Rattle.mx_schema.specs.State.{State}
 use Rattle.mx_row.specs.declared.row_ref.RowRef.{RowRef}
 use Rattle.mx_row.specs.Views.{row_value, row_values}
-use Rattle.mx_model.specs.declared.apply.ApplyFault.{ApplyFault}
-use Rattle.mx_model.specs.declared.apply.ApplyFault.TheVariants.{Row as RefusedRow, NoMemory}
-use Rattle.mx_model.specs.Applied.{IsApplyFault}
+use Rattle.mx_recover.specs.declared.apply.ApplyFault.{ApplyFault}
+use Rattle.mx_recover.specs.declared.apply.ApplyFault.TheVariants.{Row as RefusedRow, NoMemory}
+use Rattle.mx_recover.specs.Applied.{IsApplyFault}
 use Rattle.mx_model.specs.Transactions.{is_schema_row}
-use Rattle.mx_model.proofs.AppliedLaws.{not_taken}
+use Rattle.mx_recover.proofs.AppliedLaws.{not_taken}
 use Rattle.mx_model.specs.Answers.{state_after_rows}
 use Rattle.mx_row.specs.Clocks.{clock_after_one, follows, last_lsn}
 use Rattle.mx_row.specs.Rows.{IsTransaction}
-use Rattle.mx_model.specs.Directories as files
-use Rattle.mx_model.specs.Directories.{after_transaction, after_block, after_blocks, block_reached, damaged_row, is_shared, schema_is_alone, takes_rows, ids_or, ids_in, head_fits, after_head}
+use Rattle.mx_directory.specs.Directories.{after_transaction, after_block, after_blocks, block_reached, damaged_row, is_shared, schema_is_alone, takes_rows, ids_or, ids_in, head_fits, after_head}
 use Rattle.mx_xlog.specs.Files.{FileRead}
 use Rattle.mx_files.specs.Names.{same_bytes}
 use Rattle.mx_recover.specs.declared.replay.Recovered.{Recovered}
 use Rattle.mx_recover.specs.declared.fault.RecoverFault.{RecoverFault}
 use Rattle.mx_recover.specs.declared.fault.RecoverFault.TheVariants.{Damaged}
 use Rattle.mx_recover.specs.Recovered.{StandsFor, AreIds}
+use Rattle.std.specs.FinMap as finite
+use Rattle.mx_space.specs.declared.state.State as coded
+use Rattle.mx_directory.specs.Directories as files
+
+-- ---- what a piece more makes of the bytes of a file that were read
+
+-- the first bytes of a file were read, up to a place of it
+pub record IsLoaded (bytes : List ℕ) (at size : ℕ) (file : File) : Type 0 where
+  pub whole : size ≡ length file.bytes
+  pub front : bytes ≡ take at file.bytes
+
+-- what holds of a file, and of the same one later
+pub of_both : (P Q R : File → Type 0) (before now : Option (List Disk)) (name : List ℕ) → now ≡ before → OfFile before name P → OfFile now name Q
+    → ((file : File) → P file → Q file → R file) → OfFile before name R
+of_both P Q R before now name same first second both = by_states before first (subst (λ states. OfFile states name Q) same second)
+  where
+    by_file : (found : Option File) → IfSome found P → IfSome found Q → IfSome found R
+    by_file None p q = tt
+    by_file (Some file) p q = both file p q
+
+    by_states : (states : Option (List Disk)) → OfFile states name P → OfFile states name Q → OfFile states name R
+    by_states None p q = tt
+    by_states (Some []) p q = tt
+    by_states (Some (disk ∷ past)) p q = by_file (finite.get disk.now name) p q
+
+pub of_one : (P R : File → Type 0) (states : Option (List Disk)) (name : List ℕ) → OfFile states name P
+    → ((file : File) → P file → R file) → OfFile states name R
+of_one P R states name is next = of_both P P R states states name refl is is (λ file p q. next file p)
+
+front_is : (count : ℕ) (front more : List ℕ) → length front ≡ count → take count (front ++ more) ≡ front
+front_is count front more long = ap (λ n. take n (front ++ more)) (sym long) ∙ take-append_seam front more
+
+-- bytes that were read into the back of a buffer
+pub placed : (file : File) (from len count result : ℕ) (front before after rest : List ℕ)
+    → length front ≡ from → length before + from ≡ len → length after ≡ length before → result ≡ min count (length before)
+    → ReadsAt file from before after count → ReadsOn file from (take len ((front ++ after) ++ rest)) result
+placed file from len count result front before after rest starts all kept is reads =
+    let room = reads.room in
+    let there = reads.there in
+    let same : result ≡ count = omega arith in
+    let long : length (front ++ after) ≡ len = length-append front after ∙ omega arith in
+    let buffer : take len ((front ++ after) ++ rest) ≡ front ++ after = front_is len (front ++ after) rest long in
+    let back : drop from (front ++ after) ≡ after = ap (λ n. drop n (front ++ after)) (sym starts) ∙ drop-append_seam front after in
+    let piece = take count (drop from file.bytes) in
+    let fits : count ≤ length (drop from file.bytes) = omega (arith, length-drop from file.bytes) in
+    let taken : take count after ≡ piece =
+    ap (take count) reads.bytes ∙ front_is count piece (drop count before) (length-take-le count (drop from file.bytes) fits) in
+    record {
+      there = omega arith;
+      same = ap (λ xs. take result (drop from xs)) buffer ∙ ap (take result) back ∙ ap (λ n. take n after) same ∙ taken
+          ∙ ap (λ n. take n (drop from file.bytes)) (sym same);
+      some = λ none. by_cause (ap length buffer ∙ long) (reads.some (sym same ∙ none));
+    }
+  where
+    by_cause : length (take len ((front ++ after) ++ rest)) ≡ len → (length before ≡ 0) ⊎ (length file.bytes ≤ from)
+        → (length (take len ((front ++ after) ++ rest)) ≤ from) ⊎ (length file.bytes ≤ from)
+    by_cause long (inl no_room) = inl (omega arith)
+    by_cause long (inr no_byte) = inr no_byte
+
+-- a piece more
+pub one_more : (file : File) (at from count size room : ℕ) (bytes more resized read cut : List ℕ)
+    → from ≡ at → length bytes ≡ at → at ≤ room → resized ≡ take room bytes ++ more → take from read ≡ take from resized
+    → cut ≡ take (from + count) read → IsLoaded bytes at size file → ReadsOn file from read count → IsLoaded cut (at + count) size file
+one_more file at from count size room bytes more resized read cut begins long fits longer kept is loaded reads =
+    let old : take from resized ≡ bytes =
+    ap (take from) (longer ∙ ap (λ xs. xs ++ more) (take_all room bytes (omega arith))) ∙ front_is from bytes more (omega arith) in
+    record {
+      whole = loaded.whole;
+      front = is ∙ take-add from count read
+          ∙ (λ i. kept i ++ reads.same i)
+          ∙ ap (λ xs. xs ++ take count (drop from file.bytes)) (old ∙ loaded.front ∙ ap (λ n. take n file.bytes) (sym begins))
+          ∙ sym (take-add from count file.bytes)
+          ∙ ap (λ n. take (n + count) file.bytes) begins;
+    }
 
 -- ---- a flag that says whether there is something
 
@@ -63,11 +138,6 @@ module _ {X : Type 0} (P : X → Type 0) where
 
   pub one_taken : (found : Option X) (x : X) → found ≡ Some x → P x → MatchOption found (true ≡ false) (λ x. (true ≡ true) × P x)
   one_taken found x is holds = subst (λ o. MatchOption o (true ≡ false) (λ x. (true ≡ true) × P x)) (sym is) (refl, holds)
-
--- what stands where a result is no error
-pub was_ok : {A B : Type 0} (P : Type 0) (Q : B → Type 0) (result : Result A B) → is_err result ≡ false → MatchResult result (λ _. P) Q → P
-was_ok P Q (Ok x) is holds = holds
-was_ok P Q (Err x) is holds = absurd cc
 
 pub some_left : (bytes : List ℕ) (flag : Bool) → flag ≡ (length bytes == 0) → flag ≡ false → bytes ≡ [] → ⊥
 some_left [] flag is other none = absurd cc
@@ -126,7 +196,11 @@ module _ (old new : Recovered) (before : files.Reached) (stands : StandsFor old 
   most : last_lsn tx ≤ max_lsn
   most = sound.lsns.1
 
-  stands_after : StandsFor new (record before { state = state_after_rows before.state tx.rows; clock = clock_after_one before.clock tx })
+  stands_after : StandsFor new (record before {
+    state = state_after_rows before.state tx.rows;
+    clock = clock_after_one before.clock tx;
+    transactions = before.transactions ++ tx ∷ [];
+  })
   stands_after = record {
     ids = ids ∙ stands.ids;
     holds = holds;
@@ -220,7 +294,7 @@ same_damage fault wanted told is same = cc
 
 -- what the files so far recover to, of a node that is known after this header
 abbrev pub known_by : Head → files.Reached → files.Reached
-known_by head before = record { ids = Some (ids_or (ids_in head) before.ids); state = before.state; clock = before.clock }
+known_by head before = record before { ids = Some (ids_or (ids_in head) before.ids) }
 
 abbrev head_told : (fits same : Bool) → List ℕ → FileRead → files.Reached → Result files.Reached Damage
 head_told fits same name file reached =

@@ -13,7 +13,7 @@ use Rattle.std.specs.FinMap.Entries.{is_sorted, below_all}
 use Rattle.mx_outside.specs.Disks.{File, Files, Disk, synced_file, file_synced, removed}
 use Rattle.mx_files.specs.Names.{same_bytes}
 use Rattle.mx_images.proofs.ContentLaws.{whole}
-use Rattle.mx_model.proofs.DirectoryLaws.{by_name, names_in, same_itself}
+use Rattle.mx_directory.proofs.DirectoryLaws.{by_name, names_in, same_itself}
 use Rattle.mx_recover.specs.Turns.{after_turn, after_turns, AreThere}
 
 -- whether a name stands among these

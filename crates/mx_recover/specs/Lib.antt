@@ -4,3 +4,4 @@ pub mod Durability
 pub mod Load
 pub mod Turns
 pub mod Faults
+pub mod Applied

@@ -3,7 +3,7 @@ use Rattle.std.specs.Prelude.{◌≡◌, ⊤, ◌<◌, Option, Some, None, slice
 use Rattle.mx_vclock.specs.Vclocks.{IsVclock}
 use Rattle.mx_model.specs.declared.ids.Ids.{Ids}
 use Rattle.mx_space.specs.Stored.{Holds}
-use Rattle.mx_model.specs.Directories as files
+use Rattle.mx_directory.specs.Directories as files
 use Rattle.mx_recover.specs.declared.replay.Recovered.{Recovered}
 
 -- a node's identifiers come from a file's header: its replica id is one of the 32

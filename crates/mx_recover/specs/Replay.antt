@@ -3,12 +3,13 @@ use Rattle.std.specs.Prelude.{◌≡◌, ◌⊎◌, ℕ, true, false, List, ◌+
 use Rattle.std.specs.List.{filter}
 use Rattle.std.specs.FinMap as finite
 use Rattle.mx_outside.specs.Disks.{Disk, File, Files, IfKnown}
-use Rattle.mx_model.specs.declared.damage.Damage.{Damage}
-use Rattle.mx_model.specs.Directories as files
-use Rattle.mx_model.specs.Directories.{Named, ReadAll, IsDirectoryState, nothing_yet, after_file, after_files}
+use Rattle.mx_directory.specs.declared.damage.Damage.{Damage}
+use Rattle.mx_directory.specs.Directories as files
+use Rattle.mx_directory.specs.Directories.{Named, ReadAll, IsDirectoryState, nothing_yet, after_file, after_files}
 use Rattle.mx_xlog.specs.Files.{FileRead, ReadsAs}
 use Rattle.mx_files.specs.Names.{is_journal}
 use Rattle.mx_recover.specs.declared.replay.Recovered.{Recovered}
+use Rattle.mx_recover.specs.Durability.{HasNoDraft}
 use Rattle.mx_recover.specs.Recovered.{StandsFor}
 use Rattle.mx_images.specs.Fair.{AllDurable}
 
@@ -28,7 +29,8 @@ pub record IsUnderway (found : Files) (left : List (List ℕ)) (reached : files.
   pub each : ReadAll found journals
   pub after : after_files journals nothing_yet ≡ Ok reached
 
--- The memory has what the directory recovers to, where its files are known; all of its journals and names are durable.
+-- The memory has what the directory recovers to, where its files are known; all of its journals and names are durable, and no file
+-- waits for its name.
 pub record IsDurableAt (memory : Recovered) (reached : files.Reached) (states : Option (List Disk)) : Type 0 where
   pub stands : StandsFor memory reached
-  pub told : IfKnown states (λ disk past. IsDirectoryState disk.now (Ok reached) × AllDurable disk × (disk.older ≡ finite.empty))
+  pub told : IfKnown states (λ disk past. IsDirectoryState disk.now (Ok reached) × AllDurable disk × (disk.older ≡ finite.empty) × HasNoDraft disk)

@@ -4,7 +4,7 @@ ghost use Rattle.std.specs.Prelude.{◌≡◌};
 ghost use Rattle.mx_recover.specs.declared.fault.RecoverFault.TheVariants.{NoMemory};
 ghost use Rattle.mx_recover.specs.Faults.{fault_of_dir};
 
-use mx_model::Damage;
+use mx_directory::Damage;
 use mx_outside::DirFault;
 use std::alloc::AllocError;
 use thiserror::Error;

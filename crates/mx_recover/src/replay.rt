@@ -4,10 +4,10 @@ ghost use Rattle.std.specs.Prelude.{◌≡◌, ◌≤◌, Option, true, false, O
 ghost use Rattle.std.specs.List.{list_any};
 ghost use Rattle.mx_vclock.specs.Vclocks.{IsVclock};
 ghost use Rattle.mx_xlog.specs.Reading.{blocks_of};
-ghost use Rattle.mx_model.specs.declared.apply.ApplyFault.TheVariants.{NoMemory};
-ghost use Rattle.mx_model.specs.declared.damage.Damage.{Damage};
-ghost use Rattle.mx_model.specs.Directories as files;
-ghost use Rattle.mx_model.specs.Directories.{after_block, after_blocks, after_file, after_transaction, nothing_yet, head_fits, are_its_ids, is_shared, same_id, schema_is_alone};
+ghost use Rattle.mx_recover.specs.declared.apply.ApplyFault.TheVariants.{NoMemory};
+ghost use Rattle.mx_directory.specs.declared.damage.Damage.{Damage};
+ghost use Rattle.mx_directory.specs.Directories as files;
+ghost use Rattle.mx_directory.specs.Directories.{after_block, after_blocks, after_file, after_transaction, nothing_yet, head_fits, are_its_ids, is_shared, same_id, schema_is_alone};
 ghost use Rattle.mx_model.specs.Transactions.{is_schema_row};
 ghost use Rattle.mx_xlog.specs.Files.{FileRead, ReadsAs};
 ghost use Rattle.mx_files.specs.Names.{same_bytes};
@@ -17,9 +17,12 @@ ghost use Rattle.mx_row.specs.Views.{row_value, row_values, tx_view};
 ghost use Rattle.mx_recover.specs.declared.fault.RecoverFault.TheVariants.{Damaged, Failed};
 ghost use Rattle.mx_recover.specs.Recovered.{StandsFor};
 
+use crate::apply::{ApplyFault, apply_tx};
 use crate::fault::RecoverFault;
+use crate::new_database::bootstrap;
+use mx_directory::{Damage, DamageKind};
 use mx_files::journal_name;
-use mx_model::{ApplyFault, Damage, DamageKind, Ids, apply_tx, bootstrap};
+use mx_model::Ids;
 use mx_msgpack::Bytes;
 use mx_row::{RowRef, TxRef, read_tx_in_place};
 use mx_schema::{INDEX_ROWS, SPACE_ROWS};

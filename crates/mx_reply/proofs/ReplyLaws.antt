@@ -7,10 +7,6 @@ use Rattle.mx_reply.specs.Replies.{reply_header, reply_packet}
 header-length : (schema sync kind : ℕ) → length (reply_header schema sync kind) ≡ 23
 header-length schema sync kind = refl
 
--- a packet has 28 bytes before its body
-pub packet-length : (schema sync kind : ℕ) (body : List ℕ) → length (reply_packet schema sync kind body) ≡ 28 + length body
-packet-length schema sync kind body = omega (arith, length-append (reply_header schema sync kind) body)
-
 -- what is written of a packet, after what was written before
 pub packet_written : (schema sync kind size : ℕ) (out head front rest : List ℕ)
     → head ≡ (0xce ∷ big_bytes 4 size) ++ reply_header schema sync kind → size ≡ length front + length rest + 23

@@ -4,7 +4,7 @@ use mx_msgpack::Tuples;
 use mx_vclock::Vclock;
 
 /// The body of a reply that is no refusal.
-#[derive(Debug, Drop)]
+#[derive(Drop)]
 pub enum ReplyBody {
     /// Nothing.
     Empty,

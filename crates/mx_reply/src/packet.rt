@@ -13,7 +13,7 @@ use std::alloc::AllocError;
 const HEADER_SIZE: usize = 23;
 
 /// The header of a reply.
-#[derive(Clone, Copy, Debug, Drop)]
+#[derive(Clone, Copy, Drop)]
 pub(crate) struct Header {
     /// The schema version.
     pub(crate) schema: u32,

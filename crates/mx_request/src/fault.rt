@@ -4,7 +4,7 @@ use mx_base::{Refusal, StreamId, SyncId};
 use std::alloc::AllocError;
 
 /// What comes in place of a request.
-#[derive(Debug, Drop)]
+#[derive(Drop)]
 pub enum RequestFault {
     /// The request is refused. `sync` and `stream` are those of its header where they are there and
     /// numbers of 0 or more, else 0.

@@ -14,7 +14,7 @@ use mx_base::{Refusal, StreamId, SyncId};
 
 /// What a packet asks, in place. `sync` and `stream` are those of its header where they are there and
 /// numbers of 0 or more, else 0.
-#[derive(Debug, Drop)]
+#[derive(Drop)]
 pub struct PacketRef<'a> {
     pub sync: SyncId,
     pub stream: StreamId,
@@ -22,7 +22,7 @@ pub struct PacketRef<'a> {
 }
 
 /// A request, or why there is none.
-#[derive(Debug, Drop)]
+#[derive(Drop)]
 pub enum AskedRef<'a> {
     Request(RequestRef<'a>),
     /// The request is refused: its type first, then its keys in ascending order, then its update

@@ -6,7 +6,7 @@ use mx_vclock::Vclock;
 use uuid::Uuid;
 
 /// What the header of a packet holds.
-#[derive(Clone, Copy, Debug, Drop)]
+#[derive(Clone, Copy, Drop)]
 pub struct Head3 {
     pub sync: SyncId,
     pub stream: StreamId,
@@ -88,7 +88,7 @@ pub enum Request {
 }
 
 /// What a packet asks, or the end of its connection.
-#[derive(Debug, Drop)]
+#[derive(Drop)]
 pub enum Ask {
     Request(Request),
     /// A packet that is refused before anything looks at the database.

@@ -13,7 +13,7 @@ use uuid::Uuid;
 
 /// A request whose arrays and vclocks still stand in its packet, each as the bytes of that value. Its
 /// variants and fields are those of `Request`.
-#[derive(Clone, Copy, Debug, Drop)]
+#[derive(Clone, Copy, Drop)]
 pub enum RequestRef<'a> {
     Select {
         space: SpaceId,

@@ -260,12 +260,6 @@ transaction_at-Advances bytes found e =
     let l = ap (λ (x : Tx × List ℕ). length x.1) p.same in
     omega (arith, first, others.shorter)
 
--- no transaction is read of a replica that there can't be
-pub transaction_at-replica : (bytes : List ℕ) (found : Tx × List ℕ) → transaction_at bytes ≡ Some found → found.0.replica.0 < 32
-transaction_at-replica bytes found e = (transaction_is bytes found e).replica
-
--- ---- what a reader returns
-
 -- a transaction that is read, behind a view
 pub read_sound : {X : Type 0} (view : X → Tx × List ℕ) (bytes : List ℕ) (result : Result (Option X) AllocError)
     → IfOk result (λ found. option_map view found ≡ transaction_at bytes) → IfOk result (λ found. IfSome found (λ x. IsTransaction (view x).0))

@@ -71,10 +71,6 @@ end_parts rows header row e =
 pub end_from : (rows : Progress) (header : Header) (row : Row) → IsEnd rows header row → is_end_of rows header row ≡ true
 end_from rows header row end = rw (end.follows, end.last, le-leb _ _ end.short) refl
 
-pub so_far_room : {bytes rest : List ℕ} {rows : Progress} → AreSoFar bytes rows rest → has_room_behind rows ≡ true
-so_far_room none_yet = refl
-so_far_room (one_more {rows = rows} header row so_far read on) = (leads_parts rows header row on).room
-
 pub so_far_numbered : {bytes rest : List ℕ} {rows : Progress} → AreSoFar bytes rows rest → IsNumbered rows
 so_far_numbered none_yet = refl
 so_far_numbered (one_more {rest = rest} {others = others} {rows = rows} header row so_far read on) = (

@@ -3,7 +3,7 @@
 use mx_base::{Lsn, ReplicaId};
 
 /// The header of a row.
-#[derive(Clone, Copy, Debug)]
+#[derive(Clone, Copy)]
 pub(crate) struct Header {
     /// The number of the row's type, which may be that of no row.
     pub(crate) kind: u64,
@@ -13,7 +13,7 @@ pub(crate) struct Header {
 }
 
 /// Which row of its transaction a row is.
-#[derive(Clone, Copy, Debug)]
+#[derive(Clone, Copy)]
 pub(crate) enum Place {
     /// The only one, which has no number.
     Alone,

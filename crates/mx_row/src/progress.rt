@@ -16,7 +16,7 @@ use mx_vclock::MAX_LSN;
 pub(crate) const MIN_ROW_SIZE: usize = 37;
 
 /// The first rows of a transaction, of which the last one doesn't end it.
-#[derive(Clone, Copy, Debug)]
+#[derive(Clone, Copy)]
 pub(crate) struct Progress {
     pub(crate) count: usize,
     /// How many bytes they take, as the limits of a transaction count them.

@@ -9,7 +9,7 @@ use mx_msgpack::Bytes;
 use std::alloc::{AllocError, Global};
 
 /// What a write left in the journal. Parts that its type hasn't got are empty, and an absent base is 0.
-#[derive(Debug, Drop)]
+#[derive(Drop)]
 pub struct Row {
     /// The type of the request, one of `row_types`.
     pub kind: u8,

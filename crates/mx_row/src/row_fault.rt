@@ -6,7 +6,7 @@ ghost use Rattle.mx_row.specs.declared.row_fault.RowFault.TheVariants.{NoMemory}
 use std::alloc::AllocError;
 
 /// Why bytes begin no transaction, whatever follows them.
-#[derive(Clone, Copy, Debug, Drop, PartialEq, Eq)]
+#[derive(Clone, Copy, Drop, PartialEq, Eq)]
 pub enum RowFault {
     /// The row at this place, which counts bytes from 0, is none that the transaction can have there, or makes
     /// it too large.

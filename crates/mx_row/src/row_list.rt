@@ -3,7 +3,7 @@
 use crate::row_ref::RowRef;
 
 /// One row, or a vector of rows.
-#[derive(Debug, Drop)]
+#[derive(Drop)]
 pub(crate) enum RowList<'a> {
     One(RowRef<'a>),
     Several(Vec<RowRef<'a>>),

@@ -3,7 +3,7 @@
 use mx_base::SpaceId;
 
 /// A row whose tuple, key and operations still stand in its block. Its fields are those of `Row`.
-#[derive(Clone, Copy, Debug)]
+#[derive(Clone, Copy)]
 pub struct RowRef<'a> {
     pub kind: u8,
     pub space: SpaceId,

@@ -7,7 +7,7 @@ use crate::row_ref::RowRef;
 use std::marker::Model;
 
 /// The rows of a transaction where they lie in a block. One row takes no allocation.
-#[derive(Debug, Drop)]
+#[derive(Drop)]
 pub struct RowRefs<'a> {
     list: RowList<'a>,
 }

@@ -9,7 +9,7 @@ use std::alloc::{AllocError, Global};
 use std::marker::Model;
 
 /// Rows in order.
-#[derive(Debug, Drop)]
+#[derive(Drop)]
 pub struct Rows {
     items: Vec<Row>,
 }

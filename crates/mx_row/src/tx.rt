@@ -12,7 +12,7 @@ use std::alloc::{AllocError, Global};
 use std::slice;
 
 /// The rows of one commit. They have the lsns of one replica from the first one on.
-#[derive(Debug, Drop)]
+#[derive(Drop)]
 pub struct Tx {
     /// The replica id, from 0 to 31.
     pub replica: ReplicaId,

@@ -12,7 +12,7 @@ use mx_base::{Lsn, ReplicaId};
 use std::alloc::{AllocError, Global};
 
 /// A transaction where it lies in a block. Its fields are those of `Tx`.
-#[derive(Debug, Drop)]
+#[derive(Drop)]
 pub struct TxRef<'a> {
     pub replica: ReplicaId,
     pub first: Lsn,

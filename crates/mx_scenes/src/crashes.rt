@@ -25,14 +25,17 @@ fn tuple(key: u8) -> [u8; 4] {
     [0x92, key, 0xa1, 0x60 | key]
 }
 
-/// REPLACE of a key's tuple into space 512, in a unit for each key; the key is the sync too.
-fn replaces(alloc: Global, keys: &[u8]) -> Result<Vec<u8>, AllocError> {
+/// REPLACE of each key's tuple into space 512, in these units; the key is the sync too.
+fn replaces(alloc: Global, units: &[&[u8]]) -> Result<Vec<u8>, AllocError> {
     let mut input = Vec::new(alloc);
-    for key in keys {
-        let header = [0x82, 0x00, 0x03, 0x01, *key];
-        let body = b"\x82\x10\xcd\x02\x00\x21";
-        let asked = packet(alloc, &[&header, body, &tuple(*key)])?;
-        input.extend_from_slice(&unit(alloc, ON_ONE, &[&asked])?)?;
+    for keys in units {
+        let mut packets = Vec::new(alloc);
+        for key in *keys {
+            let header = [0x82, 0x00, 0x03, 0x01, *key];
+            let body = b"\x82\x10\xcd\x02\x00\x21";
+            packets.extend_from_slice(&packet(alloc, &[&header, body, &tuple(*key)])?)?;
+        }
+        input.extend_from_slice(&unit(alloc, ON_ONE, &[&packets])?)?;
     }
     Ok(input)
 }
@@ -58,16 +61,17 @@ fn answer(alloc: Global, key: u8, is_there: bool) -> Result<Vec<u8>, AllocError>
     }
 }
 
-/// The output of a run that is asked for these keys in a unit each, where those up to `prefix` are
-/// there.
-fn answers(alloc: Global, keys: &[u8], prefix: u8) -> Result<Vec<u8>, AllocError> {
+/// The output of a run that is asked for the keys of these units, where those up to `prefix` are there.
+fn answers(alloc: Global, units: &[&[u8]], prefix: u8) -> Result<Vec<u8>, AllocError> {
     let mut output = Vec::new(alloc);
-    for key in keys {
+    for keys in units {
         let mut packets = Vec::new(alloc);
         if output.is_empty() {
             packets.extend_from_slice(GREETING)?;
         }
-        packets.extend_from_slice(&answer(alloc, *key, *key <= prefix)?)?;
+        for key in *keys {
+            packets.extend_from_slice(&answer(alloc, *key, *key <= prefix)?)?;
+        }
         output.extend_from_slice(&unit(alloc, TO_ONE, &[&packets])?)?;
     }
     Ok(output)
@@ -78,7 +82,7 @@ fn answers(alloc: Global, keys: &[u8], prefix: u8) -> Result<Vec<u8>, AllocError
 fn check_end(rt: &impl Abort, alloc: Global, end: &[u8], prefix: u8) -> Result<(), Fail> {
     let dir = directory_with(alloc, &[(FIRST, &[HEADER, BLOCK, end])])?;
     let ran = run_in(alloc, dir, &TRACE, &selects(alloc, &[1, 2])?, NONE)?;
-    let output = answers(alloc, &[1, 2], prefix)?;
+    let output = answers(alloc, &[&[1], &[2]], prefix)?;
     assert_eq!(rt; ran.status.as_str(), "Ok", "after the block {end:?}");
     assert_eq!(rt; ran.output, output, "after the block {end:?}");
     check_journals(rt, alloc, directory_of(ran)?, end, prefix)
@@ -149,18 +153,35 @@ fn other_ends_count_for_nothing(rt: HostRuntime) -> Result<(), Fail> {
     Ok(())
 }
 
-/// Runs one after the other over one directory: the keys that each of them REPLACEs.
-type Runs = &'static [&'static [u8]];
+/// The block of the REPLACEs of [1, "a"] and [2, "b"], as the first two commits of replica 1.
+const BLOCK_OF_TWO: &[u8; 53] = b"\xd5\xba\x0b\xab\xce\0\0\0\x22\0\xce\xb8\x85\xc2\x03\xa3\0\0\0\
+    \x83\x00\x03\x02\x01\x03\x01\x82\x10\xcd\x02\x00\x21\x92\x01\xa1a\
+    \x83\x00\x03\x02\x01\x03\x02\x82\x10\xcd\x02\x00\x21\x92\x02\xa1b";
+
+#[test]
+fn the_commits_of_a_unit_are_one_block(rt: HostRuntime) -> Result<(), Fail> {
+    let alloc = rt.alloc();
+    let dir = MemoryDir::new(alloc, Vec::new(alloc));
+    let ran = run_in(alloc, dir, &TRACE, &replaces(alloc, &[&[1, 2]])?, NONE)?;
+    assert_eq!(rt; ran.status.as_str(), "Ok");
+    let mut dir = directory_of(ran)?;
+    Ok(check_file(&rt, alloc, &mut dir, FIRST, &[HEADER, BLOCK_OF_TWO, END])?)
+}
+
+/// Runs one after the other over one directory, of units one after the other: the keys that each of
+/// them REPLACEs.
+type Runs = &'static [&'static [&'static [u8]]];
 
 /// More calls than any of these runs make on the directory.
 const MAX_CALLS: u64 = 100;
 
-/// One key more than any of these runs REPLACEs.
-const KEYS: [u8; 5] = [1, 2, 3, 4, 5];
+/// One key more than any of these runs REPLACEs, in a unit each.
+const KEYS: [&[u8]; 5] = [&[1], &[2], &[3], &[4], &[5]];
 
 /// How a directory goes on after the stop: as it is, or restarted by this choice. Its low byte says
 /// which names are as they were when the names were synced, a bit each, and the rest of it how many
-/// bytes of each file stay beyond its synced ones. A block has 36 bytes, and a header 118.
+/// bytes of each file stay beyond its synced ones. A header has 118 bytes, a block of one commit 36,
+/// and one of two 53.
 const CHOICES: &[Option<u32>] = &[
     None,
     Some(0x0000),
@@ -169,6 +190,8 @@ const CHOICES: &[Option<u32>] = &[
     Some(0x13ff),
     Some(0x2300),
     Some(0x2400),
+    Some(0x34ff),
+    Some(0x3500),
     Some(0x3_e8ff),
     Some(0x3_e801),
     Some(0x3_e802),
@@ -188,37 +211,51 @@ struct Seen {
 }
 
 impl Seen {
-    /// Whether what was acknowledged is found, and besides at most the next commit, where all of its
-    /// block may be there.
+    /// Whether what was acknowledged is found, and besides at most the commits of the next unit, where
+    /// all of their block may be there: all of them or none.
     fn is_right(&self, runs: Runs, choice: Option<u32>) -> bool {
         let (Some(least), Some(found)) = (self.acknowledged, self.found) else {
             return false;
         };
-        let is_cut = choice.is_some_and(|choice| choice / 256 < 36);
-        let next = least.saturating_add(1).min(last_key(runs));
-        let most = if is_cut { least } else { next };
-        least <= found && found <= most && self.found_again == self.found
+        let next = unit_after(runs, least);
+        let size = block_size(next);
+        let is_cut = choice.is_some_and(|choice| choice / 256 < size);
+        let most = next.last().copied().unwrap_or(least);
+        let is_found = found == least || (found == most && !is_cut);
+        is_found && self.found_again == self.found
     }
 }
 
-/// The last key that these runs REPLACE.
-fn last_key(runs: Runs) -> u8 {
-    let last = runs.last().and_then(|keys| keys.last());
-    last.copied().unwrap_or(0)
+/// The keys of the unit that comes after this last key; none where it is the last one of all.
+fn unit_after(runs: Runs, last: u8) -> &'static [u8] {
+    for units in runs {
+        for keys in *units {
+            if keys.first().is_some_and(|first| *first > last) {
+                return keys;
+            }
+        }
+    }
+    &[]
 }
 
-/// The last key up to which an output is the answers to these keys, or `before` where it has none;
+/// The size of the block of one commit, or of two.
+fn block_size(keys: &[u8]) -> u32 {
+    if keys.len() == 2 { 53 } else { 36 }
+}
+
+/// The last key up to which an output is the answers to these units, or `before` where it has none;
 /// nothing where it is something else.
 fn last_answered(
     alloc: Global,
     output: &[u8],
-    keys: &[u8],
+    units: &[&[u8]],
     before: u8,
 ) -> Result<Option<u8>, AllocError> {
-    for count in 0..=keys.len() {
-        let answered = &keys[..count];
+    for count in 0..=units.len() {
+        let answered = &units[..count];
         if output == answers(alloc, answered, u8::MAX)?.as_slice() {
-            return Ok(Some(answered.last().copied().unwrap_or(before)));
+            let last = answered.last().and_then(|keys| keys.last());
+            return Ok(Some(last.copied().unwrap_or(before)));
         }
     }
     Ok(None)
@@ -236,7 +273,7 @@ fn last_told(alloc: Global, ran: &Ran) -> Result<Option<u8>, AllocError> {
 
 /// The last key that one more run finds in a directory, and the directory.
 fn last_found(alloc: Global, dir: MemoryDir) -> Result<(Option<u8>, MemoryDir), AllocError> {
-    let ran = run_in(alloc, dir, &TRACE, &selects(alloc, &KEYS)?, NONE)?;
+    let ran = run_in(alloc, dir, &TRACE, &selects(alloc, &[1, 2, 3, 4, 5])?, NONE)?;
     let last = last_told(alloc, &ran)?;
     Ok((last, directory_of(ran)?))
 }
@@ -253,11 +290,11 @@ struct Stopped {
 }
 
 impl Stopped {
-    /// One run more, which REPLACEs these keys.
-    fn and_run(self, alloc: Global, keys: &[u8]) -> Result<Stopped, AllocError> {
-        let ran = run_in(alloc, self.dir, &TRACE, &replaces(alloc, keys)?, NONE)?;
+    /// One run more, which REPLACEs the keys of these units.
+    fn and_run(self, alloc: Global, units: &[&[u8]]) -> Result<Stopped, AllocError> {
+        let ran = run_in(alloc, self.dir, &TRACE, &replaces(alloc, units)?, NONE)?;
         let acknowledged = match self.acknowledged {
-            Some(before) => last_answered(alloc, &ran.output, keys, before)?,
+            Some(before) => last_answered(alloc, &ran.output, units, before)?,
             None => None,
         };
         Ok(Stopped {
@@ -275,9 +312,9 @@ fn stopped_at(alloc: Global, runs: Runs, call: u64) -> Result<Stopped, AllocErro
         acknowledged: Some(0),
         dir: MemoryDir::new(alloc, vec![in alloc; call]?),
     };
-    for keys in runs {
+    for units in runs {
         if stopped.has_ended {
-            stopped = stopped.and_run(alloc, keys)?;
+            stopped = stopped.and_run(alloc, units)?;
         }
     }
     // The first call that no run made may be the one that fails, so it is one that changes nothing.
@@ -292,8 +329,9 @@ fn look_after(alloc: Global, runs: Runs, call: u64, choice: Option<u32>) -> Resu
         acknowledged,
         mut dir,
     } = stopped_at(alloc, runs, call)?;
-    if let Some(choice) = choice {
-        dir.restart(alloc, choice)?;
+    match choice {
+        Some(choice) => dir.restart(alloc, choice)?,
+        None => dir.reopen(),
     }
     let (found, mut dir) = last_found(alloc, dir)?;
     dir.restart(alloc, 0xff)?;
@@ -346,15 +384,20 @@ fn check_runs(rt: &impl Abort, alloc: Global, runs: Runs) -> Result<(), DirFault
 
 #[test]
 fn what_was_acknowledged_is_found_after_a_stop_of_one_run(rt: HostRuntime) -> Result<(), Fail> {
-    Ok(check_runs(&rt, rt.alloc(), &[&[1, 2, 3]])?)
+    Ok(check_runs(&rt, rt.alloc(), &[&[&[1], &[2], &[3]]])?)
 }
 
 #[test]
 fn what_was_acknowledged_is_found_after_a_stop_of_two_runs(rt: HostRuntime) -> Result<(), Fail> {
-    Ok(check_runs(&rt, rt.alloc(), &[&[1], &[2, 3, 4]])?)
+    Ok(check_runs(&rt, rt.alloc(), &[&[&[1]], &[&[2], &[3], &[4]]])?)
 }
 
 #[test]
 fn what_was_acknowledged_is_found_after_an_idle_run(rt: HostRuntime) -> Result<(), Fail> {
-    Ok(check_runs(&rt, rt.alloc(), &[&[], &[1, 2, 3]])?)
+    Ok(check_runs(&rt, rt.alloc(), &[&[], &[&[1], &[2], &[3]]])?)
+}
+
+#[test]
+fn all_of_a_unit_is_found_after_a_stop_or_none(rt: HostRuntime) -> Result<(), Fail> {
+    Ok(check_runs(&rt, rt.alloc(), &[&[&[1, 2], &[3]], &[&[4]]])?)
 }

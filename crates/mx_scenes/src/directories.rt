@@ -1,7 +1,7 @@
 //! What runs leave in a directory, and find there.
 
 use crate::harness::{
-    BLOCK, END, Exchange, FIRST, FOUND, Failing, File, HEADER, NEXT_HEADER, NONE, ON_ONE, PUT,
+    BLOCK, END, Exchange, FIRST, FOUND, Failing, File, HEADER, NEXT_HEADER, NONE, ON_ONE, ONE, PUT,
     REPLACE, SECOND, TRACE, check_exchanges, check_file, directory_of, directory_with,
     new_directory, run_in, run_on, unit,
 };
@@ -9,9 +9,6 @@ use mx_fake::MemoryDir;
 use std::alloc::{AllocError, Global};
 use std::process::Abort;
 use std::test::Fail;
-
-/// The tuple [1, "a"].
-const ONE: &[u8] = b"\x92\x01\xa1a";
 
 const PUT_ONE: &[Exchange] = &[Exchange {
     asked: &[PUT, ONE],

@@ -320,6 +320,9 @@ pub(crate) const TO_ONE: &[u8] = b"\x00\x00\x00\x01";
 /// What stands before the tuple in a request's header and body: REPLACE into space 512, with sync 1.
 pub(crate) const PUT: &[u8] = b"\x82\x00\x03\x01\x01\x82\x10\xcd\x02\x00\x21";
 
+/// The tuple [1, "a"].
+pub(crate) const ONE: &[u8] = b"\x92\x01\xa1a";
+
 /// What stands before the tuple in the body of a reply of one tuple.
 pub(crate) const FOUND: &[u8] = b"\x81\x30\xdd\x00\x00\x00\x01";
 

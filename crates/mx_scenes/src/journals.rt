@@ -8,6 +8,7 @@ ghost use Rattle.mx_xlog.specs.Headers.{IsHead};
 ghost use Rattle.mx_row.specs.declared.tx.Tx.{Tx};
 ghost use Rattle.mx_row.specs.Rows.{IsTransaction};
 ghost use Rattle.mx_row.specs.Clocks.{follows};
+ghost use Rattle.mx_journal.specs.Groups.{whole_text};
 ghost use Rattle.mx_journal.specs.Written.{IsWritten, Waits};
 ghost use Rattle.mx_images.specs.Changes.{IsNow};
 
@@ -87,7 +88,7 @@ fn commit(alloc: Global, dir: &mut MemoryDir, journal: &mut Journal) -> Result<u
     requires waits { Waits journal.old [] }
     requires first { journal.old.clock ≡ replicate 32 0 }
     ensures written { IfOk result (λ count. IsNow (dir_states dir.new) (λ now. (txs : List Tx) × IsWritten journal.new now txs)) }
-    ensures none { IfOk result (λ count. journal.new.waiting ≡ []) }
+    ensures none { IfOk result (λ count. whole_text journal.new.waiting ≡ []) }
 {
     let tx = first_tx(alloc)?;
     journal.push(alloc, &tx)?;

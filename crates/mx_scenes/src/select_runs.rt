@@ -1,10 +1,10 @@
 //! What a SELECT finds of what this run and earlier ones put.
 
-use crate::database::{ALL, EQ, GE, GT, LE, LT, REQ};
 use crate::harness::{
     Exchange, PUT, check_refusals, found, joined, new_directory, packet, reply, talk,
 };
 use mx_fake::MemoryDir;
+use mx_samples::{ALL, EQ, GE, GT, LE, LT, REQ};
 use std::alloc::{AllocError, Global};
 use std::process::Abort;
 use std::test::Fail;

@@ -10,10 +10,6 @@ use Rattle.mx_msgpack.proofs.Options.{bind_some, same_some}
 abbrev pub behind : {X : Type 0} → List X → Option (List X) → Option (List X)
 behind so_far others = option_map (λ more. so_far ++ more) others
 
-pub behind_none : {X : Type 0} (o : Option (List X)) → behind [] o ≡ o
-behind_none None = refl
-behind_none (Some xs) = refl
-
 one_more : {X : Type 0} (so_far : List X) (x : X) (o : Option (List X)) → behind so_far (o >>= λ xs. Some (x ∷ xs)) ≡ behind (so_far ++ x ∷ []) o
 one_more so_far x None = refl
 one_more so_far x (Some xs) = ap Some (sym (append_assoc so_far (x ∷ []) xs))

@@ -19,11 +19,6 @@ use Rattle.mx_schema.proofs.RowsOfStateLaws.{Row, of_space}
 some_not_none : {X : Type 0} (x : X) (o : Option X) → o ≡ Some x → o ≡ None → ⊥
 some_not_none x o is none = let no : Some x ≡ None = sym is ∙ none in absurd cc
 
-same_some_def : (one other : IndexDef) → Some one ≡ Some other → one ≡ other
-same_some_def one other e = cc
-
--- ---- one more
-
 -- it is found under its number, and the others under theirs
 pub found_more : (def : IndexDef) (defs : List IndexDef) (q : ℕ) → index_with def.id.0 defs ≡ None
     → index_with q (indexes_with def defs) ≡ (if def.id.0 == q then Some def else index_with q defs)

@@ -32,9 +32,6 @@ ok_of (Some other) bad def e = cc
 same_ok : {D : Type 0} (x y : D) → ◌≡◌ {A = Result D Refusal} (Ok x) (Ok y) → x ≡ y
 same_ok x y e = cc
 
-never_ok : {D : Type 0} (x : D) (refusal : Refusal) → ◌≡◌ {A = Result D Refusal} (Ok x) (Err refusal) → ⊥
-never_ok x refusal e = cc
-
 free_space : (def other : SpaceDef) (there : Option SpaceDef) → Ok def ≡ unless_there other there → other ≡ def
 free_space def other None e = sym (same_ok def other e)
 free_space def other (Some found) e = absurd cc

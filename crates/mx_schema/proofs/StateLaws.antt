@@ -16,9 +16,8 @@ use Rattle.mx_schema.specs.declared.space_def.SpaceDef.{SpaceDef}
 use Rattle.mx_schema.specs.Catalogues.{StandByKey, index_defs, index_with, schema_of}
 use Rattle.mx_schema.specs.SpaceRows.{space_in}
 use Rattle.mx_schema.specs.State as state
-use Rattle.mx_schema.specs.State.{State, key_in, tuples_in, with_tuple, without_tuple, space_rows, index_rows}
-use Rattle.mx_schema.specs.Stored.{IsKeyedBy, StandByPrimary}
-use Rattle.mx_key.specs.declared.part.Part.{Part}
+use Rattle.mx_schema.specs.State.{State, key_in, tuples_in, with_tuple, space_rows, index_rows}
+use Rattle.mx_schema.specs.Stored.{StandByPrimary}
 use Rattle.mx_schema.proofs.StoredLaws.{each_none, each_put}
 use Rattle.mx_schema.proofs.TakenLaws.{each_left}
 
@@ -97,15 +96,3 @@ schema_set before space all no_space no_index q =
 
     other_way : (a b : ℕ) → (b == a) ≡ false → (a == b) ≡ false
     other_way a b e = grind (arith, nat_tests)
-
--- ---- rows that are put one after the other
-
--- so a row that has a key has it in the primary index
-pub row_stands : (parts : List Part) (schema : Option Schema) (row : List ℕ) (key : Key) → IsKeyedBy parts schema → key_in parts row ≡ Ok key
-    → (described : Schema) × (schema ≡ Some described) × IfSome (index_with 0 described.indexes) (λ def. key_in def.key row ≡ Ok key)
-row_stands parts None row key keyed has = absurd keyed
-row_stands parts (Some schema) row key keyed has = (schema, refl, by_index (index_with 0 schema.indexes) keyed)
-  where
-    by_index : (def : Option IndexDef) → IfSome def (λ def. def.key ≡ parts) → IfSome def (λ def. key_in def.key row ≡ Ok key)
-    by_index None keyed = tt
-    by_index (Some def) keyed = ap (λ (parts : List Part). key_in parts row) keyed ∙ has

@@ -21,7 +21,7 @@ use std::collections::BTreeMap;
 use std::marker::Model;
 
 /// The spaces by number, each with its indexes: what the rows of the two spaces that describe them say.
-#[derive(Debug, Drop)]
+#[derive(Drop)]
 pub struct Catalogue {
     schemas: BTreeMap<u32, Schema>,
 }

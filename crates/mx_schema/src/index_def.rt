@@ -13,7 +13,7 @@ use std::alloc::{AllocError, Global};
 use std::marker::Model;
 
 /// How an index finds its tuples.
-#[derive(Clone, Copy, Debug, Drop, PartialEq, Eq)]
+#[derive(Clone, Copy, Drop, PartialEq, Eq)]
 pub enum IndexKind {
     /// In the order of their keys.
     Tree,
@@ -23,7 +23,7 @@ pub enum IndexKind {
 
 /// An index of a space: its number, its name, its type, whether no two tuples have one key, and the
 /// parts of its keys.
-#[derive(Debug, Drop)]
+#[derive(Drop)]
 pub struct IndexDef {
     pub id: IndexId,
     pub name: Name,
@@ -47,14 +47,14 @@ impl IndexDef {
 }
 
 /// An index, and its space.
-#[derive(Debug, Drop)]
+#[derive(Drop)]
 pub struct IndexRow {
     pub space: SpaceId,
     pub def: IndexDef,
 }
 
 /// The indexes of a space, by ascending numbers.
-#[derive(Debug, Drop)]
+#[derive(Drop)]
 pub struct IndexDefs {
     items: Vec<IndexDef>,
 }

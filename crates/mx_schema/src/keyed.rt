@@ -19,7 +19,7 @@ use mx_msgpack::{Bytes, array_of};
 use std::alloc::{AllocError, Global};
 
 /// A tuple, and the comparable bytes of its key.
-#[derive(Debug, Drop)]
+#[derive(Drop)]
 pub struct Keyed {
     pub key: Bytes,
     pub tuple: Bytes,

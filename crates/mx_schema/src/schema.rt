@@ -10,7 +10,7 @@ use mx_base::IndexId;
 use std::alloc::{AllocError, Global};
 
 /// A space with its indexes.
-#[derive(Debug, Drop)]
+#[derive(Drop)]
 pub struct Schema {
     pub def: SpaceDef,
     pub indexes: IndexDefs,

@@ -8,7 +8,7 @@ use mx_tuple::{Format, FormatEntries, FormatEntry};
 use std::alloc::{AllocError, Global};
 
 /// A space: its number, its name, and what it asks of its tuples.
-#[derive(Debug, Drop)]
+#[derive(Drop)]
 pub struct SpaceDef {
     pub id: SpaceId,
     pub name: Name,

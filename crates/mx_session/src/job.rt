@@ -10,7 +10,7 @@ use mx_request::{Ask, AskedRef, PacketRef, RequestRef, read_packet, to_owned};
 use std::alloc::{AllocError, Global};
 
 /// What a packet comes to, and the number by which its reply is known.
-#[derive(Debug, Drop)]
+#[derive(Drop)]
 pub struct Job {
     pub name: TxnName,
     pub sync: SyncId,
@@ -19,7 +19,7 @@ pub struct Job {
 
 /// A job whose request still stands in the session's bytes. `ends` says whether the connection ends
 /// with it.
-#[derive(Debug, Drop)]
+#[derive(Drop)]
 pub struct JobRef<'a> {
     pub name: TxnName,
     pub sync: SyncId,
@@ -28,7 +28,7 @@ pub struct JobRef<'a> {
 }
 
 /// What a packet asks, in place.
-#[derive(Debug, Drop)]
+#[derive(Drop)]
 pub enum AskRef<'a> {
     Request(RequestRef<'a>),
     /// A packet that is refused before anything looks at the database.

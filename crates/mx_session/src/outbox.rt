@@ -10,7 +10,7 @@ use std::marker::Model;
 
 /// One buffer for all output, in which one after the other lie what is sent, what may be sent, and the
 /// replies that wait.
-#[derive(Debug, Drop)]
+#[derive(Drop)]
 pub(crate) struct Outbox {
     /// What is sent ends at `start`, and what may be sent at `released`.
     buffer: Vec<u8>,
@@ -22,7 +22,7 @@ pub(crate) struct Outbox {
 
 /// A reply that waits: how many steps of the history have to be durable before it is sent, and how many
 /// bytes it has.
-#[derive(Clone, Copy, Debug, Drop)]
+#[derive(Clone, Copy, Drop)]
 pub(crate) struct Held {
     front: u64,
     size: usize,

@@ -17,7 +17,7 @@ use std::alloc::{AllocError, Global};
 use std::marker::Model;
 
 /// What comes next on a connection.
-#[derive(Debug, Drop)]
+#[derive(Drop)]
 pub enum Next {
     /// What the next packet comes to.
     Job(Job),
@@ -28,7 +28,7 @@ pub enum Next {
 }
 
 /// As `Next`, in place.
-#[derive(Debug, Drop)]
+#[derive(Drop)]
 pub enum NextRef<'a> {
     Job(JobRef<'a>),
     NeedMore,
@@ -37,7 +37,7 @@ pub enum NextRef<'a> {
 
 /// One connection: the bytes that came on it as jobs, and the replies to them, each of which is sent
 /// once what it depends on is durable.
-#[derive(Debug, Drop)]
+#[derive(Drop)]
 pub struct Session {
     alloc: Global,
     connection: ConnId,

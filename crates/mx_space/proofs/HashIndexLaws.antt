@@ -1,5 +1,5 @@
 -- The entries of a hash index: the one under a key, and one more.
-use Rattle.std.proofs.Common.{◌≡◌, ◌≤◌, ℕ, Bool, true, false, cond, not, List, [], ◌∷◌, ◌++◌, drop, length, take, Option, Some, None, is_some, refl, sym, ap, ◌∙◌, true≢false, eq-eqb, T, append_assoc, arith}
+use Rattle.std.proofs.Common.{◌≡◌, ℕ, Bool, true, false, cond, not, List, [], ◌∷◌, ◌++◌, drop, take, Option, Some, None, is_some, refl, sym, ap, ◌∙◌, true≢false, eq-eqb, T, append_assoc}
 use Rattle.std.specs.Prelude.{nat_eq}
 use Rattle.std.specs.BTreeMap.{insert_entry, is_at}
 use Rattle.std.specs.Cmp.Lexicographic.{bytes_decides, nat_list_cmp_total, slice_cmp}
@@ -19,9 +19,9 @@ use Rattle.mx_hash.specs.Views.{map_of}
 use Rattle.mx_hash.proofs.TableLaws.{find_by_test, flipped_test, found, same_bytes, same_numbers, same_test}
 use Rattle.mx_msgpack.proofs.Options.{same_some}
 use Rattle.mx_space.specs.declared.held_entry.HeldEntry.{HeldEntry}
-use Rattle.mx_space.specs.Entries.{IndexEntry, has_entry, with_entry}
+use Rattle.mx_entries.specs.Entries.{IndexEntry, has_entry, with_entry}
 use Rattle.mx_space.specs.HashIndexes.{ArePlaced, hash_index_entries, hash_number, held_entries, held_entry, key_hash, under_own}
-use Rattle.mx_space.proofs.SortedLaws.{ascending, entries_without, find_is, put_is, without_is}
+use Rattle.mx_entries.proofs.SortedLaws.{ascending, entries_without, find_is, put_is, without_is}
 
 abbrev pub Held : Type 0
 Held = List (ℕ × HeldEntry)
@@ -234,9 +234,6 @@ one_less before after key each =
     ap entries (same_numbers after (finite.remove before key) (λ q. each q ∙ sym (get-remove nat_list_cmp_total before key q)))
     ∙ entries_without nat_list_cmp_total (slice_cmp-IsAntisymmetric nat_cmp-IsAntisymmetric) before key ∙ without_is key (entries before) (entries_sorted before)
 
-abbrev no_value : Option (List ℕ)
-no_value = None
-
 abbrev apart_from : (key other : List ℕ) → Bool
 apart_from key other = not (eq_by_cmp (slice_cmp nat_cmp) key other)
 
@@ -253,15 +250,6 @@ look_without key others sorted q =
     by_test : (same : Bool) → cond (not same) (lookup (bytes_eq q) others) None ≡ cond same None (lookup (bytes_eq q) others)
     by_test true = refl
     by_test false = refl
-
-pub look_none : (key : List ℕ) (others : List IndexEntry) → length others ≤ 0 → (q : List ℕ)
-    → lookup (bytes_eq q) others ≡ cond (eq_by_cmp (slice_cmp nat_cmp) q key) None (lookup (bytes_eq q) others)
-look_none key [] none q = by_test (eq_by_cmp (slice_cmp nat_cmp) q key)
-  where
-    by_test : (tied : Bool) → no_value ≡ cond tied None no_value
-    by_test true = refl
-    by_test false = refl
-look_none key (entry ∷ others) none q = absurd (omega (arith, none))
 
 module _ (parts : ℕ) (held : Held) (others : List IndexEntry) (distinct : IsDistinct nat_eq (keys_of held)) (placed : ArePlaced parts held) (key : List ℕ) where
   -- what is held now has no entry under the key, and else what it had; and so have the others

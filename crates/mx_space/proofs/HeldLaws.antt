@@ -1,21 +1,77 @@
 -- What memory has of a state after an edit of one of its spaces.
-use Rattle.std.proofs.Common.{◌≡◌, ℕ, Bool, true, false, cond, List, Option, Some, None, refl, sym, ap, ◌∙◌, subst, arith, eqb-true, eq-eqb}
+use Rattle.std.proofs.Common.{◌≡◌, ◌≢◌, ℕ, List, [], map, Option, Some, sym, ap, ◌∙◌, subst, Bool, true, false, cond, None, refl, arith, eqb-true, eq-eqb}
+use Rattle.std.specs.FinMap.{empty, insert}
+use Rattle.std.specs.List.{AllZip}
 use Rattle.std.specs.Prelude.{◌==◌, if◌then◌else◌}
 use Rattle.std.specs.BTreeMap.{is_at}
-use Rattle.std.specs.FinMap.{empty, insert}
 use Rattle.std.specs.Ordering.{nat_cmp}
 use Rattle.std.proofs.lemmas.Bool.Decides.{nat_tests}
-use Rattle.mx_msgpack.proofs.Options.{same_some}
+use Rattle.mx_schema.specs.declared.index_def.IndexDef.{IndexDef}
 use Rattle.mx_schema.specs.declared.schema.Schema.{Schema}
-use Rattle.mx_schema.specs.SchemaChanges.{with_schema, without_index}
-use Rattle.mx_schema.specs.State.{State, Tuples, tuples_in}
-use Rattle.mx_schema.proofs.StateLaws.{tuples_set}
+use Rattle.mx_schema.specs.RowParts.{index_place}
+use Rattle.mx_schema.specs.SchemaChecks.{indexes_with}
+use Rattle.mx_schema.specs.SchemaChanges.{indexes_without, schema_with_index, schema_without_index, with_schema, without_index}
+use Rattle.mx_schema.specs.State.{Tuples, State, tuples_in}
+use Rattle.mx_schema.specs.Stored.{StandByPrimary, StoresTuples}
 use Rattle.mx_space.specs.declared.space.Space.{Space}
-use Rattle.mx_space.specs.declared.spaces.SpaceEntry.{SpaceEntry}
-use Rattle.mx_space.specs.declared.state.State as coded
+use Rattle.mx_entries.specs.EntryChanges.{kept_without}
+use Rattle.mx_entries.specs.Entries.{IndexEntry}
+use Rattle.mx_entries.specs.KeptEntries.{StoresIndex}
 use Rattle.mx_space.specs.Kept.{StoresIndexed}
+use Rattle.mx_space.proofs.SpaceLaws.{new_space}
+use Rattle.mx_entries.proofs.AlteredLaws.{zip_insert, zip_without, zip_cleared, stand_with, stand_without}
+use Rattle.mx_msgpack.proofs.Options.{same_some}
+use Rattle.mx_schema.proofs.StateLaws.{tuples_set}
+use Rattle.mx_space.specs.declared.spaces.SpaceEntry.{SpaceEntry}
 use Rattle.mx_space.specs.Spaces.{SetsSpace, space_under}
 use Rattle.mx_space.specs.Stored.{HoldsBy, HoldsSpace, SpacesHold}
+use Rattle.std.specs.List as list
+use Rattle.mx_space.specs.declared.state.State as coded
+
+-- ---- lists
+
+module _ (was : Option Schema) (before after : Space) (all : Tuples) (stores : StoresIndexed was before all) where
+  -- a space with an index more
+  pub space_with_index : after.tuples.entries ≡ before.tuples.entries → (def : IndexDef) → (def.id.0 ≡ 0 → all ≡ empty) → after.schema ≡ schema_with_index def before.schema
+      → (index : List IndexEntry) → StoresIndex all def index
+      → (place : ℕ) → place ≡ index_place def.id.0 before.schema.indexes → after.indexes.items ≡ list.insert before.indexes.items place index
+      → StoresIndexed (Some (schema_with_index def before.schema)) after all
+  space_with_index tuples def none schema index keeps place at items = record {
+    holds = record {
+      is = ap (λ s. Some s) (sym schema);
+      keeps = subst (λ kept. StoresTuples kept all) (sym tuples) stores.holds.keeps;
+      stands = subst (λ s. StandByPrimary s all) (sym schema) (stand_with def before.schema all none stores.holds.stands);
+    };
+    indexes = subst (λ (s : Schema). AllZip (StoresIndex all) s.indexes after.indexes.items) (sym schema)
+        (subst (AllZip (StoresIndex all) (indexes_with def before.schema.indexes)) (sym (items ∙ ap (λ p. list.insert before.indexes.items p index) at))
+        (zip_insert (StoresIndex all) def index keeps before.schema.indexes before.indexes.items stores.indexes));
+  }
+
+  module _ (id : ℕ) (schema : after.schema ≡ schema_without_index id before.schema) where
+    -- a space with an index less that isn't the primary one
+    pub space_without_index : id ≢ 0 → after.tuples.entries ≡ before.tuples.entries → after.indexes.items ≡ kept_without id before.schema.indexes before.indexes.items
+        → StoresIndexed (Some (schema_without_index id before.schema)) after all
+    space_without_index apart tuples items = record {
+      holds = record {
+        is = ap (λ s. Some s) (sym schema);
+        keeps = subst (λ kept. StoresTuples kept all) (sym tuples) stores.holds.keeps;
+        stands = subst (λ s. StandByPrimary s all) (sym schema) (stand_without id before.schema all apart stores.holds.stands);
+      };
+      indexes = subst (λ (s : Schema). AllZip (StoresIndex all) s.indexes after.indexes.items) (sym schema)
+          (subst (AllZip (StoresIndex all) (indexes_without id before.schema.indexes)) (sym items)
+          (zip_without (StoresIndex all) id before.schema.indexes before.indexes.items stores.indexes));
+    }
+
+    -- a space without its primary index, which has no tuples
+    pub space_without_primary : after.tuples.entries ≡ [] → after.indexes.items ≡ map (λ _. []) (kept_without id before.schema.indexes before.indexes.items)
+        → StoresIndexed (Some (schema_without_index id before.schema)) after empty
+    space_without_primary none items =
+        new_space after (schema_without_index id before.schema) schema none
+        (subst (AllZip (StoresIndex empty) (indexes_without id before.schema.indexes)) (sym items)
+        (zip_cleared (StoresIndex all) (indexes_without id before.schema.indexes) (kept_without id before.schema.indexes before.indexes.items)
+        (zip_without (StoresIndex all) id before.schema.indexes before.indexes.items stores.indexes)))
+
+-- ---- what memory has of a state after an edit of one of its spaces
 
 -- a space that is given tuples has them
 own_tuples : (before : State) (id : ℕ) (all : Tuples) → tuples_in (insert before id all) id ≡ all

@@ -1,116 +1,83 @@
 -- What is seen under writes, and one write more.
-use Rattle.std.proofs.Common.{◌≡◌, ℕ, Bool, true, false, cond, not, List, [], ◌∷◌, Option, Some, None, refl, sym, ap, ◌∙◌, subst, true≢false}
-use Rattle.std.specs.Prelude.{◌||◌, is_some}
-use Rattle.std.specs.declared.cmp.Ordering.{Ordering}
-use Rattle.std.specs.declared.cmp.Ordering.TheVariants.{Less, Equal, Greater}
+use Rattle.std.proofs.Common.{◌≡◌, ◌≢◌, ℕ, List, length, Option, Some, None, refl, sym, ap, ◌∙◌, subst, Bool, true, false, cond, [], true≢false}
+use Rattle.std.specs.Prelude.{is_some, ◌||◌}
+use Rattle.std.specs.FinMap.{empty, get, entries, get-empty, get-insert, insert, remove, nat_cmp-IsAntisymmetric, slice_cmp-IsAntisymmetric}
+use Rattle.std.proofs.lemmas.Bool.{ne_eqb}
 use Rattle.std.specs.BTreeMap.{is_at}
-use Rattle.std.specs.BTreeSet.{BTreeSet, contains}
 use Rattle.std.specs.Cmp.Lexicographic.{slice_cmp}
-use Rattle.std.specs.FinMap.{empty, entries, get, get-empty, get-entries, get-insert, get-remove, insert, remove, nat_cmp-IsAntisymmetric, same_map, slice_cmp-IsAntisymmetric}
-use Rattle.std.specs.FinMap.Entries.{find}
 use Rattle.std.specs.List.{list_any}
-use Rattle.std.specs.Option.{unwrap_or}
-use Rattle.std.specs.Ordering.{eq_by_cmp, is_eq, nat_cmp, ordering_reverse}
+use Rattle.std.specs.Ordering.{eq_by_cmp, nat_cmp}
 use Rattle.mx_msgpack.proofs.Options.{same_some}
 use Rattle.mx_key.specs.Keys.{Key, AreFit, key_cmp}
 use Rattle.mx_key.specs.Comparable.{comparable_of}
-use Rattle.mx_key.proofs.EncodingLaws.{bytes_order}
-use Rattle.mx_key.proofs.KeyLaws.{key_cmp-IsAntisymmetric, key_cmp_total}
 use Rattle.mx_schema.specs.declared.index_def.IndexDef.{IndexDef}
 use Rattle.mx_schema.specs.declared.schema.Schema.{Schema}
 use Rattle.mx_schema.specs.Catalogues.{index_with}
 use Rattle.mx_schema.specs.State.{Tuples}
-use Rattle.mx_schema.proofs.TakenLaws.{stored_get}
 use Rattle.mx_space.specs.declared.overlay.OverlaidSpace.{OverlaidSpace}
+use Rattle.mx_space.specs.declared.space.Space.{Space}
+use Rattle.mx_entries.specs.Built.{AreLong}
+use Rattle.mx_entries.specs.EntryChanges.{index_kept}
+use Rattle.mx_entries.specs.Entries.{IndexEntry, LeadsTo}
+use Rattle.mx_entries.specs.KeptEntries.{HoldsOneEach, StoresEntries, kept_entries}
 use Rattle.mx_space.specs.Kept.{StoresIndexed}
-use Rattle.mx_space.specs.Overlays.{IsOfKey, OwnWrites, StoresWritten, hides, under, with_write, with_writes}
-use Rattle.mx_space.proofs.EntriesLaws.{tied_is}
+use Rattle.mx_entries.specs.OwnWrites.{IsHolder, OwnWrites, under, IsOfKey, with_write}
+use Rattle.mx_space.specs.Overlays.{StoresOver, StoresWritten, hides}
+use Rattle.mx_space.proofs.HolderLaws.{index_found}
+use Rattle.mx_entries.proofs.HolderKeyLaws.{one_has}
+use Rattle.mx_entries.proofs.UnderLaws.{under_none, get-with_write, under_more, Removed, holds_key, IsSetTo, key_removed, eq_is, back_again}
+use Rattle.mx_space.proofs.SpaceLaws.{space_long}
+use Rattle.mx_entries.proofs.SeenLaws.{unique_of, unique}
+use Rattle.mx_key.proofs.KeyLaws.{key_cmp_total}
+use Rattle.mx_schema.proofs.TakenLaws.{stored_get}
+use Rattle.mx_entries.proofs.EntriesLaws.{tied_is}
+
+-- ---- the tuples that a view shows, and the one that has a key in a unique index
+
+-- a key is hidden where it was written
+pub hides_written : (schema : Option Schema) (over : OverlaidSpace) (written : OwnWrites) (key : Key) (bytes : List ℕ) → StoresWritten schema over written → AreFit key → bytes ≡ comparable_of key
+    → hides over bytes ≡ is_some (get written key)
+hides_written schema over written key bytes stores fit is = ap (hides over) is ∙ stores.keys key fit
+
+-- what is written is of the same space
+pub same_schema : (schema : Option Schema) (space : Space) (over : OverlaidSpace) (all : Tuples) (written : OwnWrites) → StoresIndexed schema space all → StoresWritten schema over written
+    → space.schema ≡ over.own.schema
+same_schema schema space over all written stores own = same_some space.schema over.own.schema (sym stores.holds.is ∙ own.own.holds.is)
+
+-- so it has the same indexes, and its own tuples
+pub index_of_own : (schema : Option Schema) (space : Space) (over : OverlaidSpace) (all : Tuples) (written : OwnWrites) (id : ℕ) (def : IndexDef) (own : Space)
+    → StoresIndexed schema space all → StoresWritten schema over written → own ≡ over.own → index_with id space.schema.indexes ≡ Some def → index_with id own.schema.indexes ≡ Some def
+index_of_own schema space over all written id def own stores writes same there =
+    subst (λ (s : Schema). index_with id s.indexes ≡ Some def) (same_schema schema space over all written stores writes ∙ ap (λ (s : Space). s.schema) (sym same)) there
+
+pub stores_own : (schema : Option Schema) (over : OverlaidSpace) (written : OwnWrites) (own : Space) → StoresWritten schema over written → own ≡ over.own
+    → StoresIndexed schema own (under written empty)
+stores_own schema over written own writes same = subst (λ s. StoresIndexed schema s (under written empty)) (sym same) writes.own
+
+-- and its keys are as long
+pub own_long : (schema : Option Schema) (space : Space) (over : OverlaidSpace) (all : Tuples) (written : OwnWrites) (primary : IndexDef) → StoresIndexed schema space all
+    → StoresWritten schema over written → index_with 0 space.schema.indexes ≡ Some primary → AreLong (length primary.key) (under written empty)
+own_long schema space over all written primary stores writes first =
+    space_long schema over.own (under written empty) primary writes.own (index_of_own schema space over all written 0 primary over.own stores writes refl first)
+
+-- the primary key that the first entry from a key leads to
+pub holder_is : (schema : Option Schema) (space : Space) (all : Tuples) (def : IndexDef) (wanted : Key) → StoresIndexed schema space all
+    → (long : ℕ) → AreLong long all → index_with def.id.0 space.schema.indexes ≡ Some def → HoldsOneEach def all → def.id.0 ≢ 0 → AreFit wanted
+    → (kept : List IndexEntry) → Some kept ≡ index_kept def.id.0 space.schema.indexes space.indexes.items
+    → (key own : List ℕ) → key ≡ comparable_of wanted → LeadsTo key kept (Some own) → IsHolder def all wanted own
+holder_is schema space all def wanted stores long whole there each apart fit kept is key own key_is leads =
+    let index = index_found schema space all def wanted stores long whole there each fit apart (Some kept) is in
+    let keeps : StoresEntries kept (kept_entries def all) = subst (λ one. StoresEntries one (kept_entries def all)) (same_some index.0 kept (sym index.1)) index.2 in
+    let unique = unique_of def all apart each in
+    let found = one_has def unique.0 all unique.1 unique.2 wanted long whole (ne_eqb def.id.0 0 apart) fit kept keeps key key_is own leads in
+    record { own = found.0; fit = found.1; is = found.2; holds = found.3 }
+
+pub no_writes : (all : Tuples) (written : OwnWrites) (shown : Option OverlaidSpace) (schema : Option Schema) → StoresOver schema shown written → shown ≡ None → under written all ≡ all
+no_writes all written shown schema over none =
+    let nothing : written ≡ empty = subst (λ o. StoresOver schema o written) none over in
+    ap (λ w. under w all) nothing ∙ under_none all
 
 -- ---- what is seen under a key
-
-get-with_write : (all : Tuples) (key : Key) (write : Option (List ℕ)) (q : Key) → get (with_write all key write) q ≡ cond (eq_by_cmp key_cmp q key) write (get all q)
-get-with_write all key None q = get-remove key_cmp_total all key q
-get-with_write all key (Some tuple) q = get-insert key_cmp_total all key tuple q
-
-get-with_writes : (writes : List (Key × Option (List ℕ))) (all : Tuples) (q : Key) → get (with_writes writes all) q ≡ unwrap_or (find key_cmp q writes) (get all q)
-get-with_writes [] all q = refl
-get-with_writes (write ∷ others) all q =
-    get-with_write (with_writes others all) write.0 write.1 q ∙ by_test (eq_by_cmp key_cmp q write.0) (get-with_writes others all q)
-  where
-    by_test : (b : Bool) → get (with_writes others all) q ≡ unwrap_or (find key_cmp q others) (get all q)
-        → cond b write.1 (get (with_writes others all) q) ≡ unwrap_or (cond b (Some write.1) (find key_cmp q others)) (get all q)
-    by_test true later = refl
-    by_test false later = later
-
--- what was written, else what is there
-pub get-under : (written : OwnWrites) (all : Tuples) (q : Key) → get (under written all) q ≡ unwrap_or (get written q) (get all q)
-get-under written all q = get-with_writes (entries written) all q ∙ ap (λ o. unwrap_or o (get all q)) (sym (get-entries written q))
-
--- under a write more
-pub under_more : (written : OwnWrites) (all : Tuples) (key : Key) (write : Option (List ℕ)) → under (insert written key write) all ≡ with_write (under written all) key write
-under_more written all key write =
-    same_map key_cmp_total key_cmp-IsAntisymmetric (under (insert written key write) all) (with_write (under written all) key write)
-    (λ q. get-under (insert written key write) all q ∙ ap (λ o. unwrap_or o (get all q)) (get-insert key_cmp_total written key write q)
-    ∙ by_test q (eq_by_cmp key_cmp q key) ∙ sym (get-with_write (under written all) key write q))
-  where
-    by_test : (q : Key) (b : Bool) → unwrap_or (cond b (Some write) (get written q)) (get all q) ≡ cond b write (get (under written all) q)
-    by_test q true = refl
-    by_test q false = sym (get-under written all q)
-
--- under no writes
-pub under_none : (all : Tuples) → under empty all ≡ all
-under_none all =
-    same_map key_cmp_total key_cmp-IsAntisymmetric (under empty all) all
-    (λ q. get-under empty all q ∙ ap (λ o. unwrap_or o (get all q)) (get-empty key_cmp q))
-
--- ---- the keys that were taken out
-
-abbrev pub Removed : Type 0
-Removed = BTreeSet (List ℕ)
-
-abbrev pub holds_key : Removed → List ℕ → Bool
-holds_key removed bytes = contains (slice_cmp nat_cmp) removed bytes
-
--- one key has another answer
-abbrev pub IsSetTo : (before after : Removed) → List ℕ → Bool → Type 0
-IsSetTo before after bytes answer = (q : List ℕ) → holds_key after q ≡ cond (is_at (slice_cmp nat_cmp bytes) q) answer (holds_key before q)
-
-tie_turns : (o : Ordering) → is_eq (ordering_reverse o) ≡ is_eq o
-tie_turns Less = refl
-tie_turns Equal = refl
-tie_turns Greater = refl
-
-same_tie : (key q : Key) → AreFit key → AreFit q → is_at (slice_cmp nat_cmp (comparable_of key)) (comparable_of q) ≡ eq_by_cmp key_cmp q key
-same_tie key q fit fits = ap is_eq (bytes_order key q fit fits) ∙ sym (tie_turns (key_cmp key q)) ∙ ap is_eq (sym (key_cmp_total.antisymm q key))
-
--- a key that was taken out
-pub key_removed : (before after : Removed) (key : Key) (bytes : List ℕ) → AreFit key → bytes ≡ comparable_of key → IsSetTo before after bytes true
-    → (q : Key) → AreFit q → holds_key after (comparable_of q) ≡ cond (eq_by_cmp key_cmp q key) true (holds_key before (comparable_of q))
-key_removed before after key bytes fit is sets q fits =
-    sets (comparable_of q)
-    ∙ ap (λ b. cond (is_at (slice_cmp nat_cmp b) (comparable_of q)) true (holds_key before (comparable_of q))) is
-    ∙ ap (λ b. cond b true (holds_key before (comparable_of q))) (same_tie key q fit fits)
-
-pub eq_is : (o : Ordering) → is_eq o ≡ true → o ≡ Equal
-eq_is Less e = absurd cc
-eq_is Equal e = refl
-eq_is Greater e = absurd cc
-
-pub not_held : (held : Bool) → true ≡ not held → held ≡ false
-not_held true new = absurd (true≢false new)
-not_held false new = refl
-
--- a new key that is taken back
-back_again : (before middle after : Removed) (bytes : List ℕ) → holds_key before bytes ≡ false → IsSetTo before middle bytes true → IsSetTo middle after bytes false
-    → (q : List ℕ) → holds_key after q ≡ holds_key before q
-back_again before middle after bytes new put taken q =
-    taken q ∙ ap (cond (is_at (slice_cmp nat_cmp bytes) q) false) (put q) ∙ by_test (is_at (slice_cmp nat_cmp bytes) q) refl
-  where
-    by_test : (b : Bool) → is_at (slice_cmp nat_cmp bytes) q ≡ b → cond b false (cond b true (holds_key before q)) ≡ holds_key before q
-    by_test true tied = sym (ap (holds_key before) (sym (slice_cmp-IsAntisymmetric nat_cmp-IsAntisymmetric bytes q (eq_is (slice_cmp nat_cmp bytes q) tied))) ∙ new)
-    by_test false apart = refl
-
--- ---- what memory has of the writes
 
 -- own tuples and the keys that were taken out tell which keys were written
 hides_by : (schema : Option Schema) (over : OverlaidSpace) (tuples : Tuples) (key : Key) → StoresIndexed schema over.own tuples → AreFit key

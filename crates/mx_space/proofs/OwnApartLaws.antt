@@ -20,13 +20,16 @@ use Rattle.mx_schema.specs.Stored.{StoredTuple, stored_tuple}
 use Rattle.mx_space.specs.declared.overlay.OverlaidSpace.{OverlaidSpace}
 use Rattle.mx_space.specs.declared.own_changes.Overlay.{Overlay}
 use Rattle.mx_space.specs.declared.tuple_changes.TupleChange.{TupleChange}
-use Rattle.mx_space.specs.Overlays.{IsOfKey, OwnWrites, StoresOver, StoresWritten, under}
-use Rattle.mx_space.specs.OwnChanges.{HoldsOwn, overlaid, state_with_own, written_by}
+use Rattle.mx_entries.specs.OwnWrites.{IsOfKey, OwnWrites, under}
+use Rattle.mx_space.specs.Overlays.{StoresOver, StoresWritten}
+use Rattle.mx_space.specs.OwnChanges.{HoldsOwn, overlaid}
+use Rattle.mx_entries.specs.OwnStates.{state_with_own, written_by}
 use Rattle.mx_space.specs.OwnCommit.{AreOrdered, changes_in, is_gone, put_change, puts_in, removal, removals_in}
-use Rattle.mx_space.specs.Reserves.{AreApart, IsApart, MayStand, PlainChange, SpellsChange, state_with_all}
+use Rattle.mx_entries.specs.PlainChanges.{AreApart, IsApart, MayStand, PlainChange, state_with_all}
+use Rattle.mx_space.specs.Reserves.{SpellsChange}
 use Rattle.mx_space.proofs.OwnCommitLaws.{OwnEntry, all_both, all_filtered, all_mapped, all_pass, all_weaker, below_apart, of_space, of_spaces, other_number, spelled_fit, spelled_is, told, told_of, told_whole, written_told}
 use Rattle.mx_space.proofs.OwnHeldLaws.{at_number}
-use Rattle.mx_space.proofs.OwnOrderLaws.{IsWritten, all_as_own, all_written, get-reversed, same_states, written_may_stand}
+use Rattle.mx_entries.proofs.OwnOrderLaws.{IsWritten, all_as_own, all_written, get-reversed, same_states, written_may_stand}
 
 -- ---- changes as bytes that are apart
 

@@ -22,14 +22,16 @@ use Rattle.mx_schema.specs.Stored.{StoredTuple}
 use Rattle.mx_schema.proofs.TakenLaws.{stored_get}
 use Rattle.mx_space.specs.declared.overlay.OverlaidSpace.{OverlaidSpace}
 use Rattle.mx_space.specs.declared.tuple_changes.TupleChange.{TupleChange}
-use Rattle.mx_space.specs.Overlays.{OwnWrites, StoresWritten, hides, under}
-use Rattle.mx_space.specs.OwnChanges.{written_by}
+use Rattle.mx_entries.specs.OwnWrites.{OwnWrites, under}
+use Rattle.mx_space.specs.Overlays.{StoresWritten, hides}
+use Rattle.mx_entries.specs.OwnStates.{written_by}
 use Rattle.mx_space.specs.OwnCommit.{changes_in, is_gone, put_change, puts_in, removal, removals_in}
-use Rattle.mx_space.specs.Reserves.{PlainChange, SpellsChange}
-use Rattle.mx_space.proofs.OverlayLaws.{eq_is, get-under}
-use Rattle.mx_space.proofs.OwnChangeLaws.{turned}
+use Rattle.mx_entries.specs.PlainChanges.{PlainChange}
+use Rattle.mx_space.specs.Reserves.{SpellsChange}
+use Rattle.mx_entries.proofs.UnderLaws.{eq_is, get-under}
+use Rattle.mx_entries.proofs.OwnStateLaws.{turned}
 use Rattle.mx_space.proofs.OwnHeldLaws.{at_number}
-use Rattle.mx_space.proofs.OwnOrderLaws.{get-written, written_at, writes_there}
+use Rattle.mx_entries.proofs.OwnOrderLaws.{get-written, written_at, writes_there}
 
 -- ---- one change after the other
 

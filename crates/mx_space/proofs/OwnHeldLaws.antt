@@ -1,26 +1,61 @@
 -- What memory holds of own changes after one more.
-use Rattle.std.proofs.Common.{◌≡◌, ◌≢◌, ℕ, Bool, true, false, cond, List, ◌∷◌, Option, Some, None, refl, sym, ap, ◌∙◌, subst, arith, eqb-true, eq-eqb, true≢false}
-use Rattle.std.specs.Prelude.{◌==◌, if◌then◌else◌, is_some}
-use Rattle.std.specs.BTreeMap as tree
+use Rattle.std.proofs.Common.{◌≡◌, ℕ, ap, ◌∙◌, List, Option, inl, inr, sym, subst, ◌≢◌, Bool, true, false, cond, ◌∷◌, Some, None, refl, arith, eqb-true, eq-eqb, true≢false}
+use Rattle.std.specs.Prelude.{◌⊎◌, ◌==◌, if◌then◌else◌, is_some}
+use Rattle.std.specs.FinMap.{empty, get, get-empty, get-insert, insert}
+use Rattle.std.specs.List.{AllByRecursion}
 use Rattle.std.specs.BTreeMap.{BTreeMap, is_at}
 use Rattle.std.specs.Cmp.{tied_itself}
-use Rattle.std.specs.FinMap.{empty, get, get-empty, get-insert, insert}
 use Rattle.std.specs.Ordering.{is_eq, nat_cmp}
 use Rattle.std.proofs.lemmas.Bool.Decides.{nat_tests}
-use Rattle.mx_key.specs.Keys.{Key, key_cmp}
-use Rattle.mx_key.proofs.KeyLaws.{key_cmp_total}
+use Rattle.mx_msgpack.specs.Readers.{◌>>=◌}
+use Rattle.mx_schema.specs.Catalogues.{schema_of}
+use Rattle.mx_schema.specs.State.{State, tuples_in}
+use Rattle.mx_space.specs.declared.state_view.StateView.{StateView}
+use Rattle.mx_entries.specs.OwnWrites.{under, OwnWrites}
+use Rattle.mx_entries.specs.OwnStates.{written_by}
+use Rattle.mx_space.specs.OwnChanges.{HoldsView, HoldsOwn, overlaid}
+use Rattle.mx_entries.proofs.OwnStateLaws.{tuples_with_own, schema_with_own, same_or_none, stand_too}
 use Rattle.mx_schema.specs.declared.schema.Schema.{Schema}
 use Rattle.mx_space.specs.declared.overlay.OverlaidSpace.{OverlaidSpace}
 use Rattle.mx_space.specs.declared.own_changes.Overlay.{Overlay}
-use Rattle.mx_schema.specs.State.{State, tuples_in}
+use Rattle.mx_space.specs.Overlays.{StoresOver, StoresWritten}
+use Rattle.mx_entries.specs.PlainChanges.{PlainChange, MayStand}
+use Rattle.mx_key.specs.Keys.{Key, key_cmp}
+use Rattle.mx_key.proofs.KeyLaws.{key_cmp_total}
 use Rattle.mx_space.specs.declared.space.Space.{Space}
-use Rattle.mx_space.specs.declared.state.State as coded
 use Rattle.mx_space.specs.Kept.{StoresIndexed}
 use Rattle.mx_space.specs.Spaces.{space_under}
 use Rattle.mx_space.specs.Stored.{HoldsBy, HoldsSpace}
-use Rattle.mx_space.specs.Overlays.{OwnWrites, StoresOver, StoresWritten}
-use Rattle.mx_space.specs.OwnChanges.{HoldsOwn, overlaid, written_by}
-use Rattle.mx_space.specs.Reserves.{MayStand, PlainChange}
+use Rattle.std.specs.BTreeMap as tree
+use Rattle.mx_space.specs.declared.state.State as coded
+
+-- ---- a state under own changes: its tuples, what describes its spaces, and what memory holds of the changes
+
+module _ (view : StateView) (seen : State) (holds : HoldsView view seen) where
+  -- a space has its tuples under the own writes in it
+  pub tuples_seen : (space : ℕ) → tuples_in seen space ≡ under (written_by space holds.own) (tuples_in holds.base space)
+  tuples_seen space = ap (λ s. tuples_in s space) holds.is ∙ tuples_with_own holds.base holds.own space
+
+  -- the state under the writes describes each space
+  pub schema_seen : (space : ℕ) → schema_of seen space ≡ schema_of holds.base space
+  schema_seen space = ap (λ s. schema_of s space) holds.is ∙ schema_with_own holds.base holds.own holds.plain space
+
+-- ---- own changes stand under any descriptions that are the same for the spaces of the changes
+
+-- own changes stand under any descriptions that are the same for the spaces of the changes
+pub same_schemas : (one other : ℕ → Option Schema) (overlay : Overlay) (own : List PlainChange) → HoldsOwn one overlay own
+    → AllByRecursion (λ change. one change.space ≡ other change.space) own → HoldsOwn other overlay own
+same_schemas one other overlay own holds same = record {
+  each = λ space. by_space space (same_or_none one other space own same);
+  none = holds.none;
+  stand = stand_too one other own same holds.stand;
+}
+  where
+    by_space : (space : ℕ) → (one space ≡ other space) ⊎ (written_by space own ≡ empty) → StoresOver (other space) (overlaid space overlay) (written_by space own)
+    by_space space (inl is) = subst (λ s. StoresOver s (overlaid space overlay) (written_by space own)) is (holds.each space)
+    by_space space (inr none) = subst (λ (o : Option OverlaidSpace). StoresOver (other space) o (written_by space own)) (sym (holds.none space none)) none
+
+-- ---- what memory holds of own changes after one more
 
 pub at_number : (a b : ℕ) → is_at (nat_cmp a) b ≡ (a == b)
 at_number a b = grind (arith, nat_tests)

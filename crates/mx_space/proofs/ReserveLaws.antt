@@ -20,16 +20,15 @@ use Rattle.mx_space.specs.declared.space.Space.{Space}
 use Rattle.mx_space.specs.declared.spaces.SpaceEntry.{SpaceEntry}
 use Rattle.mx_space.specs.declared.state.State as coded
 use Rattle.mx_space.specs.declared.tuple_changes.TupleChange.{TupleChange}
-use Rattle.mx_space.specs.Entries.{IndexEntry}
-use Rattle.mx_space.specs.Kept.{StoresByNumber, StoresIndex}
-use Rattle.mx_space.specs.Reserved.{Coming, Content, EditsAll, HoldsReserved, IsFree, StoresComing, StoresComingByNumber, StoresReserved}
-use Rattle.mx_space.specs.Reserved.{IsStepOf, all_released, changed_at, coming_tuples, content_of, content_under, content_installed, content_readied, tuples_with}
-use Rattle.mx_space.specs.Reserves.{AreApart, AreReady, PlainChange, IsApart, IsReadied, IsReserved, MayStand, SpellsChange, own_changes, state_with, state_with_all}
+use Rattle.mx_entries.specs.Entries.{IndexEntry}
+use Rattle.mx_entries.specs.KeptEntries.{StoresByNumber, StoresIndex}
+use Rattle.mx_entries.specs.PlainChanges.{Coming, AreApart, PlainChange, IsApart, MayStand, own_changes, state_with, state_with_all}
+use Rattle.mx_space.specs.Reserved.{Content, EditsAll, HoldsReserved, IsFree, StoresComing, StoresComingByNumber, StoresReserved, IsStepOf, all_released, changed_at, coming_tuples, content_of, content_under, content_installed, content_readied, tuples_with}
+use Rattle.mx_space.specs.Reserves.{AreReady, IsReadied, IsReserved, SpellsChange}
 use Rattle.mx_space.specs.Spaces.{space_under}
 use Rattle.mx_space.specs.Stored.{HoldsBy, HoldsSpace, SpacesHold}
-use Rattle.mx_space.proofs.ComingLaws.{AreComingLong, coming_found}
-use Rattle.mx_space.proofs.KeyMapLaws.{untied}
-use Rattle.mx_space.proofs.ReadiedLaws.{installed_stores, put_long, readied_stores}
+use Rattle.mx_space.proofs.ReadiedLaws.{AreComingLong, coming_found, installed_stores, put_long, readied_stores}
+use Rattle.mx_entries.proofs.KeyMapLaws.{untied}
 
 -- ---- no change is ready
 

@@ -24,23 +24,28 @@ use Rattle.mx_schema.proofs.TakenLaws.{stored_get}
 use Rattle.mx_space.specs.declared.overlay.OverlaidSpace.{OverlaidSpace}
 use Rattle.mx_space.specs.declared.pick.Source.TheVariants as source
 use Rattle.mx_space.specs.declared.space.Space.{Space}
-use Rattle.mx_space.specs.Built.{AreLong}
-use Rattle.mx_space.specs.Changes.{index_kept}
-use Rattle.mx_space.specs.Entries.{IndexEntry}
-use Rattle.mx_space.specs.Kept.{StoresByNumber, StoresEntries, StoresIndexed, entry_bytes, kept_entries}
-use Rattle.mx_space.specs.Overlays.{OwnWrites, StoresWritten, hides, under}
-use Rattle.mx_space.specs.Selecting.{AreFitEntries, key_in_index, indexed_row, row_of, tuple_stored}
-use Rattle.mx_space.specs.ShownRows.{is_shown, merged}
-use Rattle.mx_space.proofs.EntriesLaws.{entry_is_of}
-use Rattle.mx_space.proofs.HolderLaws.{fit_behind}
-use Rattle.mx_space.proofs.IndexScanLaws.{in_range, index_fits, rows_in}
-use Rattle.mx_space.proofs.MemberLaws.{each_is_found}
-use Rattle.mx_space.proofs.MergedLaws.{all-filter, merged_in_range, row_by_side}
-use Rattle.mx_space.proofs.PartLaws.{all_parts}
-use Rattle.mx_space.proofs.PickLaws.{HoldsItsKeys, fit_ends, kept_in_range}
-use Rattle.mx_space.proofs.ShownLaws.{entries_own, entries_shown, filter_as, map_ordered, tuples_own, tuples_shown, unwritten}
-use Rattle.mx_space.proofs.SpaceLaws.{index_there, space_long}
-use Rattle.mx_space.proofs.ViewLaws.{hides_written, index_of_own, not_some, not_written, was_written}
+use Rattle.mx_entries.specs.Built.{AreLong}
+use Rattle.mx_entries.specs.EntryChanges.{index_kept}
+use Rattle.mx_entries.specs.Entries.{IndexEntry}
+use Rattle.mx_entries.specs.KeptEntries.{StoresByNumber, StoresEntries, entry_bytes, kept_entries}
+use Rattle.mx_space.specs.Kept.{StoresIndexed}
+use Rattle.mx_entries.specs.OwnWrites.{OwnWrites, under}
+use Rattle.mx_space.specs.Overlays.{StoresWritten, hides}
+use Rattle.mx_entries.specs.Windows.{AreFitEntries, key_in_index, indexed_row, tuple_stored}
+use Rattle.mx_space.specs.Selecting.{row_of}
+use Rattle.mx_space.specs.ShownRows.{is_shown}
+use Rattle.mx_entries.specs.MergedRows.{merged}
+use Rattle.mx_entries.proofs.EntriesLaws.{entry_is_of}
+use Rattle.mx_entries.proofs.HolderKeyLaws.{fit_behind}
+use Rattle.mx_entries.proofs.IndexScanLaws.{in_range, index_fits, rows_in}
+use Rattle.mx_entries.proofs.IndexedLaws.{each_is_found}
+use Rattle.mx_entries.proofs.MergedLaws.{all-filter, merged_in_range, row_by_side}
+use Rattle.mx_entries.proofs.ShownLaws.{all_parts, entries_own, entries_shown, filter_as, map_ordered, tuples_own, tuples_shown, unwritten}
+use Rattle.mx_entries.proofs.PickLaws.{HoldsItsKeys, fit_ends, kept_in_range}
+use Rattle.mx_entries.proofs.KeptLaws.{index_there}
+use Rattle.mx_space.proofs.SpaceLaws.{space_long}
+use Rattle.mx_space.proofs.OverlayLaws.{hides_written, index_of_own}
+use Rattle.mx_entries.proofs.SeenLaws.{not_some, not_written, was_written}
 
 all_so : {X : Type 0} (P Q : X → Type 0) → ((x : X) → P x → Q x) → (xs : List X) → AllByRecursion P xs → AllByRecursion Q xs
 all_so P Q so [] all = tt

@@ -1,55 +1,91 @@
 -- A space with a tuple more, with one less, and as it was.
-use Rattle.std.proofs.Common.{◌≡◌, ◌≢◌, ◌<◌, ℕ, Bool, true, false, cond, List, [], ◌∷◌, map, length, Option, Some, None, Result, Ok, Err, refl, sym, ap, ◌∙◌, subst, arith}
-use Rattle.std.specs.Prelude.{IfSome, OnOk, ◌==◌, if◌then◌else◌}
+use Rattle.std.proofs.Common.{◌≡◌, ℕ, suc, List, [], ◌∷◌, length, drop, map, Option, refl, ap, ◌∙◌, arith, ◌++◌, sym, subst, append-nil, ◌≢◌, ◌<◌, Some, None, Result, Ok, Err, Bool, true, false}
+use Rattle.std.specs.Prelude.{Vec, IfSome, OnOk, ◌==◌, if◌then◌else◌}
 use Rattle.std.specs.Vec.{with_items}
+use Rattle.std.proofs.lemmas.List.{length-map, take_at, append_assoc}
+use Rattle.std.specs.List.{AllZip, AllByRecursion}
 use Rattle.std.specs.BTreeMap.{insert_entry, is_at}
 use Rattle.std.specs.Cmp.Lexicographic.{slice_cmp}
-use Rattle.std.specs.FinMap.{empty, entries, from_entries, get, get-remove, insert, remove, same_map}
-use Rattle.std.specs.List.{AllZip}
+use Rattle.std.specs.FinMap.{empty, entries, get, insert, remove}
 use Rattle.std.specs.Map.{remove_entry}
-use Rattle.std.specs.Ordering.{eq_by_cmp, nat_cmp}
+use Rattle.std.specs.Ordering.{nat_cmp}
+use Rattle.mx_space.specs.declared.change.Change.{Change}
+use Rattle.mx_space.specs.Changes.{all_changed, all_without, Puts, Removes}
+use Rattle.mx_entries.specs.Entries.{IndexEntry}
 use Rattle.mx_tuple.specs.Fields.{tuple_of}
-use Rattle.mx_key.specs.Keys.{Key, AreFit, key_cmp}
+use Rattle.mx_key.specs.Keys.{Key, AreFit}
 use Rattle.mx_key.specs.Comparable.{comparable_of}
-use Rattle.mx_key.proofs.KeyLaws.{key_cmp-IsAntisymmetric, key_cmp_total}
 use Rattle.mx_schema.specs.declared.index_def.IndexDef.{IndexDef}
 use Rattle.mx_schema.specs.declared.schema.Schema.{Schema}
-use Rattle.mx_schema.specs.Catalogues.{StandByKey, index_with}
-use Rattle.mx_schema.specs.Picks.{Indexed}
-use Rattle.mx_schema.specs.State.{Tuples, key_in}
-use Rattle.mx_schema.specs.Stored.{StandByPrimary, StoredTuple, StoresSpace, StoresTuples, stored_tuple}
+use Rattle.mx_schema.specs.Catalogues.{StandByKey, index_with, schema_of}
+use Rattle.mx_schema.specs.State.{Tuples, key_in, State, tuples_in}
+use Rattle.mx_schema.specs.Stored.{StandByPrimary, StoresSpace}
 use Rattle.mx_schema.proofs.StateLaws.{none_stand, stands_after}
-use Rattle.mx_schema.proofs.StoredLaws.{no_entries, stores_put}
-use Rattle.mx_schema.proofs.StoredLaws as stored
+use Rattle.mx_schema.proofs.StoredLaws.{stores_put, each_none}
 use Rattle.mx_schema.proofs.TakenLaws.{each_found, each_left, stores_left}
 use Rattle.mx_schema.proofs.PartLaws.{key_length, stand_whole}
-use Rattle.mx_space.specs.declared.change.Change.{Change}
 use Rattle.mx_space.specs.declared.space.Space.{Space}
-use Rattle.mx_space.specs.Changes.{Puts, Removes, all_changed, all_without, index_kept}
-use Rattle.mx_space.specs.Entries.{IndexEntry}
-use Rattle.mx_space.specs.Built.{AreLong}
-use Rattle.mx_space.specs.Kept.{StoresByNumber, StoresEntries, StoresIndex, StoresIndexed, kept_entries, kept_entry}
-use Rattle.mx_space.proofs.BytesLaws.{stores_none}
+use Rattle.mx_entries.specs.Built.{AreLong}
+use Rattle.mx_entries.specs.KeptEntries.{StoresIndex}
+use Rattle.mx_space.specs.Kept.{StoresIndexed}
+use Rattle.mx_entries.proofs.BytesLaws.{stores_none}
 use Rattle.mx_space.proofs.ChangeLaws.{put_in_all, removed_from_all}
-use Rattle.mx_space.proofs.EntriesLaws.{tied_is}
-use Rattle.mx_space.proofs.ItemLaws.{items_changed}
+use Rattle.mx_entries.proofs.KeptLaws.{kept_alone}
+use Rattle.mx_schema.specs.Sound.{AreIndexed, AreKeyed, AreUnique, HaveKeys, IsSound}
+use Rattle.mx_schema.proofs.StoredLaws as stored
+
+-- ---- the entries of each index after they were changed in place
+
+changed_long : (primary : List ℕ) (changes : List Change) (kept : List (List IndexEntry)) → length (all_changed primary changes kept) ≡ length kept
+changed_long primary [] kept = refl
+changed_long primary (change ∷ changes) [] = refl
+changed_long primary (change ∷ changes) (one ∷ others) = ap (λ n. suc n) (changed_long primary changes others)
+
+without_long : (keys : List (Option (List ℕ))) (kept : List (List IndexEntry)) → length (all_without keys kept) ≡ length kept
+without_long [] kept = refl
+without_long (key ∷ keys) [] = refl
+without_long (key ∷ keys) (one ∷ others) = ap (λ n. suc n) (without_long keys others)
+
+items_now : {X Z : Type 0} (v : Vec X Z) (now made : List X) → now ≡ made → length made ≡ length v.items → (with_items v now).items ≡ made
+items_now v now made is long =
+    let same : length now ≡ length v.items = ap length is ∙ long in
+    take_at now (drop (length now) v.items) v.len (omega (arith, same, v.ok.0)) ∙ is
+
+module _ {Z : Type 0} (v : Vec (List IndexEntry) Z) where
+  pub items_kept : (now : List (List IndexEntry)) → now ≡ v.items → (with_items v now).items ≡ v.items
+  items_kept now is = items_now v now v.items is refl
+
+  pub items_changed : (now : List (List IndexEntry)) (primary : List ℕ) (changes : List Change) → now ≡ all_changed primary changes v.items
+      → (with_items v now).items ≡ all_changed primary changes v.items
+  items_changed now primary changes is = items_now v now (all_changed primary changes v.items) is (changed_long primary changes v.items)
+
+  pub items_without : (now : List (List IndexEntry)) (keys : List (Option (List ℕ))) → now ≡ all_without keys v.items → (with_items v now).items ≡ all_without keys v.items
+  items_without now keys is = items_now v now (all_without keys v.items) is (without_long keys v.items)
+
+  pub items_cleared : (now : List (List IndexEntry)) → now ≡ map (λ _. []) v.items → (with_items v now).items ≡ map (λ _. []) v.items
+  items_cleared now is = items_now v now (map (λ _. []) v.items) is (length-map v.items (λ _. []))
+
+-- ---- a list that is made item by item of another one
+
+module _ {A B : Type 0} (R : A → B → Type 0) where
+  -- those that were made, with any that meet the rest, meet all
+  abbrev pub IsMade : (all left : List A) → (made : List B) → Type 0
+  IsMade all left made = (rest : List B) → AllZip R left rest → AllZip R all (made ++ rest)
+
+  pub none_made : (all left : List A) (made : List B) → made ≡ [] → left ≡ all → IsMade all left made
+  none_made all left made none same rest meet = subst (λ m. AllZip R all (m ++ rest)) (sym none) (subst (λ l. AllZip R l rest) same meet)
+
+  pub one_made : (all left others : List A) (made after : List B) (from : A) (one : B) → left ≡ from ∷ others → after ≡ made ++ one ∷ [] → R from one
+      → IsMade all left made → IsMade all others after
+  one_made all left others made after from one next more meets so_far rest meet =
+      subst (AllZip R all) (sym (ap (λ m. m ++ rest) more ∙ append_assoc made (one ∷ []) rest))
+      (so_far (one ∷ rest) (subst (λ l. AllZip R l (one ∷ rest)) (sym next) (meets, meet)))
+
+  pub all_made : (all left : List A) (made : List B) → length left ≡ 0 → IsMade all left made → AllZip R all made
+  all_made all [] made over so_far = subst (AllZip R all) (append-nil made) (so_far [] tt)
+  all_made all (from ∷ left) made over so_far = absurd (omega arith)
 
 -- ---- no tuples
-
-pub no_kept : (def : IndexDef) → kept_entries def empty ≡ empty
-no_kept def = ap (λ (all : List Indexed). from_entries (map (kept_entry def) all)) no_entries
-
--- an index of no tuples has no entries
-pub nothing_kept : (def : IndexDef) (kept : List IndexEntry) → kept ≡ [] → StoresIndex empty def kept
-nothing_kept def kept none = by_number (def.id.0 == 0)
-  where
-    by_number : (first : Bool) → StoresByNumber first def empty kept
-    by_number true = none
-    by_number false = subst (StoresEntries kept) (sym (no_kept def)) (stores_none kept none)
-
--- and nothing is kept of no tuples
-pub nothing_stored : (kept : List StoredTuple) (all : Tuples) → StoresTuples kept all → all ≡ empty → kept ≡ []
-nothing_stored kept all keeps none = sym keeps.same ∙ ap (λ (t : Tuples). map stored_tuple (entries t)) none ∙ ap (map stored_tuple) no_entries
 
 -- a new space
 pub new_space : (space : Space) (schema : Schema) → space.schema ≡ schema → space.tuples.entries ≡ [] → AllZip (StoresIndex empty) schema.indexes space.indexes.items
@@ -62,22 +98,6 @@ new_space space schema same none each = record {
   };
   indexes = subst (λ (s : Schema). AllZip (StoresIndex empty) s.indexes space.indexes.items) (sym same) each;
 }
-
--- the primary index has no entries, whatever the tuples are
-kept_alone : (all other : Tuples) (defs : List IndexDef) (kept : List (List IndexEntry)) (primary : IndexDef) → length kept < 2 → AllZip (StoresIndex all) defs kept
-    → index_with 0 defs ≡ Some primary → AllZip (StoresIndex other) defs kept
-kept_alone all other [] kept primary one each there = absurd cc
-kept_alone all other (def ∷ defs) [] primary one each there = absurd each
-kept_alone all other (def ∷ []) (first ∷ []) primary one each there = (by_number (def.id.0 == 0) there each.0, tt)
-  where
-    by_number : (own : Bool) → (if own then Some def else None) ≡ Some primary → StoresByNumber own def all first → StoresByNumber own def other first
-    by_number true there none = none
-    by_number false there none = absurd cc
-kept_alone all other (def ∷ []) (first ∷ next ∷ kept) primary one each there = absurd each.1
-kept_alone all other (def ∷ second ∷ defs) (first ∷ []) primary one each there = absurd each.1
-kept_alone all other (def ∷ second ∷ defs) (first ∷ next ∷ kept) primary one each there = absurd (omega (arith, one))
-
--- ---- a write
 
 -- the primary keys have as many parts as the index of the number 0
 pub space_long : (was : Option Schema) (space : Space) (all : Tuples) (primary : IndexDef) → StoresIndexed was space all → index_with 0 space.schema.indexes ≡ Some primary
@@ -177,25 +197,35 @@ module _ (schema : Option Schema) (before : Space) (all : Tuples) (stores : Stor
       (ap (λ v. v.items) has ∙ items_changed before.indexes indexes bytes changes (changed ∙ (λ i. all_changed bytes (as_made i) (as_before i))))
   put_to_all (Err why) after indexes were made same has as_before as_made put changed = tt
 
--- nothing is removed where there is no such tuple
-pub none_removed : (all : Tuples) (key : Key) → get all key ≡ None → remove all key ≡ all
-none_removed all key none =
-    same_map key_cmp_total key_cmp-IsAntisymmetric (remove all key) all (λ q. get-remove key_cmp_total all key q ∙ by_test q (eq_by_cmp key_cmp q key) refl)
-  where
-    by_test : (q : Key) (b : Bool) → eq_by_cmp key_cmp q key ≡ b → cond b None (get all q) ≡ get all q
-    by_test q true tied = sym (ap (get all) (tied_is q key tied) ∙ none)
-    by_test q false apart = refl
+-- ---- what a sound state says of an index of a space in memory
 
--- ---- the index of a number
-
-pub index_there : (tuples : Tuples) (id : ℕ) (defs : List IndexDef) (kept : List (List IndexEntry)) (def : IndexDef) → AllZip (StoresIndex tuples) defs kept
-    → index_with id defs ≡ Some def → (one : List IndexEntry) × (index_kept id defs kept ≡ Some one) × StoresIndex tuples def one
-index_there tuples id [] kept def each is = absurd cc
-index_there tuples id (first ∷ defs) [] def each is = absurd each
-index_there tuples id (first ∷ defs) (one ∷ kept) def each is = by_test (first.id.0 == id) is (λ there. index_there tuples id defs kept def each.1 there)
+-- what each index has, that of a number has
+pub index_has : (P : IndexDef → Type 0) (id : ℕ) (defs : List IndexDef) (def : IndexDef) → index_with id defs ≡ Some def → AllByRecursion P defs → P def
+index_has P id [] def there have = absurd cc
+index_has P id (first ∷ defs) def there have = by_test (first.id.0 == id) there (λ later. index_has P id defs def later have.1)
   where
-    by_test : (b : Bool) → (if b then Some first else index_with id defs) ≡ Some def
-        → (index_with id defs ≡ Some def → (one : List IndexEntry) × (index_kept id defs kept ≡ Some one) × StoresIndex tuples def one)
-        → (found : List IndexEntry) × ((if b then Some one else index_kept id defs kept) ≡ Some found) × StoresIndex tuples def found
-    by_test true here later = let same : first ≡ def = cc in (one, refl, subst (λ (d : IndexDef). StoresIndex tuples d one) same each.0)
+    by_test : (b : Bool) → (if b then Some first else index_with id defs) ≡ Some def → (index_with id defs ≡ Some def → P def) → P def
+    by_test true here later = let same : first ≡ def = cc in subst P same have.0
     by_test false there later = later there
+
+module _ (state : State) (sound : IsSound state) (id : ℕ) (space : Space) (stores : StoresIndexed (schema_of state id) space (tuples_in state id)) where
+  indexed : AreIndexed space.schema (tuples_in state id)
+  indexed = let keyed : AreKeyed (Some space.schema) (tuples_in state id) = subst (λ s. AreKeyed s (tuples_in state id)) stores.holds.is (sound.keyed id) in keyed.2
+
+  module _ (def : IndexDef) (there : index_with def.id.0 space.schema.indexes ≡ Some def) where
+    pub have_keys : HaveKeys def (tuples_in state id)
+    have_keys = index_has (λ one. HaveKeys one (tuples_in state id)) def.id.0 space.schema.indexes def there indexed.have
+
+    pub have_unique : def.unique ≡ true → AreUnique def (tuples_in state id)
+    have_unique = index_has (λ one. one.unique ≡ true → AreUnique one (tuples_in state id)) def.id.0 space.schema.indexes def there indexed.unique
+
+  -- the primary keys have one number of parts
+  pub are_long : (long : ℕ) × AreLong long (tuples_in state id)
+  are_long = by_index (index_with 0 space.schema.indexes) refl
+    where
+      by_index : (o : Option IndexDef) → index_with 0 space.schema.indexes ≡ o → (long : ℕ) × AreLong long (tuples_in state id)
+      by_index None none = (0, subst (AreLong 0) (sym (indexed.primary none)) (each_none (λ entry. length entry.0 ≡ 0)))
+      by_index (Some primary) is = let long = primary_long (schema_of state id) space (tuples_in state id) stores in (long.0, long.1 (λ none. some_none (sym is ∙ none)))
+        where
+          some_none : Some primary ≡ None → ⊥
+          some_none e = absurd cc

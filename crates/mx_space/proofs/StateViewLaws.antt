@@ -14,15 +14,19 @@ use Rattle.mx_schema.proofs.StoredLaws.{each_none}
 use Rattle.mx_space.specs.declared.own_changes.Overlay.{Overlay}
 use Rattle.mx_space.specs.declared.state_view.StateView.{StateView}
 use Rattle.mx_space.specs.declared.view.SpaceView.{SpaceView}
-use Rattle.mx_space.specs.Built.{AreLong}
-use Rattle.mx_space.specs.Kept.{HoldsOneEach, StoresIndexed}
-use Rattle.mx_space.specs.Overlays.{StoresOver, under}
-use Rattle.mx_space.specs.OwnChanges.{HoldsOwnIn, HoldsView, ShowsTuples, overlaid_in, written_by}
-use Rattle.mx_space.specs.Reserves.{PlainChange}
+use Rattle.mx_entries.specs.Built.{AreLong}
+use Rattle.mx_entries.specs.KeptEntries.{HoldsOneEach}
+use Rattle.mx_space.specs.Kept.{StoresIndexed}
+use Rattle.mx_space.specs.Overlays.{StoresOver}
+use Rattle.mx_entries.specs.OwnWrites.{under}
+use Rattle.mx_space.specs.OwnChanges.{HoldsOwnIn, HoldsView, ShowsTuples, overlaid_in}
+use Rattle.mx_entries.specs.OwnStates.{written_by}
+use Rattle.mx_entries.specs.PlainChanges.{PlainChange}
 use Rattle.mx_space.specs.Spaces.{space_under}
 use Rattle.mx_space.specs.Stored.{HoldsSpace}
-use Rattle.mx_space.proofs.OwnChangeLaws.{index_rows_kept, schema_seen, space_rows_kept, tuples_seen}
-use Rattle.mx_space.proofs.SoundLaws.{index_has}
+use Rattle.mx_entries.proofs.OwnStateLaws.{index_rows_kept, space_rows_kept}
+use Rattle.mx_space.proofs.OwnHeldLaws.{schema_seen, tuples_seen}
+use Rattle.mx_space.proofs.SpaceLaws.{index_has}
 
 -- nothing is lent of none
 pub none_lent : {X : Type 0} (lent : Option (Bor X)) → option_copied lent ≡ None → lent ≡ None

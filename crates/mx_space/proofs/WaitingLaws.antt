@@ -15,9 +15,9 @@ use Rattle.mx_hash.proofs.TableLaws.{same_bytes, same_test}
 use Rattle.mx_key.proofs.PrefixLaws.{prefix_within}
 use Rattle.mx_msgpack.proofs.Options.{same_some}
 use Rattle.mx_space.specs.declared.held_entry.HeldEntry.{HeldEntry}
-use Rattle.mx_space.specs.Entries.{IndexEntry}
+use Rattle.mx_entries.specs.Entries.{IndexEntry}
 use Rattle.mx_space.specs.HashIndexes.{AreFronted, ArePlaced, hash_index_entries, hash_number, key_hash, under_own}
-use Rattle.mx_space.proofs.FrontedLaws.{fronted_there}
+use Rattle.mx_space.proofs.HashFindLaws.{fronted_there}
 use Rattle.mx_space.proofs.HashIndexLaws.{Held, all, get_is, one_less, tie_is}
 
 -- an entry with the index key that begins a key has its place

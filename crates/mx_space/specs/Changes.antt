@@ -1,24 +1,12 @@
 -- Only private functions and proofs need these: what a write changes in the entries of each index.
-use Rattle.std.specs.Prelude.{◌≡◌, ◌≢◌, ◌⊎◌, ℕ, Bool, true, false, List, [], ◌∷◌, Option, Some, None, ◌==◌, if◌then◌else◌}
-use Rattle.std.specs.BTreeMap.{is_at}
-use Rattle.std.specs.Cmp.Lexicographic.{slice_cmp}
-use Rattle.std.specs.Map.{remove_entry}
-use Rattle.std.specs.Ordering.{nat_cmp}
+use Rattle.std.specs.Prelude.{◌≡◌, ◌≢◌, ◌⊎◌, ℕ, Bool, true, false, List, [], ◌∷◌, Option, Some, None, ◌==◌}
 use Rattle.mx_space.specs.declared.change.Change.{Change}
 use Rattle.mx_key.specs.Comparable.{comparable_of}
 use Rattle.mx_key.specs.Keys.{Key, AreFit}
 use Rattle.mx_schema.specs.declared.index_def.IndexDef.{IndexDef}
-use Rattle.mx_space.specs.Entries.{IndexEntry, with_entry}
-use Rattle.mx_space.specs.KeptKeys.{kept_key}
-
--- the entries with one under this key, where there is a key, which leads to a primary key
-abbrev pub with_added : (added : Option (List ℕ)) → (primary : List ℕ) → List IndexEntry → List IndexEntry
-with_added None primary kept = kept
-with_added (Some key) primary kept = with_entry key primary kept
-
-abbrev pub without_key : Option (List ℕ) → List IndexEntry → List IndexEntry
-without_key None kept = kept
-without_key (Some key) kept = remove_entry (is_at (slice_cmp nat_cmp key)) kept
+use Rattle.mx_entries.specs.Entries.{IndexEntry}
+use Rattle.mx_entries.specs.KeptKeys.{kept_key}
+use Rattle.mx_entries.specs.EntryChanges.{with_added, without_key}
 
 -- the entries after a change of the tuple with this primary key
 abbrev pub changed : (primary : List ℕ) → Change → List IndexEntry → List IndexEntry
@@ -35,20 +23,6 @@ abbrev pub all_without : List (Option (List ℕ)) → List (List IndexEntry) →
 all_without [] kept = kept
 all_without (key ∷ keys) [] = []
 all_without (key ∷ keys) (one ∷ others) = without_key key one ∷ all_without keys others
-
--- the entries of the index of a number, where those of each index stand in the same order
-abbrev pub index_kept : (id : ℕ) → List IndexDef → List (List IndexEntry) → Option (List IndexEntry)
-index_kept id [] kept = None
-index_kept id (def ∷ defs) [] = None
-index_kept id (def ∷ defs) (one ∷ others) = if def.id.0 == id then Some one else index_kept id defs others
-
--- the entries of each index without those of the indexes of a number
-abbrev pub kept_without : (id : ℕ) → List IndexDef → List (List IndexEntry) → List (List IndexEntry)
-kept_without id [] kept = kept
-kept_without id (def ∷ defs) [] = []
-kept_without id (def ∷ defs) (one ∷ others) = if def.id.0 == id then kept_without id defs others else one ∷ kept_without id defs others
-
--- ---- the change that a write makes in an index
 
 pub record IsNoChange (change : Change) : Type 0 where
   pub added : change.added ≡ None

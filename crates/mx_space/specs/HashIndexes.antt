@@ -8,7 +8,7 @@ use Rattle.std.specs.Str.{bytes_eq}
 use Rattle.mx_key.specs.Prefixes.{prefix, prefix_size}
 use Rattle.mx_hash.specs.Views.{map_of}
 use Rattle.mx_space.specs.declared.held_entry.HeldEntry.{HeldEntry}
-use Rattle.mx_space.specs.Entries.{IndexEntry}
+use Rattle.mx_entries.specs.Entries.{IndexEntry}
 
 -- the hash of some bytes
 abbrev pub hash_number : List ℕ → ℕ

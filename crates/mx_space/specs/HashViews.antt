@@ -4,7 +4,7 @@ use Rattle.std.specs.Coded.{Coded, code_by, coded×, coded_ℕ, coded_list}
 use Rattle.std.specs.FinMap.{entries}
 use Rattle.mx_hash.specs.Views.{map_of}
 use Rattle.mx_schema.specs.Stored.{StoredTuple}
-use Rattle.mx_space.specs.TupleMaps.{TupleEntries}
+use Rattle.mx_entries.specs.TupleMaps.{TupleEntries}
 
 abbrev pub tuple_entries : List StoredTuple → TupleEntries
 tuple_entries entries = record { entries = entries }

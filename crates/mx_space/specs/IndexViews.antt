@@ -4,7 +4,7 @@ use Rattle.mx_space.specs.declared.kept_entries.KeptEntries.{KeptEntries}
 use Rattle.mx_space.specs.declared.kept_entries.KeptEntries.TheVariants as kept
 use Rattle.mx_space.specs.declared.ordered_index.OrderedIndex.{OrderedIndex}
 use Rattle.mx_space.specs.declared.ordered_index.OrderedIndex.TheVariants as ordered
-use Rattle.mx_space.specs.Entries.{IndexEntry}
+use Rattle.mx_entries.specs.Entries.{IndexEntry}
 
 abbrev pub entries_kept : KeptEntries → List IndexEntry
 entries_kept (kept.Tree index) = index

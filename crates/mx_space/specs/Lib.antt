@@ -1,12 +1,8 @@
-pub mod Builds
-pub mod Built
 pub mod Changes
-pub mod Entries
 pub mod HashIndexes
 pub mod HashViews
 pub mod IndexViews
 pub mod Kept
-pub mod KeptKeys
 pub mod KeptStates
 pub mod Overlays
 pub mod OwnChanges
@@ -14,10 +10,8 @@ pub mod OwnCommit
 pub mod Reserved
 pub mod Reserves
 pub mod ScanRanges
-pub mod Scans
 pub mod Selecting
 pub mod ShownRows
 pub mod Spaces
 pub mod Stored
-pub mod TupleMaps
 pub mod TupleViews

@@ -1,32 +1,24 @@
 -- A state under a transaction's own changes, and what a view of it shows.
-use Rattle.std.specs.Prelude.{◌≡◌, ◌≢◌, ℕ, List, [], ◌∷◌, Option, Some, None, ◌==◌, if◌then◌else◌}
+use Rattle.std.specs.Prelude.{◌≡◌, ℕ, List, [], Option, Some, None}
 use Rattle.std.specs.BTreeMap as tree
-use Rattle.std.specs.FinMap.{empty, insert}
+use Rattle.std.specs.FinMap.{empty}
 use Rattle.std.specs.List.{AllByRecursion}
 use Rattle.std.specs.Option.{option_copied}
 use Rattle.std.specs.Ordering.{nat_cmp}
 use Rattle.mx_schema.specs.declared.schema.Schema.{Schema}
 use Rattle.mx_schema.specs.Catalogues.{schema_of}
 use Rattle.mx_schema.specs.Sound.{AreKeyed, IsSound}
-use Rattle.mx_schema.specs.State.{State, Tuples, index_rows, space_rows}
+use Rattle.mx_schema.specs.State.{State, Tuples}
 use Rattle.mx_schema.specs.Stored.{StoresNone}
 use Rattle.mx_space.specs.declared.overlay.OverlaidSpace.{OverlaidSpace}
 use Rattle.mx_space.specs.declared.own_changes.Overlay.{Overlay}
 use Rattle.mx_space.specs.declared.state_view.StateView.{StateView}
 use Rattle.mx_space.specs.declared.view.SpaceView.{SpaceView}
-use Rattle.mx_space.specs.Overlays.{OwnWrites, Sees, StoresOver, under}
-use Rattle.mx_space.specs.Reserves.{MayStand, PlainChange, state_with}
+use Rattle.mx_entries.specs.OwnWrites.{OwnWrites, under}
+use Rattle.mx_space.specs.Overlays.{Sees, StoresOver}
+use Rattle.mx_entries.specs.PlainChanges.{MayStand, PlainChange}
 use Rattle.mx_space.specs.Stored.{Holds}
-
--- the writes that changes make in one space, of which the newest change stands first
-abbrev pub written_by : (space : ℕ) → List PlainChange → OwnWrites
-written_by space [] = empty
-written_by space (change ∷ earlier) = if change.space == space then insert (written_by space earlier) change.key change.tuple else written_by space earlier
-
--- a state after own changes, of which the newest stands first
-abbrev pub state_with_own : State → List PlainChange → State
-state_with_own base [] = base
-state_with_own base (change ∷ earlier) = state_with (state_with_own base earlier) change.space change.key change.tuple
+use Rattle.mx_entries.specs.OwnStates.{written_by, state_with_own, AreNoDescriptions}
 
 -- the own writes in the space of a number, where there are any
 abbrev pub overlaid : (space : ℕ) → Overlay → Option OverlaidSpace
@@ -47,10 +39,6 @@ pub record HoldsOwn (schemas : ℕ → Option Schema) (overlay : Overlay) (own :
 abbrev pub HoldsOwnIn : (schemas : ℕ → Option Schema) → Option Overlay → List PlainChange → Type 0
 HoldsOwnIn schemas None own = own ≡ []
 HoldsOwnIn schemas (Some overlay) own = HoldsOwn schemas overlay own
-
--- no change is of a row that describes a space or an index
-abbrev pub AreNoDescriptions : List PlainChange → Type 0
-AreNoDescriptions own = AllByRecursion (λ change. (change.space ≢ space_rows) × (change.space ≢ index_rows)) own
 
 -- a view shows this sound state: that which memory holds, under own changes
 pub record HoldsView (view : StateView) (seen : State) : Type 0 where

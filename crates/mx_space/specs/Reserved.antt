@@ -19,11 +19,13 @@ use Rattle.mx_space.specs.declared.prepared.TupleStep.TheVariants.{Removal, Inse
 use Rattle.mx_space.specs.declared.space.Space.{Space}
 use Rattle.mx_space.specs.declared.spaces.SpaceEntry.{SpaceEntry}
 use Rattle.mx_space.specs.declared.tuple_changes.TupleChange.{TupleChange}
-use Rattle.mx_space.specs.Changes.{IsNoChange, Puts, Removes, all_without, with_added}
-use Rattle.mx_space.specs.Entries.{IndexEntry}
-use Rattle.mx_space.specs.Kept.{StoresEntries, kept_entries}
-use Rattle.mx_space.specs.KeptKeys.{kept_key}
+use Rattle.mx_space.specs.Changes.{IsNoChange, Puts, Removes, all_without}
+use Rattle.mx_entries.specs.EntryChanges.{with_added}
+use Rattle.mx_entries.specs.Entries.{IndexEntry}
+use Rattle.mx_entries.specs.KeptEntries.{StoresEntries, kept_entries}
+use Rattle.mx_entries.specs.KeptKeys.{kept_key}
 use Rattle.mx_space.specs.Spaces.{space_under}
+use Rattle.mx_entries.specs.PlainChanges.{Coming}
 
 -- ---- what a change does to an index
 
@@ -133,10 +135,6 @@ all_released q [] content = content
 all_released q (step ∷ earlier) content = all_released q earlier (changed_at step.space.0 (content_released step) q content)
 
 -- ---- what memory has, as maps
-
--- the tuple that will stand under a primary key of a space, or none
-abbrev pub Coming : Type 0
-Coming = Key × Option (List ℕ)
 
 -- a key has none of these changes
 abbrev pub IsFree : Key → List Coming → Type 0

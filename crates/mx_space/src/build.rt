@@ -10,38 +10,20 @@ ghost use Rattle.mx_schema.specs.Picks.{tuples_by_index};
 ghost use Rattle.mx_schema.specs.State as plain;
 ghost use Rattle.mx_schema.specs.State.{key_in};
 ghost use Rattle.mx_schema.specs.Stored.{StoresTuples};
-ghost use Rattle.mx_space.specs.declared.build.BuildFault.TheVariants as fault;
-ghost use Rattle.mx_space.specs.Builds.{build_fault, build_fault_of, row_fault};
-ghost use Rattle.mx_space.specs.Built.{AreLong, IsBuilt};
-ghost use Rattle.mx_space.specs.Kept.{StoresEntries, StoresIndex, kept_entries};
+ghost use Rattle.mx_entries.specs.declared.build_fault.BuildFault.TheVariants as fault;
+ghost use Rattle.mx_entries.specs.Builds.{build_fault, build_fault_of, row_fault};
+ghost use Rattle.mx_entries.specs.Built.{AreLong, IsBuilt};
+ghost use Rattle.mx_entries.specs.KeptEntries.{StoresEntries, StoresIndex, kept_entries};
 
 use crate::index::Index;
 use crate::space_index::SpaceIndex;
 use crate::tuple_map::TupleMap;
+use mx_entries::BuildFault;
 use mx_key::{KeyFault, NoKey, key_of_tuple};
 use mx_msgpack::Bytes;
 use mx_schema::{IndexDef, array_or_empty};
 use std::alloc::{AllocError, Global};
 use std::collections::BTreeMap;
-
-/// Why an index can't be made.
-#[derive(Clone, Copy, Debug, Drop, PartialEq, Eq)]
-pub enum BuildFault {
-    /// A tuple has no key in it.
-    LacksKey(NoKey),
-    /// A tuple has the key of one before it, and the index is unique.
-    Duplicate,
-    /// Out of memory.
-    NoMemory,
-}
-
-impl From<AllocError> for BuildFault {
-    ghost from_gives = { λ _ e. e ≡ fault.NoMemory };
-
-    fn from(_fault: AllocError) -> BuildFault {
-        BuildFault::NoMemory
-    }
-}
 
 /// The entries of an index, where that of the number 0 has none and there are no tuples.
 ///

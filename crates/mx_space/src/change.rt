@@ -1,10 +1,11 @@
 //! What a write changes in the entries of each index.
 
-ghost use Rattle.std.specs.Prelude.{◌≡◌, IfOk, OnOk, OnErr, if◌then◌else◌};
+ghost use Rattle.std.specs.Prelude.{◌≡◌, None, Ok, false, IfOk, OnOk, OnErr, if◌then◌else◌};
 ghost use Rattle.std.specs.BTreeMap.{insert_entry};
 ghost use Rattle.std.specs.Cmp.Lexicographic.{slice_cmp};
 ghost use Rattle.std.specs.Ordering.{nat_cmp};
-ghost use Rattle.mx_space.specs.Changes.{all_changed, all_without, with_added, without_key};
+ghost use Rattle.mx_space.specs.Changes.{all_changed, all_without};
+ghost use Rattle.mx_entries.specs.EntryChanges.{with_added, without_key};
 
 use crate::index::Index;
 use crate::space_index::SpaceIndex;
@@ -82,6 +83,7 @@ pub(crate) fn add(
     added: &Option<Bytes>,
     primary: &[u8],
 ) -> Result<bool, AllocError>
+    ensures none { added.now ≡ None → result ≡ Ok false }
     ensures ok { OnOk result (index.new ≡ with_added added.now primary.now index.old) }
     ensures undo { IfOk result (λ is_new. (if is_new then without_key added.now index.new else index.new) ≡ index.old) }
     ensures err { OnErr result (index.new ≡ index.old) }

@@ -6,7 +6,7 @@ ghost use Rattle.std.specs.Option.{option_copied};
 ghost use Rattle.mx_key.specs.Comparable.{comparable_of};
 ghost use Rattle.mx_key.specs.Keys.{Key, AreFit};
 ghost use Rattle.mx_space.specs.Changes.{IsNoChange, Puts, Removes};
-ghost use Rattle.mx_space.specs.KeptKeys.{kept_key};
+ghost use Rattle.mx_entries.specs.KeptKeys.{kept_key};
 ghost use Rattle.mx_space.specs.Reserved.{Edits};
 
 use crate::change::Change;

@@ -2,7 +2,7 @@
 
 ghost use Rattle.std.specs.Prelude.{◌≡◌, ◌≢◌, ◌++◌, IfSome, MatchOption};
 ghost use Rattle.std.specs.Option.{option_map};
-ghost use Rattle.mx_space.specs.Entries.{LeadsTo};
+ghost use Rattle.mx_entries.specs.Entries.{LeadsTo};
 
 use crate::index::Index;
 use crate::tree_index::TreeIndex;

@@ -13,14 +13,14 @@ ghost use Rattle.std.specs.Str.{bytes_eq};
 ghost use Rattle.mx_hash.specs.Views.{map_of};
 ghost use Rattle.mx_key.specs.Prefixes.{prefix_size};
 ghost use Rattle.mx_space.specs.declared.held_entry.HeldEntry.{HeldEntry};
-ghost use Rattle.mx_space.specs.Entries.{IndexEntry, LeadsOnce, LeadsTo, has_entry, with_entry};
+ghost use Rattle.mx_entries.specs.Entries.{IndexEntry, LeadsOnce, LeadsTo, has_entry, with_entry};
 ghost use Rattle.mx_space.specs.HashIndexes.{AreFronted, ArePlaced, hash_index_entries, hash_number, held_entries, key_hash};
 
 use crate::entries::whole_entry;
 use crate::held_entry::HeldEntry;
 use crate::index::Index;
 use crate::scan::behind;
-use crate::tree_index::TreeIndex;
+use crate::tree_index::{TreeIndex, begin_at};
 use mx_key::prefix_size;
 use mx_msgpack::Bytes;
 use std::alloc::{AllocError, Global};
@@ -42,7 +42,7 @@ pub struct HashIndex {
 impl Model for HashIndex {
     ghost use Rattle.std.specs.Prelude.{List, nat_eq};
     ghost use Rattle.std.specs.HashMap.{IsUnique};
-    ghost use Rattle.mx_space.specs.Entries.{IndexEntry};
+    ghost use Rattle.mx_entries.specs.Entries.{IndexEntry};
     ghost use Rattle.mx_space.specs.HashIndexes.{AreFronted, ArePlaced, hash_index_entries};
 
     ghost Value = { List IndexEntry };
@@ -231,11 +231,7 @@ fn insert_in(
     ensures err { OnErr result (hash_index_entries held.new.entries others.new ≡ hash_index_entries held.old.entries others.old) }
 {
     let (begin, place) = key_place(&key, parts);
-    let (_, rest) = key.as_slice().split_at(begin);
-    if rest != primary {
-        return Err(AllocError);
-    }
-    let Ok(begin) = u32::try_from(begin) else {
+    let Some(begin) = begin_at(key.as_slice(), begin, primary) else {
         return Err(AllocError);
     };
     match is_held(held, place, &key) {

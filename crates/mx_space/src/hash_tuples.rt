@@ -26,7 +26,7 @@ pub(crate) struct HashTuples {
 }
 
 impl Model for HashTuples {
-    ghost use Rattle.mx_space.specs.TupleMaps.{TupleEntries};
+    ghost use Rattle.mx_entries.specs.TupleMaps.{TupleEntries};
     ghost use Rattle.mx_space.specs.HashViews.{hash_entries, tuple_entries, tuple_entries_code};
 
     ghost Value = { TupleEntries };

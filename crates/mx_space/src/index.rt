@@ -6,7 +6,7 @@ ghost use Rattle.std.specs.Cmp.Lexicographic.{slice_cmp};
 ghost use Rattle.std.specs.Map.{remove_entry};
 ghost use Rattle.std.specs.Option.{option_map};
 ghost use Rattle.std.specs.Ordering.{nat_cmp};
-ghost use Rattle.mx_space.specs.Entries.{IndexEntry, LeadsOnce, LeadsTo, has_entry, with_entry};
+ghost use Rattle.mx_entries.specs.Entries.{IndexEntry, LeadsOnce, LeadsTo, has_entry, with_entry};
 
 use mx_msgpack::Bytes;
 use std::alloc::AllocError;

@@ -39,13 +39,12 @@ mod view;
 mod view_select;
 mod whole_row;
 
-pub use build::BuildFault;
 pub use hash_index::HashIndex;
 pub use index::Index;
 pub use kept_states::KeptStates;
+pub use mx_entries::{BuildFault, MAX_RESULT_SIZE, Pick, SelectFault, SelectStop};
 pub use overlay::OverlaidSpace;
 pub use own_changes::Overlay;
-pub use pick::{MAX_RESULT_SIZE, Pick, SelectFault, SelectStop};
 pub use prepared::Prepared;
 pub use scan::Scan;
 pub use space::Space;

@@ -8,7 +8,8 @@ ghost use Rattle.mx_schema.specs.declared.index_def.IndexDef as indexed;
 ghost use Rattle.mx_schema.specs.declared.schema.Schema as described;
 ghost use Rattle.mx_schema.specs.Catalogues.{index_with};
 ghost use Rattle.mx_schema.specs.State.{key_in};
-ghost use Rattle.mx_space.specs.Overlays.{OwnWrites, StoresWritten, hides};
+ghost use Rattle.mx_entries.specs.OwnWrites.{OwnWrites};
+ghost use Rattle.mx_space.specs.Overlays.{StoresWritten, hides};
 
 use crate::space::Space;
 use mx_msgpack::Bytes;

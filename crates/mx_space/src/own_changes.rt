@@ -16,9 +16,11 @@ ghost use Rattle.mx_schema.specs.Catalogues.{index_with};
 ghost use Rattle.mx_schema.specs.State as plain;
 ghost use Rattle.mx_schema.specs.State.{key_in};
 ghost use Rattle.mx_space.specs.Overlays.{StoresWritten};
-ghost use Rattle.mx_space.specs.OwnChanges.{HoldsOwn, overlaid, state_with_own};
+ghost use Rattle.mx_space.specs.OwnChanges.{HoldsOwn, overlaid};
+ghost use Rattle.mx_entries.specs.OwnStates.{state_with_own};
 ghost use Rattle.mx_space.specs.OwnCommit.{AreOrdered, changes_in, put_change, removals_in};
-ghost use Rattle.mx_space.specs.Reserves.{AreApart, MayStand, PlainChange, SpellsChange, state_with_all};
+ghost use Rattle.mx_entries.specs.PlainChanges.{AreApart, MayStand, PlainChange, state_with_all};
+ghost use Rattle.mx_space.specs.Reserves.{SpellsChange};
 ghost use Rattle.mx_space.specs.Stored.{HoldsBy};
 
 use crate::overlay::OverlaidSpace;

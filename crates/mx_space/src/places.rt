@@ -4,7 +4,7 @@ ghost use Rattle.std.specs.Prelude.{◌≡◌, ◌≤◌, ◌++◌, [], drop, le
 ghost use Rattle.std.specs.List.{insert, remove};
 ghost use Rattle.std.specs.Option.{option_copied};
 ghost use Rattle.mx_schema.specs.RowParts.{index_place};
-ghost use Rattle.mx_space.specs.Changes.{index_kept, kept_without};
+ghost use Rattle.mx_entries.specs.EntryChanges.{index_kept, kept_without};
 
 use crate::index::Index;
 use crate::space_index::SpaceIndex;
@@ -42,7 +42,7 @@ pub(crate) fn place_behind(defs: &[IndexDef], id: IndexId) -> usize
     place_behind(others, id) + 1
 }
 
-/// Puts the entries of an index at a place, where there are so many before it.
+/// Puts the entries of an index at a place, or behind all others where there are fewer before it.
 ///
 /// # Errors
 /// Out of memory. Nothing changed then.
@@ -51,13 +51,10 @@ pub(crate) fn insert_index(
     place: usize,
     index: SpaceIndex,
 ) -> Result<(), AllocError>
-    ensures ok { OnOk result (indexes.new.items ≡ insert indexes.old.items place index) }
-    ensures within { OnOk result (place ≤ length indexes.old.items) }
+    ensures ok { place ≤ length indexes.old.items → OnOk result (indexes.new.items ≡ insert indexes.old.items place index) }
     ensures err { OnErr result (indexes.new.items ≡ indexes.old.items) }
 {
-    if place > indexes.len() {
-        return Err(AllocError);
-    }
+    let place = place.min(indexes.len());
     indexes.insert(place, index)?;
     Ok(())
 }

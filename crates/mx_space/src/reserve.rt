@@ -1,7 +1,8 @@
 //! A change of a space in two steps: first all that takes memory, then all that doesn't.
 
-ghost use Rattle.std.specs.Prelude.{◌≡◌, Option, IfOk, OnOk, OnErr, is_some, not};
-ghost use Rattle.mx_space.specs.Changes.{all_without, with_added, without_key};
+ghost use Rattle.std.specs.Prelude.{◌≡◌, Option, None, IsOk, IfOk, OnOk, OnErr, is_some, not};
+ghost use Rattle.mx_space.specs.Changes.{all_without};
+ghost use Rattle.mx_entries.specs.EntryChanges.{with_added, without_key};
 ghost use Rattle.mx_space.specs.Reserved.{added_keys, all_added, is_removal, removed_keys, with_put, with_removal, without_put};
 
 use crate::change::{Change, add, take_out};
@@ -80,6 +81,7 @@ fn add_new(
     added: &Option<Bytes>,
     primary: &[u8],
 ) -> Result<(), AllocError>
+    ensures none { added.now ≡ None → IsOk result }
     ensures ok { OnOk result (index.new ≡ with_added added.now primary.now index.old) }
     ensures undo { OnOk result (without_key added.now index.new ≡ index.old) }
     ensures err { OnErr result (index.new ≡ index.old) }

@@ -5,7 +5,8 @@ ghost use Rattle.std.specs.List.{AllByRecursion, AllZip};
 ghost use Rattle.mx_schema.specs.declared.schema.Schema as described;
 ghost use Rattle.mx_schema.specs.State as plain;
 ghost use Rattle.mx_space.specs.Reserved.{all_released, content_under};
-ghost use Rattle.mx_space.specs.Reserves.{AreApart, AreReady, PlainChange, IsApart, MayStand, SpellsChange, state_with_all};
+ghost use Rattle.mx_entries.specs.PlainChanges.{AreApart, PlainChange, IsApart, MayStand, state_with_all};
+ghost use Rattle.mx_space.specs.Reserves.{AreReady, SpellsChange};
 ghost use Rattle.mx_space.specs.Stored.{SpacesHold};
 
 use crate::prepared::Prepared;

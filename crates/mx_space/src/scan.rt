@@ -8,7 +8,7 @@ ghost use Rattle.std.specs.Ordering.{nat_cmp};
 ghost use Rattle.std.specs.Range.Bound.{IsForward};
 ghost use Rattle.mx_key.specs.Comparable.{bound_of, holds};
 ghost use Rattle.mx_schema.specs.Picks.{directed};
-ghost use Rattle.mx_space.specs.Entries.{entries_split};
+ghost use Rattle.mx_entries.specs.Entries.{entries_split};
 
 use crate::scan_range::ScanRange;
 use mx_key::KeyRange;
@@ -25,7 +25,7 @@ pub struct Scan<'a> {
 
 impl<'a> Model for Scan<'a> {
     ghost use Rattle.std.specs.Prelude.{List};
-    ghost use Rattle.mx_space.specs.Entries.{IndexEntry};
+    ghost use Rattle.mx_entries.specs.Entries.{IndexEntry};
     ghost use Rattle.mx_space.specs.ScanRanges.{entries_scanned};
 
     ghost Value = { List IndexEntry };

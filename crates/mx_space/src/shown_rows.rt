@@ -5,7 +5,8 @@ ghost use Rattle.std.specs.List.{filter};
 ghost use Rattle.std.specs.Option.{option_map, option_to_list};
 ghost use Rattle.mx_schema.specs.Picks.{directed};
 ghost use Rattle.mx_space.specs.Overlays.{hides};
-ghost use Rattle.mx_space.specs.ShownRows.{is_before, is_shown, rows_left};
+ghost use Rattle.mx_entries.specs.MergedRows.{is_before};
+ghost use Rattle.mx_space.specs.ShownRows.{is_shown, rows_left};
 
 use crate::overlay::OverlaidSpace;
 use crate::pick::Source;

@@ -8,13 +8,14 @@ ghost use Rattle.mx_key.specs.Keys.{Key, AreFit};
 ghost use Rattle.mx_key.specs.Ranges.{descends, range_of};
 ghost use Rattle.mx_schema.specs.Picks.{Indexed, directed};
 ghost use Rattle.mx_schema.specs.Stored.{stored_tuple};
-ghost use Rattle.mx_space.specs.Scans.{Selects};
-ghost use Rattle.mx_space.specs.Selecting.{AreFitEntries, IsCollected, IsStopped, keys_read};
+ghost use Rattle.mx_entries.specs.Scans.{Selects};
+ghost use Rattle.mx_entries.specs.Windows.{AreFitEntries, IsCollected, IsStopped, keys_read};
 ghost use Rattle.mx_space.specs.ShownRows.{rows_left};
 
-use crate::pick::{Pick, SelectStop, result_size};
+use crate::pick::result_size;
 use crate::selection::read_to;
 use crate::shown_rows::ShownRows;
+use mx_entries::{Pick, SelectStop};
 use mx_key::KeyRange;
 use mx_msgpack::Tuples;
 use std::alloc::Global;

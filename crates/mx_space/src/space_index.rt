@@ -21,7 +21,7 @@ pub struct SpaceIndex {
 
 impl Model for SpaceIndex {
     ghost use Rattle.std.specs.Prelude.{List};
-    ghost use Rattle.mx_space.specs.Entries.{IndexEntry};
+    ghost use Rattle.mx_entries.specs.Entries.{IndexEntry};
     ghost use Rattle.mx_space.specs.IndexViews.{entries_kept};
 
     ghost Value = { List IndexEntry };

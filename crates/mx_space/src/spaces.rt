@@ -12,16 +12,16 @@ ghost use Rattle.mx_schema.specs.SchemaChanges.{schema_with_index, schema_withou
 ghost use Rattle.mx_schema.specs.State as plain;
 ghost use Rattle.mx_schema.specs.Stored.{StoresTuples};
 ghost use Rattle.mx_schema.specs.State.{key_in, tuples_in, with_tuple, without_tuple};
-ghost use Rattle.mx_space.specs.declared.build.BuildFault.TheVariants.{NoMemory};
-ghost use Rattle.mx_space.specs.Builds.{build_fault};
+ghost use Rattle.mx_entries.specs.declared.build_fault.BuildFault.TheVariants.{NoMemory};
+ghost use Rattle.mx_entries.specs.Builds.{build_fault};
 ghost use Rattle.mx_space.specs.Reserved.{Content, EditsAll, IsStepOf, changed_at, content_under, entry_content, content_installed, content_readied, content_released};
 ghost use Rattle.mx_space.specs.Spaces.{IsAscending, IsAscending-prop, IsGapOf, IsPlaceOf, RemovesSpace, SetsSpace, space_under};
 
-use crate::build::BuildFault;
 use crate::prepared::Step;
 use crate::space::Space;
 use crate::tuple_changes::TupleChange;
 use mx_base::{IndexId, SpaceId};
+use mx_entries::BuildFault;
 use mx_msgpack::Bytes;
 use mx_schema::{IndexDef, Keyed};
 use std::alloc::{AllocError, Global};

@@ -15,15 +15,14 @@ ghost use Rattle.mx_schema.specs.SchemaChanges.{schema_with_index, schema_withou
 ghost use Rattle.mx_schema.specs.State as plain;
 ghost use Rattle.mx_schema.specs.State.{key_in, source_of, tuples_in, with_tuple, without_tuple};
 ghost use Rattle.mx_schema.specs.Stored.{StoresTuples};
-ghost use Rattle.mx_space.specs.declared.build.BuildFault.TheVariants.{NoMemory};
-ghost use Rattle.mx_space.specs.Builds.{build_fault};
-ghost use Rattle.mx_space.specs.Reserves.{AreApart, PlainChange, IsReserved, MayStand, SpellsChange, state_with_all};
-ghost use Rattle.mx_space.specs.Scans.{SelectsByKey};
+ghost use Rattle.mx_entries.specs.declared.build_fault.BuildFault.TheVariants.{NoMemory};
+ghost use Rattle.mx_entries.specs.Builds.{build_fault};
+ghost use Rattle.mx_entries.specs.PlainChanges.{AreApart, PlainChange, MayStand, state_with_all};
+ghost use Rattle.mx_space.specs.Reserves.{IsReserved, SpellsChange};
+ghost use Rattle.mx_entries.specs.Scans.{SelectsByKey};
 ghost use Rattle.mx_space.specs.Spaces.{space_under};
 ghost use Rattle.mx_space.specs.Stored.{Holds, HoldsBy, HoldsSpace};
 
-use crate::build::BuildFault;
-use crate::pick::{Pick, SelectFault};
 use crate::prepared::Prepared;
 use crate::reserve_all::{install_all, release_all, reserve_all};
 use crate::selection::select_from;
@@ -33,6 +32,7 @@ use crate::tuple_changes::TupleChanges;
 use crate::tuple_map::TupleMap;
 use crate::view_select::select_stored;
 use mx_base::{IndexId, SpaceId};
+use mx_entries::{BuildFault, Pick, SelectFault};
 use mx_key::KeyRange;
 use mx_msgpack::{Bytes, Tuples};
 use mx_schema::{Catalogue, IndexDef, IndexDefs, IndexKind, Keyed, Schema, SpaceDef, source_of};

@@ -8,15 +8,15 @@ ghost use Rattle.mx_schema.specs.Picks.{entries_of};
 ghost use Rattle.mx_schema.specs.State as plain;
 ghost use Rattle.mx_schema.specs.State.{tuples_in};
 ghost use Rattle.mx_space.specs.OwnChanges.{HoldsView, ShowsTuples, ShowsSpace, overlaid_in};
-ghost use Rattle.mx_space.specs.Scans.{SelectsByKey};
+ghost use Rattle.mx_entries.specs.Scans.{SelectsByKey};
 ghost use Rattle.mx_space.specs.Stored.{Holds};
 
 use crate::overlay::OverlaidSpace;
 use crate::own_changes::Overlay;
-use crate::pick::{Pick, SelectFault};
 use crate::state::{State, select_rows_of};
 use crate::view::SpaceView;
 use mx_base::SpaceId;
+use mx_entries::{Pick, SelectFault};
 use mx_key::KeyRange;
 use mx_msgpack::Tuples;
 use mx_schema::{IndexDef, source_of};

@@ -1,6 +1,6 @@
 //! An index in the order of its keys.
 
-ghost use Rattle.std.specs.Prelude.{◌≡◌, [], drop, length, not, IfOk, IfSome, OnOk, OnErr};
+ghost use Rattle.std.specs.Prelude.{◌≡◌, ◌≤◌, ◌<◌, ◌^◌, ◌++◌, ℕ, List, [], drop, length, not, Some, IfOk, IfSome, OnOk, OnErr};
 ghost use Rattle.std.specs.BTreeMap.Range.{IsLeBy, IsLtBy};
 ghost use Rattle.std.specs.Cmp.Lexicographic.{slice_cmp};
 ghost use Rattle.std.specs.List.{filter};
@@ -10,7 +10,7 @@ ghost use Rattle.std.specs.Option.{option_map};
 ghost use Rattle.std.specs.Ordering.{nat_cmp};
 ghost use Rattle.std.specs.Range.Bound.{IsForward};
 ghost use Rattle.mx_key.specs.Comparable.{bound_of, holds};
-ghost use Rattle.mx_space.specs.Entries.{first_from, has_entry, with_entry};
+ghost use Rattle.mx_entries.specs.Entries.{first_from, has_entry, with_entry};
 
 use crate::copy::copy_of_begins;
 use crate::entries::whole_entry;
@@ -35,7 +35,7 @@ impl Model for TreeIndex {
     ghost use Rattle.std.specs.Prelude.{List};
     ghost use Rattle.std.specs.Range.Bound.{IsForward};
     ghost use Rattle.mx_key.specs.Comparable.{bound_of, holds};
-    ghost use Rattle.mx_space.specs.Entries.{IndexEntry, entries_split};
+    ghost use Rattle.mx_entries.specs.Entries.{IndexEntry, entries_split};
 
     ghost Value = { List IndexEntry };
 
@@ -117,9 +117,19 @@ impl Index for TreeIndex {
 
 /// The place where a primary key begins in a key that ends with it.
 fn begin_of(key: &[u8], primary: &[u8]) -> Option<u32>
-    ensures { IfSome result (λ begin. drop begin key.now ≡ primary.now) }
+    ensures found { IfSome result (λ begin. drop begin key.now ≡ primary.now) }
+    ensures whole { (own : List ℕ) → key.now ≡ own ++ primary.now → length own < 2 ^ 32 → result ≡ Some (length own) }
 {
     let begin = key.len().checked_sub(primary.len())?;
+    begin_at(key, begin, primary)
+}
+
+/// A place in a key, where the primary key begins there and the place fits 32 bits.
+pub(crate) fn begin_at(key: &[u8], begin: usize, primary: &[u8]) -> Option<u32>
+    requires within { begin ≤ length key.now }
+    ensures found { IfSome result (λ kept. (kept ≡ begin) × (drop begin key.now ≡ primary.now)) }
+    ensures whole { begin < 2 ^ 32 → drop begin key.now ≡ primary.now → result ≡ Some begin }
+{
     let (_, rest) = key.split_at(begin);
     if rest != primary {
         return None;

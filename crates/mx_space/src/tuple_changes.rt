@@ -9,7 +9,7 @@ use std::marker::Model;
 
 /// What a commit changes: the tuple that stands afterwards under a primary key of a space, by the key's
 /// comparable bytes, or none.
-#[derive(Debug, Drop)]
+#[derive(Drop)]
 pub struct TupleChange {
     pub space: SpaceId,
     pub key: Bytes,
@@ -17,7 +17,7 @@ pub struct TupleChange {
 }
 
 /// Changes in the order in which a commit makes them.
-#[derive(Debug, Drop)]
+#[derive(Drop)]
 pub struct TupleChanges {
     items: Vec<TupleChange>,
 }

@@ -26,7 +26,7 @@ pub(crate) struct TupleMap {
 }
 
 impl Model for TupleMap {
-    ghost use Rattle.mx_space.specs.TupleMaps.{TupleEntries};
+    ghost use Rattle.mx_entries.specs.TupleMaps.{TupleEntries};
     ghost use Rattle.mx_space.specs.HashViews.{tuple_entries, tuple_entries_code};
     ghost use Rattle.mx_space.specs.TupleViews.{tuples_kept};
 

@@ -1,11 +1,16 @@
 -- The head of a unit, and the bytes that it announces.
-use Rattle.std.proofs.Common.{◌≡◌, ℕ, ◌+◌, ◌<◌, ◌≤◌, Bool, true, false, cond, List, ◌++◌, length, take, drop, Option, Some, None, refl, sym, ap, ◌∙◌, inl, inr, arith, length-append}
-use Rattle.std.specs.Prelude.{◌&&◌, ◌⊎◌, IsTrue}
+use Rattle.std.proofs.Common.{◌≡◌, ℕ, ◌+◌, ◌<◌, ◌≤◌, Bool, true, false, cond, List, ◌++◌, length, take, drop, Option, Some, None, nat_lt, refl, sym, ap, ◌∙◌, inl, inr, arith, length-append}
+use Rattle.std.specs.Prelude.{◌&&◌, ◌⊎◌, IsTrue, Result, Ok, Err, MatchOption, MatchResult}
 use Rattle.std.proofs.lemmas.Bool.{le-ltb, lt-ltb, cases_lt}
 use Rattle.std.proofs.lemmas.List.{take-append-le, drop-append-le, length-drop}
-use Rattle.mx_msgpack.specs.Readers.{◌>>=◌, number_at, bytes_at}
-use Rattle.mx_msgpack.proofs.PieceLaws.{number_at-shorter, and_more, number_at-front, bind_more}
-use Rattle.mx_top.proofs.UnitLaws.{head_rest}
+use Rattle.mx_msgpack.specs.Readers.{◌>>=◌, IsStable, number_at, bytes_at}
+use Rattle.mx_msgpack.proofs.Options.{passed, same_some}
+use Rattle.mx_msgpack.proofs.PieceLaws.{number_at-shorter, bytes_at-shorter, and_more, number_at-front, bind_more}
+use Rattle.mx_top.proofs.UnitLaws.{content_parts, head_rest}
+use Rattle.mx_top.specs.Progress.{StopsAt}
+use Rattle.mx_top.specs.Stops.{IsReadStop}
+use Rattle.mx_top.specs.declared.stop.Stop.{Stop}
+use Rattle.mx_top.specs.declared.stop.Stop.TheVariants.{BadInput, ReadFault, WriteFault, DiskFault, NoMemory}
 use Rattle.mx_top.specs.Units.{UnitHead, is_unit_kind, is_within, allowed_head, unit_by, unit_head_at, content_at}
 use Rattle.mx_node.specs.Inputs.{InputUnit}
 
@@ -71,6 +76,19 @@ head_of_front place waiting more whole found head same =
     let p = head_rest place waiting found head in
     ap (unit_head_at place) (sym same) ∙ unit_head_at-front place waiting more p.1 ∙ ap (and_more more) head
 
+-- bytes that were read, and more bytes after them
+bytes_at-more : (count : ℕ) (bytes more : List ℕ) (found : List ℕ × List ℕ) → bytes_at count bytes ≡ Some found
+    → bytes_at count (bytes ++ more) ≡ Some (found.0, found.1 ++ more)
+bytes_at-more count bytes more found e =
+    let shorter = bytes_at-shorter count bytes found e in
+    let fits : count ≤ length bytes = omega arith in
+    let fits' : count ≤ length (bytes ++ more) = omega (arith, length-append bytes more) in
+    let is = passed (nat_lt (length bytes) count) (Some (take count bytes, drop count bytes)) found e in
+    let same = same_some (take count bytes, drop count bytes) found is.1 in
+    let now : bytes_at count (bytes ++ more) ≡ Some (take count bytes, drop count bytes ++ more) =
+    rw (le-ltb (length (bytes ++ more)) count fits', take-append-le count bytes more fits, drop-append-le count bytes more fits) refl in
+    now ∙ ap (λ (x : List ℕ × List ℕ). Some (x.0, x.1 ++ more)) same
+
 -- ---- a unit and its bytes
 
 abbrev unit_with : UnitHead → List ℕ × List ℕ → Option (InputUnit × List ℕ)
@@ -79,22 +97,30 @@ unit_with head content = Some (unit_by head content.0, content.1)
 abbrev unit_read : UnitHead × List ℕ → Option (InputUnit × List ℕ)
 unit_read head = bytes_at head.0.size head.1 >>= unit_with head.0
 
--- the unit whose head was read, once all of its bytes wait
-pub content_whole : (place : ℕ) (head : UnitHead) (seen more waiting others rest : List ℕ) → unit_head_at place seen ≡ Some (head, rest)
-    → seen ++ more ≡ waiting ++ others → 9 + head.size ≤ length waiting
-    → content_at place (waiting ++ others) ≡ Some (unit_by head (take head.size (drop 9 waiting)), drop head.size (drop 9 waiting) ++ others)
+-- what stands first stands there whatever follows
+pub content_at-IsStable : (place : ℕ) → IsStable (content_at place)
 unfolding content_at
-content_whole place head seen more waiting others rest read same fits =
-    let whole = head_of_front place seen more (waiting ++ others) (head, rest) read same in
-    let p = head_rest place (waiting ++ others) (head, rest ++ more) whole in
-    let l = length-drop 9 waiting in
-    let nine : 9 ≤ length waiting = omega arith in
-    let enough : head.size ≤ length (drop 9 waiting) = omega arith in
-    let enough' : head.size ≤ length (drop 9 waiting ++ others) = omega (arith, length-append (drop 9 waiting) others) in
-    let bytes : bytes_at head.size (drop 9 waiting ++ others) ≡ Some (take head.size (drop 9 waiting), drop head.size (drop 9 waiting) ++ others) =
-    rw (le-ltb (length (drop 9 waiting ++ others)) head.size enough', take-append-le head.size (drop 9 waiting) others enough, drop-append-le head.size (drop 9 waiting) others enough) refl in
+content_at-IsStable place bytes more found e =
+    let (head, content, is, taken, same) = content_parts place bytes found e in
+    let whole = head_of_front place bytes more (bytes ++ more) head is refl in
     ap (λ o. o >>= unit_read) whole
-    ∙ ap (λ (r : List ℕ). unit_read (head, r)) (p.0 ∙ drop-append-le 9 waiting others nine)
+    ∙ ap (λ o. o >>= unit_with head.0) (bytes_at-more head.0.size head.1 more content taken)
+    ∙ ap (λ (x : InputUnit × List ℕ). Some (x.0, x.1 ++ more)) same
+
+-- the unit whose head was read, once all of its bytes wait
+pub content_whole : (place : ℕ) (head : UnitHead) (seen more waiting rest : List ℕ) → unit_head_at place seen ≡ Some (head, rest)
+    → seen ++ more ≡ waiting → 9 + head.size ≤ length waiting
+    → content_at place waiting ≡ Some (unit_by head (take head.size (drop 9 waiting)), drop head.size (drop 9 waiting))
+unfolding content_at
+content_whole place head seen more waiting rest read same fits =
+    let whole = head_of_front place seen more waiting (head, rest) read same in
+    let p = head_rest place waiting (head, rest ++ more) whole in
+    let l = length-drop 9 waiting in
+    let enough : head.size ≤ length (drop 9 waiting) = omega arith in
+    let bytes : bytes_at head.size (drop 9 waiting) ≡ Some (take head.size (drop 9 waiting), drop head.size (drop 9 waiting)) =
+    rw (le-ltb (length (drop 9 waiting)) head.size enough) refl in
+    ap (λ o. o >>= unit_read) whole
+    ∙ ap (λ (r : List ℕ). unit_read (head, r)) p.0
     ∙ ap (λ o. o >>= unit_with head) bytes
 
 -- no unit stands where its head is none
@@ -127,6 +153,23 @@ content_none place bytes short = by_head (unit_head_at place bytes) (λ found e.
     by_head : (o : Option (UnitHead × List ℕ)) → ((found : UnitHead × List ℕ) → o ≡ Some found → 9 ≤ length bytes) → (o >>= unit_read) ≡ None
     by_head None long = refl
     by_head (Some found) long = let enough = long found refl in absurd (omega arith)
+
+-- ---- what stops the reading of a unit
+
+-- where the bytes that wait hold no unit, reading may stop so
+pub stops_reading : (place : ℕ) (waiting more : List ℕ) (stop : Stop) → IsReadStop stop → content_at place waiting ≡ None → StopsAt place waiting more stop
+stops_reading place waiting more (BadInput at) stops none = absurd stops
+stops_reading place waiting more ReadFault stops none = none
+stops_reading place waiting more WriteFault stops none = absurd stops
+stops_reading place waiting more DiskFault stops none = absurd stops
+stops_reading place waiting more NoMemory stops none = tt
+
+-- what found nothing says nothing of what it found
+pub found_none : {X : Type 0} (P : Type 0) (Q : X → Type 0) (S : Stop → Type 0) (result : Result (Option X) Stop)
+    → MatchResult result (λ found. MatchOption found P (λ _. ⊥)) S → MatchResult result (λ found. MatchOption found P Q) S
+found_none P Q S (Ok None) says = says
+found_none P Q S (Ok (Some x)) says = absurd says
+found_none P Q S (Err stop) says = says
 
 -- ---- what a test tells of a bound that it tests
 

@@ -1,9 +1,7 @@
-mod UnitLaws
+pub mod UnitLaws
 mod HeadLaws
-mod Waiting
-mod OutputLaws
-mod ProgressLaws
+mod ConsumedLaws
+pub mod ProgressLaws
 mod FinishLaws
 mod Told
 mod RunLaws
-pub mod PassedLaws

@@ -1,11 +1,14 @@
 -- How one unit more, or a cause that ends the run, changes how far the run has come.
-use Rattle.std.proofs.Common.{◌≡◌, ℕ, ◌+◌, ◌-◌, ◌<◌, ◌≤◌, List, [], ◌∷◌, ◌++◌, length, drop, Option, Some, None, refl, sym, ap, ◌∙◌, subst, arith, length-append}
-use Rattle.std.specs.Prelude.{⊤, Ok, Err, IsSomeAnd}
-use Rattle.std.proofs.lemmas.List.{append_assoc, length-drop, nil_from_length}
+use Rattle.std.proofs.Common.{ℕ, List, ◌++◌, Option, Some, None, sym, ap, ◌∙◌, subst, append_assoc, ◌≡◌, ◌+◌, ◌-◌, ◌<◌, ◌≤◌, [], ◌∷◌, length, drop, refl, arith, length-append}
+use Rattle.std.specs.Prelude.{Ok, Err, IsSomeAnd}
+use Rattle.std.proofs.lemmas.List.{append-nil, length-drop, nil_from_length}
+use Rattle.mx_msgpack.specs.Readers.{all_from}
+use Rattle.mx_outside.specs.Passed.{IsAllOf, PassesOn}
+use Rattle.mx_msgpack.proofs.Options.{same_some}
+use Rattle.mx_top.specs.Runs.{PassedAtLeast, place_before, AtCompletion, AtReadFault, AnswersRead, Held, IsOutput, OutputSeen, order_until}
 use mathlib.Core.List.{IsPrefix}
 use Rattle.mx_outside.specs.Disks.{Disk}
-use Rattle.mx_outside.specs.Passed.{IsAllOf, PassesOn}
-use Rattle.mx_model.specs.declared.out_units.OutUnit.{OutUnit}
+use Rattle.mx_node.specs.declared.out_units.OutUnit.{OutUnit}
 use Rattle.mx_model.specs.Histories.{History}
 use Rattle.mx_node.specs.declared.single.Single.{Single}
 use Rattle.mx_top.specs.Units.{UnitHead, content_at, unit_at, unit_by, units_of}
@@ -15,21 +18,37 @@ use Rattle.mx_node.specs.Starts.{Start}
 use Rattle.mx_top.specs.Stops.{IsDiskStop}
 use Rattle.mx_top.specs.TraceOutput.{units_text}
 use Rattle.mx_node.specs.Serving.{Serves}
-use Rattle.mx_top.specs.Progress.{WritesUnit, StopsAt, ReadTo, Wrote, UnitsSeen, LastStep, NextStep}
-use Rattle.mx_top.specs.Runs.{place_before, AtCompletion, Held, IsOutput, OutputSeen, order_until}
+use Rattle.mx_top.specs.Progress.{WritesUnit, StopsAt, ReadTo, Consumed, Wrote, WroteAll, UnitsSeen, LastStep, NextStep}
 use Rattle.mx_top.specs.declared.status.Status.{Status}
-use Rattle.mx_top.specs.declared.status.Status.TheVariants as status
 use Rattle.mx_top.specs.declared.stop.Stop.{Stop}
 use Rattle.mx_top.specs.declared.stop.Stop.TheVariants.{BadInput, ReadFault, WriteFault, DiskFault, NoMemory}
 use Rattle.mx_node.specs.Interrupted.{IsInterrupted}
-use Rattle.mx_model.specs.Survival.{Lasts}
+use Rattle.mx_directory.specs.Survival.{Lasts}
 use Rattle.mx_node.proofs.KeepLaws.{ready_keeps}
-use Rattle.mx_node.proofs.LastingLaws.{lasts_none, lasts_on, breaks_now, breaks_on}
+use Rattle.mx_store.proofs.StoreLaws.{lasts_none, lasts_on}
+use Rattle.mx_node.proofs.LastingLaws.{breaks_now, breaks_on}
 use Rattle.mx_node.specs.Outputs.{AnswersAll}
 use Rattle.mx_node.proofs.AnsweringLaws.{answers-push}
-use Rattle.mx_top.proofs.OutputLaws.{units_text-append}
-use Rattle.mx_top.proofs.PassedLaws.{passed_at_least}
-use Rattle.mx_top.proofs.UnitLaws.{unit_some, unit_none, unit_at-nil, units_of-none, units_of-some, units_of-begun}
+use Rattle.mx_top.proofs.UnitLaws.{Read, units_text-append, unit_some, unit_none, unit_at-nil, units_of-none, units_of-some, units_of-begun}
+use Rattle.mx_top.proofs.HeadLaws.{content_at-IsStable}
+use Rattle.mx_top.proofs.ConsumedLaws.{consumed_all, consumed_on}
+use Rattle.mx_top.specs.declared.status.Status.TheVariants as status
+
+-- ---- what is passed on in two calls, one after the other
+
+pub passes_on : (before middle after : Option (List ℕ)) → PassesOn before middle → PassesOn middle after → PassesOn before after
+passes_on None middle after first second = subst (λ m. PassesOn m after) first second
+passes_on (Some bytes) middle after (more, is) second = by_middle (subst (λ m. PassesOn m after) is second)
+  where
+    by_middle : PassesOn (Some (bytes ++ more)) after → PassesOn (Some bytes) after
+    by_middle (others, on) = (more ++ others, on ∙ ap (λ (l : List ℕ). Some l) (append_assoc bytes more others))
+
+-- all that was held before a call begins what is passed on after it
+pub passed_at_least : (passed passed_now : Option (List ℕ)) (bytes : List ℕ) → IsAllOf passed (Some bytes) → PassesOn passed passed_now
+    → PassedAtLeast passed_now bytes
+passed_at_least None passed_now bytes all on = subst (λ p. PassedAtLeast p bytes) (sym on) tt
+passed_at_least (Some passed) passed_now bytes all (more, on) =
+    subst (λ p. PassedAtLeast p bytes) (sym on) (more, ap (λ (l : List ℕ). l ++ more) (same_some bytes passed all))
 
 -- ---- how far the input was read
 
@@ -37,14 +56,6 @@ use Rattle.mx_top.proofs.UnitLaws.{unit_some, unit_none, unit_at-nil, units_of-n
 all_read : (input rest : List ℕ) (place : ℕ) (units : List InputUnit) → ReadTo input rest place units → content_at place rest ≡ None
     → units_of input ≡ (units, rest)
 all_read input rest place units read none = units_of-none input rest units read.all (unit_none input rest place read.at none)
-
--- one unit stands first in what is left
-read_on : (input rest after : List ℕ) (place next : ℕ) (units : List InputUnit) (unit : InputUnit) → ReadTo input rest place units
-    → content_at place rest ≡ Some (unit, after) → next + length after ≡ place + length rest → ReadTo input after next (units ++ unit ∷ [])
-read_on input rest after place next units unit read found moved = record {
-  all = units_of-some input rest after units unit read.all (unit_some input rest after unit place read.at found);
-  at = moved ∙ read.at;
-}
 
 -- the units so far begin those of the input
 begun_so_far : (input rest : List ℕ) (place : ℕ) (units : List InputUnit) → ReadTo input rest place units → IsPrefix units (units_of input).0
@@ -56,6 +67,43 @@ begun_with : (input rest after : List ℕ) (place : ℕ) (units : List InputUnit
 begun_with input rest after place units unit read found =
     units_of-begun input after (units ++ unit ∷ [])
     (units_of-some input rest after units unit read.all (unit_some input rest after unit place read.at found))
+
+-- ---- which units the bytes hold that were read
+
+-- the units so far are the first ones of these bytes
+answers_read : (status : Status) → ((P : Type 0) → AtReadFault status P) → (input bytes rest left : List ℕ) (units : List InputUnit) → input ≡ bytes ++ left
+    → Read bytes rest units → AnswersRead status units input left
+answers_read status quiet input bytes rest left units all read = record {
+  read = bytes;
+  all = all;
+  waiting = (all_from (unit_at (length bytes)) rest).0;
+  whole = ap (λ (x : List InputUnit × List ℕ). x.0) read;
+  awaited = quiet _;
+}
+
+-- and where none waits they are all of them
+answers_all_read : (input waiting left : List ℕ) (place : ℕ) (units : List InputUnit) → Consumed input waiting left place units → content_at place waiting ≡ None
+    → AnswersRead status.ReadFault units input left
+answers_all_read input waiting left place units consumed none = record {
+  read = consumed.bytes;
+  all = consumed.all;
+  waiting = [];
+  whole = ap (λ (x : List InputUnit × List ℕ). x.0) (all_read consumed.bytes waiting place units consumed.read none) ∙ sym (append-nil units);
+  awaited = refl;
+}
+
+-- what is left is known
+known_rest : (status : Status) (units : List InputUnit) (input more : List ℕ) (left : Option (List ℕ)) → left ≡ Some more → AnswersRead status units input more
+    → (rest : List ℕ) → left ≡ Some rest → AnswersRead status units input rest
+known_rest status units input more left told read rest is =
+    subst (λ (l : List ℕ). AnswersRead status units input l) (same_some more rest (sym told ∙ is)) read
+
+-- where the input didn't fail, another status says the same of it
+pub answers_read_at : (ended : Status) → ((P : Type 0) → AtReadFault ended P) → (units : List InputUnit) (input : List ℕ) (left : Option (List ℕ))
+    → ((rest : List ℕ) → left ≡ Some rest → AnswersRead status.Ok units input rest) → (rest : List ℕ) → left ≡ Some rest → AnswersRead ended units input rest
+answers_read_at ended quiet units input left consumed rest is =
+    let seen = consumed rest is in
+    record { read = seen.read; all = seen.all; waiting = seen.waiting; whole = seen.whole; awaited = quiet _ }
 
 -- ---- where the run stops
 
@@ -78,16 +126,18 @@ pub record IsWhole (status : Status) : Type 1 where
       → IsOutput status start units history sent before (units_text sent) passed passed_now
 
 -- where the run stopped after these units, all of the output for them is there
-pub stopped_after : (status : Status) → IsWhole status → (start : Start) (input : List ℕ) (server : Single) (units others : List InputUnit)
-    (output old : Held) (first states now : Option (List Disk)) → units ++ others ≡ (units_of input).0
+pub stopped_after : (status : Status) → IsWhole status → (start : Start) (input : List ℕ) (left : Option (List ℕ)) (server : Single)
+    (units others : List InputUnit) (output old : Held) (first states now : Option (List Disk)) → units ++ others ≡ (units_of input).0
+    → ((rest : List ℕ) → left ≡ Some rest → AnswersRead status units input rest)
     → (wrote : Wrote start server units output old first states) → IsInterrupted start.base wrote.history (order_until units others) states now
-    → UnitsSeen status start input output old first now
-stopped_after status is start input server units others output old first states now all wrote stops =
+    → UnitsSeen status start input left output old first now
+stopped_after status is start input left server units others output old first states now all consumed wrote stops =
     let stopped = breaks_on start.base [] wrote.history (order_until units others) first states now wrote.lasts stops in
     record {
       units = units;
       others = others;
       all = all;
+      consumed = consumed;
       answered = wrote.history;
       sent = wrote.sent;
       answers = wrote.answers;
@@ -122,81 +172,76 @@ fault_at input [] place some at = absurd (omega arith)
 fault_at input (byte ∷ rest) place some at = let here : length input - length (byte ∷ rest) ≡ place = omega arith in ap (λ n. Some n) here
 
 -- the units that were answered are all of the input's
-all_wrote : (start : Start) (input rest : List ℕ) (server : Single) (units : List InputUnit) (output old : Held)
-    (first states : Option (List Disk)) → units_of input ≡ (units, rest) → Wrote start server units output old first states
-    → Wrote start server (units_of input).0 output old first states
-all_wrote start input rest server units output old first states all wrote =
-    subst (λ (u : List InputUnit). Wrote start server u output old first states) (sym (ap (λ (x : List InputUnit × List ℕ). x.0) all)) wrote
+all_wrote : (start : Start) (input waiting more rest : List ℕ) (place : ℕ) (server : Single) (units : List InputUnit) (output old : Held)
+    (first states : Option (List Disk)) → units_of input ≡ (units, rest) → Consumed input waiting more place units
+    → Wrote start server units output old first states → WroteAll start input (Some more) server output old first states
+all_wrote start input waiting more rest place server units output old first states all consumed wrote =
+    let same : (units_of input).0 ≡ units = ap (λ (x : List InputUnit × List ℕ). x.0) all in
+    let read = answers_read status.Ok (λ P. tt) input consumed.bytes waiting more units consumed.all consumed.read.all in
+    record {
+      wrote = subst (λ (u : List InputUnit). Wrote start server u output old first states) (sym same) wrote;
+      consumed = known_rest status.Ok (units_of input).0 input more (Some more) refl
+          (subst (λ (u : List InputUnit). AnswersRead status.Ok u input more) (sym same) read);
+    }
 
 -- nothing is left
-pub ends_well : (input rest more : List ℕ) (place : ℕ) (server : Single) (units : List InputUnit) (old : Held)
-    (states : Option (List Disk)) (waiting : List ℕ)
-    → ReadTo input rest place units → rest ≡ waiting ++ more → waiting ++ more ≡ []
-    → LastStep (Ok tt) input (Some more) server server units old old states states
-ends_well input rest more place server units old states waiting read same none =
-    let gone : rest ≡ [] = same ∙ none in
+pub ends_well : (input waiting more : List ℕ) (place : ℕ) (server : Single) (units : List InputUnit) (old : Held) (states : Option (List Disk))
+    → Consumed input waiting more place units → waiting ++ more ≡ [] → LastStep (Ok tt) input (Some more) server server units old old states states
+ends_well input waiting more place server units old states consumed none =
+    let read = consumed_all input waiting more place units consumed in
     let all : units_of input ≡ (units, []) =
-    units_of-none input rest units read.all (ap (unit_at (length input)) gone ∙ unit_at-nil (length input)) ∙ ap (λ (r : List ℕ). (units, r)) gone in
+    units_of-none input (waiting ++ more) units read.all (ap (unit_at (length input)) none ∙ unit_at-nil (length input))
+    ∙ ap (λ (r : List ℕ). (units, r)) none in
     let long = ap length none in
     let parts = length-append waiting more in
     let empty : more ≡ [] = nil_from_length more (omega arith) in
     record {
       place = (ap (λ (x : List InputUnit × List ℕ). place_before input x.1) all, ap (λ (m : List ℕ). Some m) empty);
-      output = λ start output first wrote. all_wrote start input [] server units output old first states all wrote;
+      output = λ start output first wrote. all_wrote start input waiting more [] place server units output old first states all consumed wrote;
     }
 
 -- what is left begins with no unit
-ends_malformed : (input rest : List ℕ) (left : Option (List ℕ)) (place : ℕ) (server : Single) (units : List InputUnit)
-    (old : Held) (states : Option (List Disk)) → ReadTo input rest place units → 0 < length rest → content_at place rest ≡ None
-    → LastStep (Err (BadInput place)) input left server server units old old states states
-ends_malformed input rest left place server units old states read some none =
+ends_malformed : (input waiting more : List ℕ) (place : ℕ) (server : Single) (units : List InputUnit) (old : Held) (states : Option (List Disk))
+    → Consumed input waiting more place units → 0 < length (waiting ++ more) → content_at place (waiting ++ more) ≡ None
+    → LastStep (Err (BadInput place)) input (Some more) server server units old old states states
+ends_malformed input waiting more place server units old states consumed some none =
+    let rest = waiting ++ more in
+    let read = consumed_all input waiting more place units consumed in
     let all = all_read input rest place units read none in
     record {
       place = ap (λ (x : List InputUnit × List ℕ). place_before input x.1) all ∙ fault_at input rest place some read.at;
-      output = λ start output first wrote. all_wrote start input rest server units output old first states all wrote;
+      output = λ start output first wrote. all_wrote start input waiting more rest place server units output old first states all consumed wrote;
     }
 
--- reading may stop so
-abbrev IsQuiet : Stop → Type 0
-IsQuiet (BadInput at) = ⊥
-IsQuiet ReadFault = ⊤
-IsQuiet WriteFault = ⊥
-IsQuiet DiskFault = ⊥
-IsQuiet NoMemory = ⊤
-
--- where nothing was done with the next unit
-ends_read : (input rest : List ℕ) (place : ℕ) (server : Single) (units : List InputUnit) (old : Held) (left : Option (List ℕ)) (states : Option (List Disk))
-    (stop : Stop) → IsQuiet stop → ReadTo input rest place units → LastStep (Err stop) input left server server units old old states states
-ends_read input rest place server units old left states stop quiet read = by_stop stop quiet
-  where
-    seen : (status : Status) → IsWhole status → (start : Start) (output : Held) (first : Option (List Disk))
-        → Wrote start server units output old first states → UnitsSeen status start input output old first states
-    seen status is start output first wrote =
-        let (others, all) = begun_so_far input rest place units read in
-        stopped_after status is start input server units others output old first states states all wrote
-        (untouched start server units others wrote.history states wrote.serves)
-
-    by_stop : (stop : Stop) → IsQuiet stop → LastStep (Err stop) input left server server units old old states states
-    by_stop (BadInput at) quiet = absurd quiet
-    by_stop ReadFault quiet = record { place = tt; output = seen status.ReadFault read_fault }
-    by_stop WriteFault quiet = absurd quiet
-    by_stop DiskFault quiet = absurd quiet
-    by_stop NoMemory quiet = record { place = tt; output = seen status.NoMemory no_memory }
+-- reading stopped the run, and nothing was done with the next unit
+unit_unread : (status : Status) → IsWhole status → (input waiting more : List ℕ) (place : ℕ) (server : Single) (units : List InputUnit) (old : Held)
+    (states : Option (List Disk)) → Consumed input waiting more place units → AnswersRead status units input more
+    → (start : Start) (output : Held) (first : Option (List Disk)) → Wrote start server units output old first states
+    → UnitsSeen status start input (Some more) output old first states
+unit_unread status is input waiting more place server units old states consumed read start output first wrote =
+    let (others, all) = begun_so_far input (waiting ++ more) place units (consumed_all input waiting more place units consumed) in
+    stopped_after status is start input (Some more) server units others output old first states states all
+    (known_rest status units input more (Some more) refl read) wrote (untouched start server units others wrote.history states wrote.serves)
 
 -- reading the next unit stopped the run
-pub ends_stopped : (input rest waiting more : List ℕ) (place : ℕ) (server : Single) (units : List InputUnit) (old : Held)
-    (states : Option (List Disk)) (stop : Stop)
-    → ReadTo input rest place units → rest ≡ waiting ++ more → StopsAt place (waiting ++ more) stop
+pub ends_stopped : (input waiting more : List ℕ) (place : ℕ) (server : Single) (units : List InputUnit) (old : Held)
+    (states : Option (List Disk)) (stop : Stop) → Consumed input waiting more place units → StopsAt place waiting more stop
     → LastStep (Err stop) input (Some more) server server units old old states states
-ends_stopped input rest waiting more place server units old states (BadInput at) read same (here, none, some) =
-    let long = ap length same in
-    let some' : 0 < length rest = omega arith in
+ends_stopped input waiting more place server units old states (BadInput at) consumed (here, none, some) =
     subst (λ p. LastStep (Err (BadInput p)) input (Some more) server server units old old states states) (sym here)
-    (ends_malformed input rest (Some more) place server units old states read some' (ap (content_at place) same ∙ none))
-ends_stopped input rest waiting more place server units old states ReadFault read same stops = ends_read input rest place server units old (Some more) states ReadFault tt read
-ends_stopped input rest waiting more place server units old states WriteFault read same stops = absurd stops
-ends_stopped input rest waiting more place server units old states DiskFault read same stops = absurd stops
-ends_stopped input rest waiting more place server units old states NoMemory read same stops = ends_read input rest place server units old (Some more) states NoMemory tt read
+    (ends_malformed input waiting more place server units old states consumed some none)
+ends_stopped input waiting more place server units old states ReadFault consumed none = record {
+  place = tt;
+  output = unit_unread status.ReadFault read_fault input waiting more place server units old states consumed
+      (answers_all_read input waiting more place units consumed none);
+}
+ends_stopped input waiting more place server units old states WriteFault consumed stops = absurd stops
+ends_stopped input waiting more place server units old states DiskFault consumed stops = absurd stops
+ends_stopped input waiting more place server units old states NoMemory consumed stops = record {
+  place = tt;
+  output = unit_unread status.NoMemory no_memory input waiting more place server units old states consumed
+      (answers_read status.NoMemory (λ P. tt) input consumed.bytes waiting more units consumed.all consumed.read.all);
+}
 
 -- ---- the next unit
 
@@ -206,28 +251,37 @@ pub same_unit : (place : ℕ) (bytes content part behind after : List ℕ) (head
 same_unit place bytes content part behind after head found same rest =
     found ∙ ap (λ (l : List ℕ). Some (unit_by head l, behind)) (sym same) ∙ ap (λ (l : List ℕ). Some (unit_by head part, l)) (sym rest)
 
+-- the units so far and the next one, which waits whole, begin those of the input
+begun_here : (input waiting more behind : List ℕ) (place : ℕ) (units : List InputUnit) (unit : InputUnit) → Consumed input waiting more place units
+    → content_at place waiting ≡ Some (unit, behind) → IsPrefix (units ++ unit ∷ []) (units_of input).0
+begun_here input waiting more behind place units unit consumed found =
+    begun_with input (waiting ++ more) (behind ++ more) place units unit (consumed_all input waiting more place units consumed)
+    (content_at-IsStable place waiting more (unit, behind) found)
+
 -- answering it stopped the run
-pub ends_unanswered : (input rest waiting more behind : List ℕ) (unit : InputUnit) (place : ℕ) (server after : Single) (units : List InputUnit)
+pub ends_unanswered : (input waiting more behind : List ℕ) (unit : InputUnit) (place : ℕ) (server after : Single) (units : List InputUnit)
     (old : Held) (states now : Option (List Disk))
-    (stop : Stop) → ReadTo input rest place units → rest ≡ waiting ++ more → content_at place (waiting ++ more) ≡ Some (unit, behind) → IsDiskStop stop
+    (stop : Stop) → Consumed input waiting more place units → content_at place waiting ≡ Some (unit, behind) → IsDiskStop stop
     → ((start : Start) (history : History) → Serves start server units history states
     → IsInterrupted start.base history (order_of units ++ order_by units unit) states now)
     → LastStep (Err stop) input (Some more) server after units old old states now
-ends_unanswered input rest waiting more behind unit place server after units old states now stop read same found stops breaks = by_stop stop stops
+ends_unanswered input waiting more behind unit place server after units old states now stop consumed found stops breaks = by_stop stop stops
   where
-    seen : (status : Status) → IsWhole status → (start : Start) (output : Held) (first : Option (List Disk))
-        → Wrote start server units output old first states → UnitsSeen status start input output old first now
-    seen status is start output first wrote =
-        let (others, all) = begun_with input rest behind place units unit read (ap (content_at place) same ∙ found) in
-        stopped_after status is start input server units (unit ∷ others) output old first states now
-        (sym (append_assoc units (unit ∷ []) others) ∙ all) wrote (breaks start wrote.history wrote.serves)
+    seen : (status : Status) → IsWhole status → ((P : Type 0) → AtReadFault status P) → (start : Start) (output : Held) (first : Option (List Disk))
+        → Wrote start server units output old first states → UnitsSeen status start input (Some more) output old first now
+    seen status is quiet start output first wrote =
+        let (others, all) = begun_here input waiting more behind place units unit consumed found in
+        stopped_after status is start input (Some more) server units (unit ∷ others) output old first states now
+        (sym (append_assoc units (unit ∷ []) others) ∙ all)
+        (known_rest status units input more (Some more) refl (answers_read status quiet input consumed.bytes waiting more units consumed.all consumed.read.all))
+        wrote (breaks start wrote.history wrote.serves)
 
     by_stop : (stop : Stop) → IsDiskStop stop → LastStep (Err stop) input (Some more) server after units old old states now
     by_stop (BadInput at) stops = absurd stops
     by_stop ReadFault stops = absurd stops
     by_stop WriteFault stops = absurd stops
-    by_stop DiskFault stops = record { place = tt; output = seen status.DiskFault disk_fault }
-    by_stop NoMemory stops = record { place = tt; output = seen status.NoMemory no_memory }
+    by_stop DiskFault stops = record { place = tt; output = seen status.DiskFault disk_fault (λ P. tt) }
+    by_stop NoMemory stops = record { place = tt; output = seen status.NoMemory no_memory (λ P. tt) }
 
 -- all commits last, where one unit more was answered
 lasts_took : {after : Single} {units : List InputUnit} {unit : InputUnit} (start : Start) (history : History) (first states now : Option (List Disk)) (out : List ℕ)
@@ -246,20 +300,22 @@ answers_took {units = units} {unit = unit} start history sent out answers step =
     answers-push start units unit history took.more took.history sent step.sent answers took.since took.order took.is
 
 -- it was answered, and its output was written in part
-pub ends_unwritten : (input rest waiting more behind out : List ℕ) (unit : InputUnit) (place : ℕ) (server after : Single) (units : List InputUnit)
+pub ends_unwritten : (input waiting more behind out : List ℕ) (unit : InputUnit) (place : ℕ) (server after : Single) (units : List InputUnit)
     (old new : Held) (states now : Option (List Disk))
-    → ReadTo input rest place units → rest ≡ waiting ++ more → content_at place (waiting ++ more) ≡ Some (unit, behind)
+    → Consumed input waiting more place units → content_at place waiting ≡ Some (unit, behind)
     → ((start : Start) (history : History) → Serves start server units history states → WritesUnit start after units history unit out states now)
     → ((before : List ℕ) → old.contents ≡ Some before → (written : List ℕ) × (new.contents ≡ Some (before ++ written)) × IsPrefix written out)
     → PassesOn old.passed new.passed
     → LastStep (Err WriteFault) input (Some more) server after units old new states now
-ends_unwritten input rest waiting more behind out unit place server after units old new states now read same found took part passes = record {
+ends_unwritten input waiting more behind out unit place server after units old new states now consumed found took part passes = record {
   place = tt;
   output = λ start output first wrote.
       let step = took start wrote.history wrote.serves in
       let answered = step.answered in
-      let (others, all) = begun_with input rest behind place units unit read (ap (content_at place) same ∙ found) in
+      let (others, all) = begun_here input waiting more behind place units unit consumed found in
       let done = units ++ unit ∷ [] in
+      let read : Read consumed.bytes behind done = units_of-some consumed.bytes waiting behind units unit consumed.read.all
+      (unit_some consumed.bytes waiting behind unit place consumed.read.at found) in
       let stopped = breaks_on start.base [] answered.history (order_until done others) first now now
       (lasts_took start wrote.history first states now out wrote.lasts step) (untouched start after done others answered.history now answered.serves) in
       let was_sent = units_text wrote.sent in
@@ -269,6 +325,8 @@ ends_unwritten input rest waiting more behind out unit place server after units 
         units = done;
         others = others;
         all = all;
+        consumed = known_rest status.WriteFault done input more (Some more) refl
+            (answers_read status.WriteFault (λ P. tt) input consumed.bytes behind more done consumed.all read);
         answered = answered.history;
         sent = wrote.sent ++ step.sent;
         answers = answers_took start wrote.history wrote.sent out wrote.answers step;
@@ -305,16 +363,16 @@ ends_unwritten input rest waiting more behind out unit place server after units 
 }
 
 -- it was answered, and all of its output was written and passed on
-pub goes_on : (input rest waiting more behind out : List ℕ) (unit : InputUnit) (place next : ℕ) (server after : Single) (units : List InputUnit)
+pub goes_on : (input waiting more behind out : List ℕ) (unit : InputUnit) (place next : ℕ) (server after : Single) (units : List InputUnit)
     (old new : Held) (states now : Option (List Disk))
-    → ReadTo input rest place units → rest ≡ waiting ++ more → content_at place (waiting ++ more) ≡ Some (unit, behind)
-    → next + length behind ≡ place + length rest
+    → Consumed input waiting more place units → content_at place waiting ≡ Some (unit, behind)
+    → next + length behind ≡ place + length waiting
     → ((start : Start) (history : History) → Serves start server units history states → WritesUnit start after units history unit out states now)
     → ((before : List ℕ) → old.contents ≡ Some before → new.contents ≡ Some (before ++ out)) → IsAllOf new.passed new.contents
-    → NextStep input behind next server after units old new states now
-goes_on input rest waiting more behind out unit place next server after units old new states now read same found moved took all passed = record {
+    → NextStep input behind more next server after units old new states now
+goes_on input waiting more behind out unit place next server after units old new states now consumed found moved took all passed = record {
   unit = unit;
-  read = read_on input rest behind place next units unit read (ap (content_at place) same ∙ found) moved;
+  consumed = consumed_on input waiting more behind place next units unit consumed found moved;
   wrote = λ start output first wrote.
       let step = took start wrote.history wrote.serves in
       let was_sent = units_text wrote.sent in
@@ -332,10 +390,8 @@ goes_on input rest waiting more behind out unit place next server after units ol
 }
 
 -- the place after a unit
-pub moves : (place size : ℕ) (rest waiting more after : List ℕ) → rest ≡ waiting ++ more → after ≡ drop (9 + size) waiting → 9 + size ≤ length waiting
-    → (place + (9 + size)) + length (after ++ more) ≡ place + length rest
-moves place size rest waiting more after same gone fits =
-    let a = ap length same ∙ length-append waiting more in
-    let b = length-append after more in
+pub moves : (place size : ℕ) (waiting after : List ℕ) → after ≡ drop (9 + size) waiting → 9 + size ≤ length waiting
+    → (place + (9 + size)) + length after ≡ place + length waiting
+moves place size waiting after gone fits =
     let d = ap length gone ∙ length-drop (9 + size) waiting in
     omega arith

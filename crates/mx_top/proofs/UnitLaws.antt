@@ -1,15 +1,146 @@
 -- Reading units: what stands first, that it takes bytes, and how the units read so far stand to those of the input.
-use Rattle.std.proofs.Common.{◌≡◌, ℕ, ◌+◌, ◌-◌, ◌<◌, ◌≤◌, Bool, true, false, List, [], ◌∷◌, ◌++◌, length, drop, Some, None, refl, sym, ap, ◌∙◌, arith, nat_le}
-use Rattle.std.specs.Prelude.{◌&&◌}
+use Rattle.std.proofs.Common.{◌≡◌, ℕ, ◌+◌, ◌<◌, ◌≤◌, Bool, true, false, List, [], ◌∷◌, ◌++◌, length, get_or, take, Option, refl, sym, ap, ◌∙◌, subst, append_assoc, ◌-◌, drop, arith, Some, None, nat_le}
+use Rattle.std.specs.Prelude.{◌==◌, ◌&&◌}
+use Rattle.std.proofs.lemmas.List.{append-nil, take_more, drop-take, drop-drop, length-drop, length-take-le}
+use Rattle.std.proofs.lemmas.Slice.{between_is}
+use Rattle.std.proofs.Math.Seq.{take-add}
 use Rattle.std.proofs.lemmas.Bool.{leb-true}
-use Rattle.std.proofs.lemmas.List.{append-nil, append_assoc, length-drop, drop-drop}
 use mathlib.Core.List.{IsPrefix}
+use Rattle.mx_outside.specs.Disks.{Disk}
+use Rattle.mx_node.specs.declared.out_units.OutUnit.{OutUnit}
+use Rattle.mx_model.specs.Histories.{History, IsLegal}
+use Rattle.mx_serial.specs.Order.{order_in}
+use Rattle.mx_directory.specs.Survival.{Lasts}
+use Rattle.mx_node.specs.Inputs.{InputUnit, connection_of, max_connection}
+use Rattle.mx_node.specs.declared.single.Single.{Single}
+use Rattle.mx_node.specs.Starts.{Start}
+use Rattle.mx_node.specs.Order.{order_by, order_of}
+use Rattle.mx_store.specs.Stores.{StepsSurvive}
+use Rattle.mx_node.specs.Interrupted.{IsInterrupted}
+use Rattle.mx_node.specs.Serving.{AnswersUnit}
+use Rattle.mx_node.proofs.OrderLaws.{order_of-push}
+use Rattle.mx_node.proofs.KeepLaws.{ready_keeps}
+use Rattle.mx_node.proofs.LastingLaws.{breaks_now}
+use Rattle.mx_top.specs.TraceOutput.{unit_text, units_text}
+use Rattle.mx_top.specs.Units.{UnitHead, unit_by, max_unit_size, max_offset, is_unit_kind, is_within, unit_head_at, content_at, unit_at, units_of}
+use Rattle.mx_top.specs.Progress.{WritesUnit}
 use Rattle.mx_msgpack.specs.Readers.{Advances, all_from, number_at, bytes_at}
 use Rattle.mx_msgpack.proofs.Options.{bind_some, allowed, same_some}
 use Rattle.mx_msgpack.proofs.PieceLaws.{number_rest, bytes_at-shorter}
 use Rattle.mx_msgpack.proofs.ReaderLaws.{all_from_none, all_from_some}
-use Rattle.mx_top.specs.Units.{max_unit_size, max_offset, UnitHead, is_unit_kind, is_within, unit_head_at, unit_by, content_at, unit_at, units_of}
-use Rattle.mx_node.specs.Inputs.{InputUnit, max_connection}
+
+-- ---- the output of a run: what connections are sent, as output units
+
+pub units_text-append : (units more : List OutUnit) → units_text (units ++ more) ≡ units_text units ++ units_text more
+units_text-append [] more = refl
+units_text-append (unit ∷ units) more =
+    ap (λ l. unit_text unit ++ l) (units_text-append units more) ∙ sym (append_assoc (unit_text unit) (units_text units) (units_text more))
+
+-- one unit more
+pub units_text-more : (units : List OutUnit) (index : ℕ) (unit : OutUnit) → index < length units → unit ≡ get_or units index unit
+    → units_text (take index units) ++ unit_text unit ≡ units_text (take (index + 1) units)
+units_text-more units index unit within is =
+    sym (units_text-append (take index units) (unit ∷ []) ∙ ap (λ (l : List ℕ). units_text (take index units) ++ l) (append-nil (unit_text unit)))
+    ∙ ap units_text (ap (λ (u : OutUnit). take index units ++ u ∷ []) is ∙ sym (take_more units index unit within))
+
+-- the head of a unit tells its connection
+pub connection_by : (head : UnitHead) (content : List ℕ) → connection_of (unit_by head content) ≡ head.connection
+connection_by head content = by_kind (head.kind == 0) refl
+  where
+    by_kind : (bytes : Bool) → (head.kind == 0) ≡ bytes → connection_of (unit_by head content) ≡ head.connection
+    by_kind true is = rw is refl
+    by_kind false is = rw is refl
+
+pub known_unit : (head : UnitHead) (content : List ℕ) (unit : InputUnit) → unit ≡ unit_by head content → head.connection ≤ max_connection
+    → connection_of unit ≤ max_connection
+known_unit head content unit is known = rw (is, connection_by head content) known
+
+module _ (start : Start) (node : Single) (units : List InputUnit) (earlier : History) (unit : InputUnit) (sent : List OutUnit)
+    (old states : Option (List Disk)) (took : AnswersUnit start node units earlier unit sent old states) where
+  pub took_unit : (out : List ℕ) → out ≡ units_text sent → WritesUnit start node units earlier unit out old states
+  took_unit out is = record {
+    sent = sent;
+    answered = took;
+    text = is;
+  }
+
+  -- a unit that was answered and whose output couldn't be written
+  pub took_breaks : IsInterrupted start.base earlier (order_of units ++ order_by units unit) old states
+  took_breaks =
+      let order = order_of units ++ order_by units unit in
+      breaks_now start.base took.more earlier order old states
+      (subst (λ h. IsLegal start.base h) took.since took.serves.ready.behind.stands.legal)
+      (subst (λ h. IsPrefix (order_in h) order) took.since
+      (subst (λ l. IsPrefix l order) (sym (took.serves.order ∙ order_of-push units unit)) ([], append-nil order)))
+      (subst (λ h. Lasts start.base h old states) took.since took.lasts)
+      (subst (λ h. StepsSurvive start.base h h states) took.since
+      (ready_keeps start.base took.history node.engine node.journal states took.serves.ready))
+
+-- ---- the bytes of a buffer that wait, those of `start..end`, as some go and others come
+
+-- the first `count` of them go
+pub waiting-consume : (start end count : ℕ) (items : List ℕ) → start + count ≤ end
+    → take (end - (start + count)) (drop (start + count) items) ≡ drop count (take (end - start) (drop start items))
+waiting-consume start end count items within =
+    let same : end - start ≡ count + (end - (start + count)) = omega arith in
+    sym (ap (λ n. drop count (take n (drop start items))) same
+    ∙ drop-take count (end - (start + count)) (drop start items)
+    ∙ ap (λ l. take (end - (start + count)) l) (drop-drop count start items))
+
+-- they stay where the buffer keeps its start
+waiting-kept : (start end : ℕ) (old new : List ℕ) → take end new ≡ take end old
+    → take (end - start) (drop start new) ≡ take (end - start) (drop start old)
+waiting-kept start end old new kept = between_is new start end ∙ ap (drop start) kept ∙ sym (between_is old start end)
+
+-- `count` more come after them
+waiting-read : (start end count : ℕ) (old new : List ℕ) → start ≤ end → take end new ≡ take end old
+    → take (end + count - start) (drop start new) ≡ take (end - start) (drop start old) ++ take count (drop end new)
+waiting-read start end count old new order kept =
+    let same : end + count - start ≡ (end - start) + count = omega arith in
+    let at : start + (end - start) ≡ end = omega arith in
+    let back : drop (end - start) (drop start new) ≡ drop end new
+    = drop-drop (end - start) start new ∙ ap (λ n. drop n new) at in
+    ap (λ n. take n (drop start new)) same
+    ∙ take-add (end - start) count (drop start new)
+    ∙ ap (λ l. l ++ take count (drop (end - start) (drop start new))) (waiting-kept start end old new kept)
+    ∙ ap (λ l. take (end - start) (drop start old) ++ take count l) back
+
+-- what waits and what is still to come are the same bytes after a read of nothing
+pub all-kept : (start end : ℕ) (old new all more left : List ℕ) → take end new ≡ take end old
+    → all ≡ take (end - start) (drop start old) ++ more → more ≡ left
+    → all ≡ take (end - start) (drop start new) ++ left
+all-kept start end old new all more left kept told same =
+    let front = waiting-kept start end old new kept in
+    rw front (told ∙ ap (λ l. take (end - start) (drop start old) ++ l) same)
+
+-- and after a read of `count` bytes
+pub all-read : (start end count : ℕ) (old new all more left : List ℕ) → start ≤ end → take end new ≡ take end old
+    → all ≡ take (end - start) (drop start old) ++ more → more ≡ take count (drop end new) ++ left
+    → all ≡ take (end + count - start) (drop start new) ++ left
+all-read start end count old new all more left order kept told read =
+    let grown = waiting-read start end count old new order kept in
+    rw (grown, append_assoc) (told ∙ ap (λ l. take (end - start) (drop start old) ++ l) read)
+
+same_ends : (x y : ℕ) (xs ys : List ℕ) → x ∷ xs ≡ y ∷ ys → (x ≡ y) × (xs ≡ ys)
+same_ends x y xs ys same = let head : x ≡ y = cc in let tail : xs ≡ ys = cc in (head, tail)
+
+-- the longer of two first parts of the same bytes goes on from the other one
+pub append_longer : (front back longer rest : List ℕ) → front ++ back ≡ longer ++ rest → length front ≤ length longer
+    → (more : List ℕ) × (longer ≡ front ++ more) × (back ≡ more ++ rest)
+append_longer [] back longer rest same fits = (longer, refl, same)
+append_longer (byte ∷ front) back [] rest same fits = absurd (omega arith)
+append_longer (byte ∷ front) back (other ∷ longer) rest same fits =
+    let parts = same_ends byte other (front ++ back) (longer ++ rest) same in
+    let (more, is, goes_on) = append_longer front back longer rest parts.1 (omega arith) in
+    (more, ap (λ (x : ℕ). x ∷ longer) (sym parts.0) ∙ ap (λ (l : List ℕ). byte ∷ l) is, goes_on)
+
+-- as many wait as are in the buffer
+pub waiting-longer : (start end least : ℕ) (items : List ℕ) → start ≤ end → end ≤ length items → least ≤ end - start
+    → least ≤ length (take (end - start) (drop start items))
+waiting-longer start end least items order within enough =
+    let back = length-drop start items in
+    let long : length (take (end - start) (drop start items)) ≡ end - start = length-take-le (end - start) (drop start items) (omega arith) in
+    omega arith
 
 -- ---- what stands first
 
@@ -110,10 +241,6 @@ abbrev pub Read : (input rest : List ℕ) → List InputUnit → Type 0
 Read input rest units =
     units_of input ≡ (units ++ (all_from (unit_at (length input)) rest).0, (all_from (unit_at (length input)) rest).1)
 
-pub units_of-start : (input : List ℕ) → Read input input []
-unfolding units_of
-units_of-start input = refl
-
 -- no unit stands first in what is left
 pub units_of-none : (input rest : List ℕ) (units : List InputUnit) → Read input rest units → unit_at (length input) rest ≡ None
     → units_of input ≡ (units, rest)
@@ -131,17 +258,7 @@ units_of-some input rest after units unit read found =
     ∙ ap (λ (x : List InputUnit × List ℕ). (units ++ x.0, x.1)) (all_from_some (unit_at (length input)) (unit_at-Advances (length input)) rest (unit, after) found)
     ∙ ap (λ (u : List InputUnit). (u, others.1)) (sym (append_assoc units (unit ∷ []) others.0))
 
--- nothing is left
-pub units_of-all : (input : List ℕ) (units : List InputUnit) → Read input [] units → units_of input ≡ (units, [])
-units_of-all input units read = units_of-none input [] units read (unit_at-nil (length input))
-
 -- the units so far begin those of the input
 pub units_of-begun : (input rest : List ℕ) (units : List InputUnit) → Read input rest units → IsPrefix units (units_of input).0
 units_of-begun input rest units read =
     ((all_from (unit_at (length input)) rest).0, sym (ap (λ (x : List InputUnit × List ℕ). x.0) read))
-
--- and so they do with the one that stands first in what is left
-pub units_of-next : (input rest after : List ℕ) (units : List InputUnit) (unit : InputUnit) → Read input rest units
-    → unit_at (length input) rest ≡ Some (unit, after) → IsPrefix (units ++ unit ∷ []) (units_of input).0
-units_of-next input rest after units unit read found =
-    units_of-begun input after (units ++ unit ∷ []) (units_of-some input rest after units unit read found)

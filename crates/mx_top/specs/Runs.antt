@@ -6,14 +6,14 @@ use Rattle.mx_outside.specs.Moments.{Moments}
 use Rattle.mx_outside.specs.Passed.{IsAllOf}
 use Rattle.mx_row.specs.declared.tx.Tx.{Tx}
 use Rattle.mx_images.specs.Changes.{KeepsOthers}
-use Rattle.mx_model.specs.Directories.{Origin, IsDirectoryState}
-use Rattle.mx_model.specs.declared.out_units.OutUnit.{OutUnit}
+use Rattle.mx_directory.specs.Directories.{Origin, IsDirectoryState}
+use Rattle.mx_node.specs.declared.out_units.OutUnit.{OutUnit}
 use Rattle.mx_model.specs.Bases.{Base}
 use Rattle.mx_model.specs.Histories.{History, IsLegal, HasMemory, journal_of}
-use Rattle.mx_model.specs.Order.{Step, order_in}
-use Rattle.mx_model.specs.Gate.{RepliesMayLeave, confirmed_part}
-use Rattle.mx_model.specs.Serializability.{IsSerializable}
-use Rattle.mx_model.specs.Survival.{Recovers, Survive, NoFewerSurvive, ReadsMost}
+use Rattle.mx_serial.specs.Order.{Step, order_in}
+use Rattle.mx_serial.specs.Gate.{RepliesMayLeave, confirmed_part}
+use Rattle.mx_serial.specs.Serializability.{IsSerializable}
+use Rattle.mx_directory.specs.Survival.{IsOfNode, ReadsAll, Recovers, Survive, NoFewerSurvive, ReadsMost}
 use Rattle.mx_node.specs.Inputs.{InputUnit}
 use Rattle.mx_node.specs.Order.{order_by, order_of, whole_order_of}
 use Rattle.mx_node.specs.Outputs.{AnswersAll, output_for}
@@ -47,6 +47,20 @@ PlaceSeen _ input left = ⊤
 abbrev pub status_by : Option ℕ → Status
 status_by None = status.Ok
 status_by (Some at) = status.BadInput at
+
+-- this holds of a run that the input stopped
+abbrev pub AtReadFault : Status → Type 0 → Type 0
+AtReadFault status.ReadFault P = P
+AtReadFault _ P = ⊤
+
+-- The bytes before the rest were read. The units that were answered are a prefix of those that stand whole in them, and where the
+-- input failed they are all of these: a unit is answered before the bytes behind it are awaited.
+pub record AnswersRead (status : Status) (units : List InputUnit) (input rest : List ℕ) : Type 0 where
+  pub read : List ℕ
+  pub all : input ≡ read ++ rest
+  pub waiting : List InputUnit
+  pub whole : (units_of read).0 ≡ units ++ waiting
+  pub awaited : AtReadFault status (waiting ≡ [])
 
 -- this holds of a run that answered all units of its input
 abbrev pub AtCompletion : Status → Type 0 → Type 0
@@ -151,13 +165,15 @@ DamageSeen _ old = ⊤
 
 -- A run that opened its directory. It answered these units whole, and began none of the others but the next; one history has
 -- the steps for both. Each part says the same of that history: that it is serializable, what was written, what the directory
--- recovers at each moment, and that no reply was written before all that it depends on was durable.
-pub record Served (status : Status) (seed input : List ℕ) (output_old output_new : Held) (old new : Option (List Disk)) : Type 0 where
+-- recovers at each moment, and that no reply was written before all that it depends on was durable. What is acknowledged is
+-- durable also in a directory that could be read but had never been synced.
+pub record Served (status : Status) (seed input : List ℕ) (left : Option (List ℕ)) (output_old output_new : Held) (old new : Option (List Disk)) : Type 0 where
   pub start : Start
   pub begins : Begins start seed old
   pub units : List InputUnit
   pub others : List InputUnit
   pub all : units ++ others ≡ (units_of input).0
+  pub consumed : (rest : List ℕ) → left ≡ Some rest → AnswersRead status units input rest
   -- the steps for the units that were answered whole, what is sent for them, and then the steps of the next one
   pub answered : History
   pub sent : List OutUnit
@@ -173,16 +189,18 @@ pub record Served (status : Status) (seed input : List ℕ) (output_old output_n
   pub output : (before : List ℕ) → output_old.contents ≡ Some before
       → IsSomeAnd output_new.contents (λ after. OutputSeen status start units answered history sent before after output_old.passed output_new.passed)
   pub holds : AtCompletion status (IfKnown new (λ disk past. DirectoryHolds start.base history disk))
+  pub whose : IfKnown new (λ disk past. IsOfNode start.base.ids disk)
   pub crash : (origin : Origin) (earlier : List Tx) → Recovers origin earlier old → RecoversAlways origin (all_commits earlier start.base history) old new
-  pub acknowledged : (origin : Origin) (earlier : List Tx) → Recovers origin earlier old
+  pub acknowledged : (origin : Origin) (earlier : List Tx) → ReadsAll origin earlier old
       → RecoversNow origin (all_commits earlier start.base history) (length (all_commits earlier start.base answered)) new
-  pub killed : (origin : Origin) (earlier : List Tx) → Recovers origin earlier old
+  pub killed : (origin : Origin) (earlier : List Tx) → ReadsAll origin earlier old
       → RecoversAsItIs origin (all_commits earlier start.base history) (length (all_commits earlier start.base answered)) new
-  pub confirmed : (origin : Origin) (earlier : List Tx) → Recovers origin earlier old
+  pub confirmed : (origin : Origin) (earlier : List Tx) → ReadsAll origin earlier old
       → RecoversNow origin (all_commits earlier start.base history) (length (all_commits earlier start.base (confirmed_part start.base history))) new
 
--- A run that didn't open its directory: nothing was written or committed.
-pub record NotOpened (output_old output_new : Held) (old new : Option (List Disk)) : Type 0 where
+-- A run that didn't open its directory: nothing was read, written or committed.
+pub record NotOpened (input : List ℕ) (left : Option (List ℕ)) (output_old output_new : Held) (old new : Option (List Disk)) : Type 0 where
+  pub consumed : left ≡ Some input
   pub output : (before : List ℕ) → output_old.contents ≡ Some before → output_new.contents ≡ Some before
   pub crash : (origin : Origin) (earlier : List Tx) → Recovers origin earlier old → RecoversAlways origin earlier old new
   pub killed : (origin : Origin) (earlier : List Tx) (least : ℕ) → Recovers origin earlier old → RecoversNow origin earlier least old
@@ -194,11 +212,11 @@ pub record Untouched (output_old output_new : Held) (old new : Option (List Disk
   pub directory : new ≡ old
 
 -- what a status says of the output and of the directory
-abbrev pub RunSeen : Status → (seed input : List ℕ) (output_old output_new : Held) (old new : Option (List Disk)) → Type 0
-RunSeen status.BadWords seed input output_old output_new old new = Untouched output_old output_new old new
-RunSeen (status.Damaged damage) seed input output_old output_new old new = Untouched output_old output_new old new
-RunSeen status.DiskFault seed input output_old output_new old new =
-    NotOpened output_old output_new old new ⊎ Served status.DiskFault seed input output_old output_new old new
-RunSeen status.NoMemory seed input output_old output_new old new =
-    NotOpened output_old output_new old new ⊎ Served status.NoMemory seed input output_old output_new old new
-RunSeen status seed input output_old output_new old new = Served status seed input output_old output_new old new
+abbrev pub RunSeen : Status → (seed input : List ℕ) (left : Option (List ℕ)) (output_old output_new : Held) (old new : Option (List Disk)) → Type 0
+RunSeen status.BadWords seed input left output_old output_new old new = Untouched output_old output_new old new
+RunSeen (status.Damaged damage) seed input left output_old output_new old new = Untouched output_old output_new old new
+RunSeen status.DiskFault seed input left output_old output_new old new =
+    NotOpened input left output_old output_new old new ⊎ Served status.DiskFault seed input left output_old output_new old new
+RunSeen status.NoMemory seed input left output_old output_new old new =
+    NotOpened input left output_old output_new old new ⊎ Served status.NoMemory seed input left output_old output_new old new
+RunSeen status seed input left output_old output_new old new = Served status seed input left output_old output_new old new

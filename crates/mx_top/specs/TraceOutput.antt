@@ -1,7 +1,7 @@
 -- What a run writes: what connections are sent, as output units.
 use Rattle.std.specs.Prelude.{ℕ, List, [], ◌∷◌, ◌++◌, length}
 use Rattle.byteorder.specs.Endian.{big_bytes}
-use Rattle.mx_model.specs.declared.out_units.OutUnit.{OutUnit}
+use Rattle.mx_node.specs.declared.out_units.OutUnit.{OutUnit}
 
 -- an output unit: a connection, a length and that many bytes
 abbrev pub unit_text : OutUnit → List ℕ

@@ -14,7 +14,7 @@ use std::marker::Model;
 const FIRST_SIZE: usize = 65536;
 
 /// One buffer for the whole run, of which `start..end` waits to be used.
-#[derive(Debug, Drop)]
+#[derive(Drop)]
 pub(crate) struct Intake {
     buffer: Vec<u8>,
     start: usize,
@@ -75,6 +75,8 @@ impl Intake {
         ensures told { (left : List ℕ) → S.left source.old ≡ Some left → (more : List ℕ)
             × (S.left source.new ≡ Some more) × (self.old ++ left ≡ self.new ++ more)
             × IfOk result (λ enough. enough ≡ false → more ≡ []) }
+        ensures longer { length self.old ≤ length self.new }
+        ensures short { OnErr result (length self.new < need) }
         ensures cause { HasCauseOf ReadFault (S.faults source.old) (S.faults source.new) result }
         ensures stops { IfErr result IsReadStop }
     {

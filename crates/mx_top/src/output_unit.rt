@@ -4,7 +4,7 @@ ghost use Rattle.std.specs.Prelude.{◌≡◌, ◌++◌, OnOk};
 ghost use Rattle.mx_top.specs.TraceOutput.{unit_text, units_text};
 
 use byteorder::{BigEndian, ByteOrder};
-use mx_model::OutUnit;
+use mx_node::OutUnit;
 use std::alloc::AllocError;
 
 /// The bytes of a connection and a length.

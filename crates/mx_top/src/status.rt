@@ -1,6 +1,6 @@
 //! How a run ended.
 
-use mx_model::Damage;
+use mx_directory::Damage;
 use thiserror::Error;
 
 /// The status of a run. Its name and the values that it carries are printed, and its number is the

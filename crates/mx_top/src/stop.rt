@@ -6,21 +6,15 @@ ghost use Rattle.mx_top.specs.Stops.{stop_of};
 
 use mx_journal::JournalFault;
 use std::alloc::{AllocError, AllocFailed};
-use thiserror::Error;
 
 /// The first cause that a run meets once its directory is opened.
-#[derive(Clone, Copy, Debug, Drop, PartialEq, Eq, Error)]
+#[derive(Clone, Copy, Drop)]
 pub(crate) enum Stop {
     /// The first malformed unit begins at byte `at`.
-    #[error("a malformed unit begins at byte {at}")]
     BadInput { at: u64 },
-    #[error("the input failed")]
     ReadFault,
-    #[error("the output failed")]
     WriteFault,
-    #[error("the directory failed")]
     DiskFault,
-    #[error("out of memory")]
     NoMemory,
 }
 

@@ -2,7 +2,7 @@
 
 ghost use Rattle.std.specs.Prelude.{◌≡◌, ◌⊎◌, ◌∷◌, [], ℕ, List, Some, ◌↔◌, true, false, length};
 ghost use Rattle.mx_outside.specs.Causes.{Rose};
-ghost use Rattle.mx_model.specs.declared.damage.Damage.{Damage};
+ghost use Rattle.mx_directory.specs.declared.damage.Damage.{Damage};
 ghost use Rattle.mx_top.specs.declared.status.Status.TheVariants as status;
 ghost use Rattle.mx_top.specs.Arguments.{is_command};
 ghost use Rattle.mx_top.specs.Runs.{PlaceSeen, RunSeen, DamageSeen, StillPassedOn, OthersKept, fault_place, held, status_by};
@@ -56,19 +56,22 @@ pub fn run<D: Dir, S: Source, K: Sink>(
     // At `Ok` the input was well-formed and read to its end; `BadInput` carries the place of the first malformed unit.
     ensures place { (bytes : List ℕ) → S.left input.old ≡ Some bytes → PlaceSeen result bytes (S.left input.new) }
 
-    // At each moment, every file that isn't the database's is as it was.
+    // At each moment, every file that isn't the database's is as it was, and each journal and snapshot is still there, at most
+    // longer; or a journal that begins has its place.
     ensures others { (before after : D) → dirs.old.items ≡ before ∷ [] → dirs.new.items ≡ after ∷ [] → OthersKept (D.states before) (D.states after) }
 
     // The list of directories keeps its length.
     ensures dirs { length dirs.new.items ≡ length dirs.old.items }
 
-    // One legal history has the steps for the units that were answered whole, and then those of the next one. It is
+    // One legal history has the steps for the units that were answered whole, and then those of the next one. Those units
+    // stand whole in the bytes that were read, and where the input failed they are all that do. The history is
     // serializable: each transaction was answered as if alone, those that commit rows in the order of the journal, and a
     // conflict has a commit that touched what was read before it. What was written is the output for the former steps; the
-    // directory recovers a prefix of the history's commits after any crash, at any moment, and all on which a reply that
-    // was written depends. A run that opened no directory wrote and committed nothing.
+    // directory recovers a prefix of the history's commits after any crash, at any moment, exactly as they were made, and all
+    // on which a reply that was written depends; it is of the node that it was opened for. A run that opened no directory
+    // read, wrote and committed nothing.
     ensures history { (bytes : List ℕ) (old new : D) → S.left input.old ≡ Some bytes → dirs.old.items ≡ old ∷ [] → dirs.new.items ≡ new ∷ []
-        → RunSeen result seed.now bytes (held (K.contents output.old) (K.passed output.old)) (held (K.contents output.new) (K.passed output.new)) (D.states old) (D.states new) }
+        → RunSeen result seed.now bytes (S.left input.new) (held (K.contents output.old) (K.passed output.old)) (held (K.contents output.new) (K.passed output.new)) (D.states old) (D.states new) }
 
     // The run of a command that no fault ended has the status that its input demands, unless the directory is damaged or
     // memory ran out.

@@ -5,7 +5,7 @@ ghost use Rattle.mx_outside.specs.Causes.{HasCauseOf};
 ghost use Rattle.mx_top.specs.declared.stop.Stop.TheVariants.{ReadFault, WriteFault, DiskFault};
 ghost use Rattle.mx_top.specs.declared.status.Status.TheVariants as status;
 ghost use Rattle.mx_top.specs.Causes.{HasCauses};
-ghost use Rattle.mx_top.specs.Stops.{AtBadInput, IsDiskStop};
+ghost use Rattle.mx_top.specs.Stops.{AtBadInput, IsDiskStop, are_in_order};
 ghost use Rattle.mx_top.specs.Units.{max_offset, unit_by};
 ghost use Rattle.mx_top.specs.UnitViews.{head_view};
 ghost use Rattle.mx_model.specs.Histories.{History};
@@ -15,7 +15,7 @@ ghost use Rattle.mx_node.specs.Interrupted.{IsInterrupted};
 ghost use Rattle.mx_node.specs.Starts.{Start};
 ghost use Rattle.mx_node.specs.Serving.{CanServe, EndedNode, Serves};
 ghost use Rattle.mx_top.specs.Runs.{PlaceSeen, RunSeen, DamageSeen, StillPassedOn, OthersKept, held};
-ghost use Rattle.mx_top.specs.Progress.{ReadTo, LastStep, EndSeen, UnitsSeen, NextStep, WritesUnit, status_of};
+ghost use Rattle.mx_top.specs.Progress.{Consumed, LastStep, EndSeen, UnitsSeen, NextStep, WritesUnit, status_of};
 
 use crate::delivery::deliver;
 use crate::ids::first_ids;
@@ -24,9 +24,8 @@ use crate::output_unit::write_units;
 use crate::status::Status;
 use crate::stop::Stop;
 use crate::units::{UNIT_HEAD, UnitHead, next_unit, unit_of};
-use mx_node::Single;
+use mx_node::{RecoverFault, Single};
 use mx_outside::{Dir, Failed, Sink, Source};
-use mx_recover::RecoverFault;
 use std::alloc::Global;
 
 /// Opens the directory, reads the units of the input to its end, answers them, and writes an output
@@ -41,7 +40,7 @@ pub(crate) fn trace<D: Dir, S: Source, K: Sink>(
     ensures words { result ≡ status.BadWords → ⊥ }
     ensures place { (bytes : List ℕ) → S.left input.old ≡ Some bytes → PlaceSeen result bytes (S.left input.new) }
     ensures history { (bytes : List ℕ) → S.left input.old ≡ Some bytes
-        → RunSeen result seed.now bytes (held (K.contents output.old) (K.passed output.old)) (held (K.contents output.new) (K.passed output.new)) (D.states dir.old) (D.states dir.new) }
+        → RunSeen result seed.now bytes (S.left input.new) (held (K.contents output.old) (K.passed output.old)) (held (K.contents output.new) (K.passed output.new)) (D.states dir.old) (D.states dir.new) }
     ensures damage { DamageSeen result (D.states dir.old) }
     ensures others { OthersKept (D.states dir.old) (D.states dir.new) }
     ensures passed { (result ≡ status.WriteFault) ⊎ StillPassedOn (K.passed output.old) (K.contents output.old) (K.passed output.new) (K.contents output.new) }
@@ -68,23 +67,28 @@ fn run_units<D: Dir, S: Source, K: Sink>(
     requires { CanServe node (D.states dir.old) }
     ensures place { (bytes : List ℕ) → S.left input.old ≡ Some bytes → PlaceSeen (status_of result) bytes (S.left input.new) }
     ensures units { (start : Start) (bytes : List ℕ) → Serves start node [] [] (D.states dir.old) → S.left input.old ≡ Some bytes
-        → UnitsSeen (status_of result) start bytes (held (K.contents output.old) (K.passed output.old)) (held (K.contents output.new) (K.passed output.new)) (D.states dir.old) (D.states dir.new) }
+        → UnitsSeen (status_of result) start bytes (S.left input.new) (held (K.contents output.old) (K.passed output.old)) (held (K.contents output.new) (K.passed output.new)) (D.states dir.old) (D.states dir.new) }
     ensures others { OthersKept (D.states dir.old) (D.states dir.new) }
     ensures passed { (result ≡ Err WriteFault) ⊎ StillPassedOn (K.passed output.old) (K.contents output.old) (K.passed output.new) (K.contents output.new) }
     ensures causes { HasCauses (result ≡ Err ReadFault) (result ≡ Err WriteFault) (result ≡ Err DiskFault)
         (S.faults input.old) (S.faults input.new) (K.faults output.old) (K.faults output.new) (D.faults dir.old) (D.faults dir.new) }
 {
     let mut node = node;
-    match answer_units(alloc, &mut node, dir, input, output) {
-        Ok(()) => end_node(node, dir),
-        Err(Stop::BadInput { at }) => {
-            end_node(node, dir)?;
-            Err(Stop::BadInput { at })
-        }
-        Err(Stop::ReadFault) => Err(Stop::ReadFault),
-        Err(Stop::WriteFault) => Err(Stop::WriteFault),
-        Err(Stop::DiskFault) => Err(Stop::DiskFault),
-        Err(Stop::NoMemory) => Err(Stop::NoMemory),
+    let ended = answer_units(alloc, &mut node, dir, input, output);
+    if !are_in_order(&ended) {
+        return ended;
+    }
+    end_node(node, dir)?;
+    ended
+}
+
+/// Whether the units ended at the end of the input, or where it has a malformed one.
+fn are_in_order(ended: &Result<(), Stop>) -> bool
+    ensures { result ≡ are_in_order ended.now }
+{
+    match ended {
+        Ok(()) | Err(Stop::BadInput { .. }) => true,
+        Err(_) => false,
     }
 }
 
@@ -114,7 +118,7 @@ fn answer_units<D: Dir, S: Source, K: Sink>(
     requires { CanServe node.old (D.states dir.old) }
     ensures place { (bytes : List ℕ) → S.left input.old ≡ Some bytes → PlaceSeen (status_of result) bytes (S.left input.new) }
     ensures units { (start : Start) (bytes : List ℕ) → Serves start node.old [] [] (D.states dir.old) → S.left input.old ≡ Some bytes
-        → EndSeen result start bytes node.new (held (K.contents output.old) (K.passed output.old)) (held (K.contents output.new) (K.passed output.new)) (D.states dir.old) (D.states dir.new) }
+        → EndSeen result start bytes (S.left input.new) node.new (held (K.contents output.old) (K.passed output.old)) (held (K.contents output.new) (K.passed output.new)) (D.states dir.old) (D.states dir.new) }
     ensures serves { MatchResult result (λ _. CanServe node.new (D.states dir.new))
         (λ stop. AtBadInput stop (CanServe node.new (D.states dir.new))) }
     ensures others { OthersKept (D.states dir.old) (D.states dir.new) }
@@ -144,11 +148,11 @@ fn step<D: Dir, S: Source, K: Sink>(
 ) -> Result<Option<u64>, Stop>
     requires { CanServe node.old (D.states dir.old) }
     ensures ahead { IfOk result (λ found. IfSome found (λ next. (place < next) × (next ≤ max_offset))) }
-    ensures told { (bytes left : List ℕ) (units : List InputUnit) → S.left input.old ≡ Some left → ReadTo bytes (intake.old ++ left) place units
+    ensures told { (bytes left : List ℕ) (units : List InputUnit) → S.left input.old ≡ Some left → Consumed bytes intake.old left place units
         → (more : List ℕ) × (S.left input.new ≡ Some more) × MatchResult result
         (λ found. MatchOption found
         (LastStep (Ok tt) bytes (Some more) node.old node.new units (held (K.contents output.old) (K.passed output.old)) (held (K.contents output.new) (K.passed output.new)) (D.states dir.old) (D.states dir.new))
-        (λ next. NextStep bytes (intake.new ++ more) next node.old node.new units (held (K.contents output.old) (K.passed output.old)) (held (K.contents output.new) (K.passed output.new)) (D.states dir.old) (D.states dir.new)))
+        (λ next. NextStep bytes intake.new more next node.old node.new units (held (K.contents output.old) (K.passed output.old)) (held (K.contents output.new) (K.passed output.new)) (D.states dir.old) (D.states dir.new)))
         (λ stop. LastStep (Err stop) bytes (Some more) node.old node.new units (held (K.contents output.old) (K.passed output.old)) (held (K.contents output.new) (K.passed output.new)) (D.states dir.old) (D.states dir.new)) }
     ensures serves { MatchResult result (λ _. CanServe node.new (D.states dir.new))
         (λ stop. AtBadInput stop (CanServe node.new (D.states dir.new))) }

@@ -5,7 +5,6 @@ ghost use Rattle.std.specs.Option.{option_map};
 ghost use Rattle.mx_outside.specs.Causes.{HasCauseOf};
 ghost use Rattle.mx_top.specs.Units.{content_at, max_offset, unit_by, unit_head_at};
 ghost use Rattle.mx_node.specs.Inputs.{max_connection};
-ghost use Rattle.mx_node.specs.Inputs.{max_connection};
 ghost use Rattle.mx_top.specs.UnitViews.{head_view};
 ghost use Rattle.mx_node.specs.Views.{unit_view};
 ghost use Rattle.mx_top.specs.Progress.{StopsAt};
@@ -28,7 +27,7 @@ const MAX_UNIT_SIZE: u32 = 16_777_216;
 const MAX_OFFSET: u64 = 1 << 40;
 
 /// What a unit is about.
-#[derive(Clone, Copy, Debug, PartialEq, Eq)]
+#[derive(Clone, Copy, PartialEq, Eq)]
 pub(crate) enum UnitKind {
     /// Bytes that came on a connection.
     Bytes,
@@ -37,7 +36,7 @@ pub(crate) enum UnitKind {
 }
 
 /// The head of a unit, which is before the bytes that it brings.
-#[derive(Clone, Copy, Debug)]
+#[derive(Clone, Copy)]
 pub(crate) struct UnitHead {
     pub(crate) kind: UnitKind,
     /// From 0 to 1,023.
@@ -56,9 +55,10 @@ pub(crate) fn next_unit<S: Source>(
     ensures told { (left : List ℕ) → S.left input.old ≡ Some left → (more : List ℕ)
         × (S.left input.new ≡ Some more) × (intake.old ++ left ≡ intake.new ++ more)
         × MatchResult result
-        (λ found. MatchOption found (intake.new ++ more ≡ []) (λ head. content_at place (intake.new ++ more)
-        ≡ Some (unit_by (head_view head) (take head.size (drop 9 intake.new)), drop head.size (drop 9 intake.new) ++ more)))
-        (StopsAt place (intake.new ++ more)) }
+        (λ found. MatchOption found (intake.new ++ more ≡ []) (λ head. content_at place intake.new
+        ≡ Some (unit_by (head_view head) (take head.size (drop 9 intake.new)), drop head.size (drop 9 intake.new))))
+        (StopsAt place intake.new more) }
+    ensures longer { length intake.old ≤ length intake.new }
     ensures whole { IfOk result (λ found. IfSome found (λ head. (9 + head.size ≤ length intake.new) × ((place + 9) + head.size ≤ max_offset))) }
     ensures connection { IfOk result (λ found. IfSome found (λ head. head.connection.0 ≤ max_connection)) }
     ensures cause { HasCauseOf ReadFault (S.faults input.old) (S.faults input.new) result }
@@ -79,8 +79,9 @@ pub(crate) fn next_unit<S: Source>(
 
 /// What fewer bytes than a unit's head are: the end of the input, or a malformed unit.
 fn no_head(waiting: usize, place: u64) -> Result<Option<UnitHead>, Stop>
-    ensures told { (bytes : List ℕ) → length bytes ≡ waiting → length bytes < 9
-        → MatchResult result (λ found. MatchOption found (bytes ≡ []) (λ _. ⊥)) (StopsAt place bytes) }
+    ensures told { (bytes more : List ℕ) → length bytes ≡ waiting → length bytes < 9 → more ≡ []
+        → MatchResult result (λ found. MatchOption found (bytes ++ more ≡ []) (λ _. ⊥)) (StopsAt place bytes more) }
+    ensures none { IfOk result (λ found. IfSome found (λ _. ⊥)) }
     ensures no_fault { result ≡ Err ReadFault → ⊥ }
     ensures no_write { result ≡ Err WriteFault → ⊥ }
     ensures no_disk { result ≡ Err DiskFault → ⊥ }

@@ -9,7 +9,7 @@ use std::marker::Model;
 pub const SLOTS: usize = 1024;
 
 /// A mark or none for each slot, which takes no memory.
-#[derive(Debug, Drop)]
+#[derive(Drop)]
 pub struct MarkSet {
     marks: [bool; SLOTS],
     // No slot from this number on is marked.

@@ -15,7 +15,7 @@ use std::marker::Model;
 const KEPT_ROOM: usize = 64;
 
 /// A range of an index's keys that was read; the ends are comparable bytes.
-#[derive(Debug, Drop)]
+#[derive(Drop)]
 pub struct Read {
     pub space: u32,
     pub index: u32,
@@ -66,7 +66,7 @@ fn copy_of(alloc: Global, edge: &Edge) -> Result<Edge, AllocError>
 }
 
 /// Reads in order.
-#[derive(Debug, Drop)]
+#[derive(Drop)]
 pub struct Reads {
     items: Vec<Read>,
 }

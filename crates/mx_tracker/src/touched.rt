@@ -7,7 +7,7 @@ use std::alloc::{AllocError, Global};
 use std::marker::Model;
 
 /// The comparable bytes of a key of an index, whose tuple a commit changes.
-#[derive(Debug, Drop)]
+#[derive(Drop)]
 pub struct Touched {
     pub space: u32,
     pub index: u32,
@@ -15,7 +15,7 @@ pub struct Touched {
 }
 
 /// Touched keys in order.
-#[derive(Debug, Drop)]
+#[derive(Drop)]
 pub struct TouchedKeys {
     items: Vec<Touched>,
 }

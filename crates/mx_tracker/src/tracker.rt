@@ -12,7 +12,7 @@ use std::alloc::{AllocError, Global};
 use std::marker::Model;
 
 /// What each of 1,024 slots has read.
-#[derive(Debug, Drop)]
+#[derive(Drop)]
 pub struct Tracker {
     alloc: Global,
     notes: Vec<Reads>,

@@ -21,7 +21,7 @@ use Rattle.mx_model.specs.declared.reply.Reply.TheVariants.{Empty, Refused}
 use Rattle.mx_model.specs.Overlaps.{Active, Doomed, Standing, Transaction, View, first_overlap, overlap_of, standing_by, state_after_first}
 use Rattle.mx_model.specs.RunAlone.{run_alone}
 use Rattle.mx_model.specs.Streams.{Opens, Outcome, Streams, begins_beside, commit_with, max_transactions, max_transactions_of_connection, of_connection, open_after, standing_now, streams_after, told_alone, transaction_named}
-use Rattle.mx_model.proofs.SlowStreamLaws.{at_least, begins_all_full, begins_full, begins_new, begins_open, fewer}
+use Rattle.mx_model.proofs.StreamOutcomes.{at_least, begins_all_full, begins_full, begins_new, begins_open, fewer}
 use Rattle.mx_transactions.specs.declared.names.Named.{Named}
 use Rattle.mx_transactions.specs.declared.work.Work.{Work}
 use Rattle.mx_transactions.specs.Open.{HasRun, HasSlot, HasStanding, HoldsOpen, WritesNothing, IsOpen, AreInSlots, IsVacant, Open, SlotHas, SpellsKey, newest_state, slot_named}

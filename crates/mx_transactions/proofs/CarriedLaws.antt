@@ -2,11 +2,11 @@
 use Rattle.std.proofs.Common.{◌≡◌, ℕ, Bool, true, false, ◌||◌, List, [], ◌∷◌, ◌++◌, Option, Some, None, refl, sym, ap, ◌∙◌, subst}
 use Rattle.std.specs.List.{AllByRecursion, AllZip, list_any}
 use Rattle.mx_row.specs.declared.row.Row.{Row}
-use Rattle.mx_row.specs.Limits.{rows_size}
+use Rattle.mx_row.specs.Limits.{rows_size, saturated}
 use Rattle.mx_schema.specs.Catalogues.{schema_of}
 use Rattle.mx_schema.specs.State.{State}
 use Rattle.mx_space.specs.OwnChanges.{HoldsOwn}
-use Rattle.mx_space.proofs.OwnSchemaLaws.{same_schemas}
+use Rattle.mx_space.proofs.OwnHeldLaws.{same_schemas}
 use Rattle.mx_tracker.specs.declared.read.Read as noted
 use Rattle.mx_tracker.specs.declared.touched.Touched as coded
 use Rattle.mx_tracker.specs.Overlaps.{is_overlapped}
@@ -21,7 +21,6 @@ use Rattle.mx_model.specs.Answers.{state_after_row, state_after_rows}
 use Rattle.mx_model.specs.Frame.{IsDataStatement, StaysSound, reads_in}
 use Rattle.mx_model.specs.RunAlone.{run_alone}
 use Rattle.mx_model.specs.RunTouches.{changes_of, puts_of}
-use Rattle.mx_model.specs.Slow.{saturated}
 use Rattle.mx_model.specs.Touches.{rows_meet}
 use Rattle.mx_model.specs.statements.Answer.{Answer}
 use Rattle.mx_model.specs.statements.Statement.{Statement}

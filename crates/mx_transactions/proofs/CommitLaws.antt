@@ -28,8 +28,7 @@ use Rattle.mx_model.proofs.AlonePlaces.{all_reads, never_overlapped, whole_state
 use Rattle.mx_model.proofs.AloneSound.{journal_sound}
 use Rattle.mx_model.proofs.FrameRuns.{rows_stay_sound}
 use Rattle.mx_model.proofs.JournalLaws.{state_after-append}
-use Rattle.mx_model.proofs.OverlapCommits.{prefix_kept}
-use Rattle.mx_model.proofs.OverlapStandings.{standing_moved}
+use Rattle.mx_model.proofs.OverlapCommits.{prefix_kept, standing_moved}
 use Rattle.mx_model.specs.statements.Answer.{Answer}
 use Rattle.mx_transactions.specs.declared.names.Named.{Named}
 use Rattle.mx_transactions.specs.Open.{newest_state, AreStates, HasRun, HasSlot, HasStanding, HoldsOpen, IsOpen, Open, SlotHas, reads_made}

@@ -1,10 +1,8 @@
 pub mod OpenLaws
-pub mod RunLaws
 pub mod CarriedLaws
 pub mod CommitLaws
 pub mod TableLaws
 pub mod WorkLaws
 pub mod MoveLaws
-pub mod AddLaws
 pub mod BeginLaws
 pub mod EndLaws

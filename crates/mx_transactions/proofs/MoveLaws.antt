@@ -14,7 +14,6 @@ use Rattle.mx_txn.specs.declared.state.TxnState.{TxnState}
 use Rattle.mx_txn.specs.declared.state.TxnState.TheVariants as txn
 use Rattle.mx_txn.specs.Slots.{IsLive, Txns, max_open}
 use Rattle.mx_txn.proofs.StateLaws.{get-with_state_other, get-with_state_same, len-insert_live}
-use Rattle.mx_transactions.specs.declared.work.Work.{Work}
 use Rattle.mx_transactions.specs.Open.{HasSlot, AreInSlots, Open, SlotHas}
 use Rattle.mx_transactions.specs.OpenSteps.{ChangesSlot, ChangesTo, Moves, MovesSlot, StaysAt, has_rows, moved_state}
 use Rattle.mx_transactions.proofs.OpenLaws.{same_slot}
@@ -134,15 +133,6 @@ pub item_there : {X : Type 0} (xs : List X) (slot place : ℕ) (x : X) → place
 item_there xs slot place x same less whole is = slice_get_read xs max_open slot x (sym whole) (omega (arith, same, less)) (is ∙ ap (λ n. slice_index_or xs n x) same)
 
 -- ---- rows
-
--- another work is put at a live slot
-pub put_table : (all : Open) (slot place : ℕ) (work : Work) → AreInSlots all → IsLive all.slots slot → place ≡ slot → AreInSlots (record all { works = slice_set all.works place work })
-put_table all slot place work table live same =
-    let now : SlotHas = record { state = get all.slots slot; work = work; reads = noted_reads all.tracks slot } in
-    set_table all (record all { works = slice_set all.works place work }) slot now
-    (sets_work all (record all { works = slice_set all.works place work }) slot now refl refl refl refl (ap (λ n. slice_set all.works n work) same) (reads_stay all.tracks slot)) table live
-
--- ---- what a commit makes of a slot
 
 module _ (is_schema marked : Bool) (commits : ℕ) (old new : Open) (slot : ℕ) where
   -- what a commit makes of a slot that has this

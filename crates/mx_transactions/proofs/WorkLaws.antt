@@ -1,39 +1,92 @@
 -- What the statements of an active transaction have written, after one write more, and after one that failed.
-use Rattle.std.proofs.Common.{arith, ◌≡◌, ℕ, ◌+◌, ◌||◌, List, [], ◌∷◌, ◌++◌, length, map, take, Option, Some, Result, Ok, Err, refl, sym, ap, ◌∙◌, subst}
-use Rattle.std.specs.Prelude.{MatchResult}
+use Rattle.std.proofs.Common.{◌≡◌, ◌≢◌, ℕ, List, [], ◌∷◌, ◌++◌, length, take, refl, sym, ap, ◌∙◌, arith, ◌+◌, ◌||◌, map, Option, Some, Result, Ok, Err, subst}
+use Rattle.std.specs.Prelude.{slice_set, MatchResult}
+use Rattle.std.proofs.lemmas.Option.{slice_get_within}
+use Rattle.std.proofs.Math.Seq.{take-append_seam, take-length}
+use Rattle.std.specs.FinMap.{get}
+use Rattle.std.specs.List.{AllZip, AllByRecursion, list_any, sum}
 use Rattle.std.proofs.lemmas.List.Folds.{list_any-append}
 use Rattle.std.proofs.lemmas.List.Sums.{fold-append}
-use Rattle.std.proofs.Math.Seq.{take-append_seam, take-length}
-use Rattle.std.specs.List.{AllByRecursion, AllZip, list_any, sum}
 use Rattle.std.specs.Option.{option_to_list}
+use Rattle.mx_schema.specs.State.{State}
+use Rattle.mx_tracker.specs.Tracks.{ChangesReads, Tracks, noted_reads}
+use Rattle.mx_txn.specs.Slots.{IsLive}
+use Rattle.mx_write.specs.Notes.{SpellsRead}
+use Rattle.mx_model.specs.RunAlone.{Run, run_with}
+use Rattle.mx_transactions.specs.declared.work.Work.{Work}
+use Rattle.mx_transactions.specs.Open.{HasSlot, HasWritten, AreInSlots, Open, SlotHas, reads_made, SpellsKey, in_order}
+use Rattle.mx_transactions.specs.OpenSteps.{ComesTo, BeginsAs, StandsOn}
+use Rattle.mx_transactions.proofs.MoveLaws.{set_changes, set_table, sets_work}
 use Rattle.mx_base.specs.declared.ids.SpaceId.{SpaceId}
 use Rattle.mx_key.specs.Comparable.{comparable_of}
 use Rattle.mx_key.specs.Keys.{AreFit}
 use Rattle.mx_row.specs.declared.row.Row.{Row}
-use Rattle.mx_row.specs.Limits.{row_size, rows_size}
+use Rattle.mx_row.specs.Limits.{row_size, rows_size, saturated}
 use Rattle.mx_schema.specs.Catalogues.{schema_of}
 use Rattle.mx_schema.specs.Sound.{IsSound}
-use Rattle.mx_schema.specs.State.{State}
 use Rattle.mx_space.specs.declared.state_view.StateView.{StateView}
-use Rattle.mx_space.specs.OwnChanges.{AreNoDescriptions, HoldsOwn, HoldsView, state_with_own}
-use Rattle.mx_space.proofs.OwnChangeLaws.{schema_with_own}
-use Rattle.mx_tracker.specs.declared.touched.Touched as coded
+use Rattle.mx_entries.specs.OwnStates.{AreNoDescriptions, state_with_own}
+use Rattle.mx_space.specs.OwnChanges.{HoldsOwn, HoldsView}
+use Rattle.mx_entries.proofs.OwnStateLaws.{schema_with_own}
 use Rattle.mx_tracker.specs.Overlaps.{lies_in_read}
-use Rattle.mx_write.specs.declared.made.Made as code
 use Rattle.mx_write.specs.Change.{Change}
 use Rattle.mx_write.specs.Made.{Made}
-use Rattle.mx_write.specs.Makes.{MakesWrite, tuple_after}
+use Rattle.mx_judge.specs.Makes.{MakesWrite, tuple_after}
 use Rattle.mx_write.specs.Touches.{AddsTouched, SpellsTouched, Touched, is_met, touched_at}
 use Rattle.mx_write.specs.Writes.{Write}
-use Rattle.mx_model.specs.RunAlone.{Run, run_with}
 use Rattle.mx_model.specs.RunTouches.{changes_of, puts_of}
-use Rattle.mx_model.specs.Slow.{saturated}
 use Rattle.mx_model.specs.statements.Answer.{Answer}
 use Rattle.mx_model.proofs.RunTouchLaws.{carried_meets}
 use Rattle.mx_transactions.specs.declared.work.ChangedKey.{ChangedKey}
-use Rattle.mx_transactions.specs.declared.work.Work.{Work}
-use Rattle.mx_transactions.specs.Open.{HasWritten, SpellsKey, in_order}
-use Rattle.mx_transactions.specs.OpenSteps.{BeginsAs, StandsOn}
+use Rattle.mx_tracker.specs.declared.read.Read as noted
+use Rattle.mx_tracker.specs.declared.touched.Touched as coded
+use Rattle.mx_judge.specs.declared.made.Made as code
+
+-- ---- a slot after a write was added to what its transaction has done, and after that failed
+
+pub zip_append : {A B : Type 0} (R : A → B → Type 0) (ones : List A) (others : List B) (more : List A) (further : List B) → AllZip R ones others → AllZip R more further
+    → AllZip R (ones ++ more) (others ++ further)
+zip_append R [] [] more further each rest = rest
+zip_append R [] (b ∷ others) more further each rest = absurd each
+zip_append R (a ∷ ones) [] more further each rest = absurd each
+zip_append R (a ∷ ones) (b ∷ others) more further each rest = (each.0, zip_append R ones others more further each.1 rest)
+
+-- ---- reads
+
+-- reads that were noted and dropped again
+pub reads_dropped : (old mid new : Tracks) (slot : ℕ) (more : List noted.Read) (count : ℕ) → ChangesReads old mid slot (noted_reads old slot ++ more) → count ≡ length (noted_reads old slot)
+    → ChangesReads mid new slot (take count (noted_reads mid slot)) → ChangesReads old new slot (noted_reads old slot)
+reads_dropped old mid new slot more count adds is drops = record {
+  here = drops.here ∙ ap (λ n. take n (noted_reads mid slot)) is ∙ ap (take (length (noted_reads old slot))) adds.here ∙ take-append_seam (noted_reads old slot) more;
+  others = λ other differs. drops.others other differs ∙ adds.others other differs;
+}
+
+-- ---- a slot
+
+-- the work and the reads of a live slot are others
+pub added_table : (all : Open) (slot place : ℕ) (work : Work) (tracks : Tracks) → AreInSlots all → IsLive all.slots slot → place ≡ slot
+    → ((other : ℕ) → other ≢ slot → noted_reads tracks other ≡ noted_reads all.tracks other) → AreInSlots (record all { tracks = tracks; works = slice_set all.works place work })
+added_table all slot place work tracks table live same others =
+    let now : SlotHas = record { state = get all.slots slot; work = work; reads = noted_reads tracks slot } in
+    let new : Open = record all { tracks = tracks; works = slice_set all.works place work } in
+    set_table all new slot now
+    (sets_work all new slot now refl refl refl refl (ap (λ n. slice_set all.works n work) same) (record { here = refl; others = others })) table live
+
+-- what its transaction has come to
+pub comes_to : (all : Open) (slot place : ℕ) (has : SlotHas) (work : Work) (tracks : Tracks) (readings : List noted.Read) (before : State) (run : Run) → HasSlot all slot has → place ≡ slot
+    → ChangesReads all.tracks tracks slot readings → HasWritten before run work → AllZip SpellsRead readings (reads_made run.answers)
+    → ComesTo all (record all { tracks = tracks; works = slice_set all.works place work }) slot has before run
+comes_to all slot place has work tracks readings before run is same changes written spelled =
+    let now : SlotHas = record { state = has.state; work = work; reads = readings } in
+    let new : Open = record all { tracks = tracks; works = slice_set all.works place work } in (
+      now,
+      refl,
+      record { written = written; reads = spelled },
+      set_changes all new slot now
+          (sets_work all new slot now (sym is.state) refl refl refl (ap (λ n. slice_set all.works n work) same) changes) (slice_get_within all.works slot has.work is.work),
+    )
+
+-- ---- what the statements of an active transaction have written, after one write more, and after one that failed
 
 -- a view of a state under a run's changes shows what the run has come to
 pub view_holds : (view : StateView) (before : State) (run : Run) → StandsOn before run

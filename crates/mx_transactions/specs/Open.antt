@@ -5,7 +5,7 @@ use Rattle.std.specs.List.{AllByRecursion, AllZip}
 use Rattle.mx_base.specs.declared.ids.TxnName.{TxnName}
 use Rattle.mx_key.specs.Comparable.{comparable_of}
 use Rattle.mx_key.specs.Keys.{AreFit}
-use Rattle.mx_row.specs.Limits.{rows_size}
+use Rattle.mx_row.specs.Limits.{rows_size, saturated}
 use Rattle.mx_schema.specs.declared.schema.Schema.{Schema}
 use Rattle.mx_schema.specs.Catalogues.{schema_of}
 use Rattle.mx_schema.specs.State.{State}
@@ -26,7 +26,6 @@ use Rattle.mx_write.specs.Touches.{SpellsTouched}
 use Rattle.mx_model.specs.Overlaps.{Active, Doomed, Standing, Transaction, View, state_after_first, statements_in}
 use Rattle.mx_model.specs.RunAlone.{Run, run_alone}
 use Rattle.mx_model.specs.RunTouches.{changes_of, puts_of}
-use Rattle.mx_model.specs.Slow.{saturated}
 use Rattle.mx_model.specs.Streams.{Streams, is_name, standing_now}
 use Rattle.mx_model.specs.Transactions.{state_after}
 use Rattle.mx_model.specs.statements.Answer.{Answer}

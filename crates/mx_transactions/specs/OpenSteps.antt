@@ -22,7 +22,7 @@ use Rattle.mx_model.specs.declared.reply.Reply.{Reply}
 use Rattle.mx_model.specs.declared.reply.Reply.TheVariants.{Empty, Refused}
 use Rattle.mx_schema.specs.Sound.{IsSound}
 use Rattle.mx_schema.specs.State.{State}
-use Rattle.mx_space.specs.OwnChanges.{AreNoDescriptions, state_with_own}
+use Rattle.mx_entries.specs.OwnStates.{AreNoDescriptions, state_with_own}
 use Rattle.mx_row.specs.declared.row.Row.{Row}
 use Rattle.mx_write.specs.Notes.{SpellsRead}
 use Rattle.mx_write.specs.Reads.{Read}

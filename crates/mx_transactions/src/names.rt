@@ -12,14 +12,14 @@ use std::alloc::{AllocError, Global};
 use std::marker::Model;
 
 /// An open transaction's name, and its slot.
-#[derive(Clone, Copy, Debug, Drop)]
+#[derive(Clone, Copy, Drop)]
 pub struct Named {
     pub name: TxnName,
     pub slot: Slot,
 }
 
 /// The names of open transactions, the newest first, with room for all that may be open.
-#[derive(Debug, Drop)]
+#[derive(Drop)]
 pub struct OpenNames {
     items: Vec<Named>,
 }

@@ -4,7 +4,7 @@ ghost use Rattle.std.specs.Prelude.{◌≡◌, ◌≢◌, ℕ, Bool, None, false
 ghost use Rattle.std.specs.FinMap.{get, remove};
 ghost use Rattle.std.specs.List.{AllByRecursion, AllZip, filter};
 ghost use Rattle.std.specs.Option.{option_copied};
-ghost use Rattle.mx_row.specs.Limits.{row_size as plain_row_size};
+ghost use Rattle.mx_row.specs.Limits.{row_size as plain_row_size, saturated};
 ghost use Rattle.mx_schema.specs.State as plain;
 ghost use Rattle.mx_space.specs.declared.state.State as memory;
 ghost use Rattle.mx_space.specs.KeptStates.{kept_at};
@@ -16,12 +16,11 @@ ghost use Rattle.mx_txn.specs.Slots.{IsLive, max_open};
 ghost use Rattle.mx_write.specs.declared.writable.Writer.TheVariants.{Client};
 ghost use Rattle.mx_write.specs.Judge.{judged_write};
 ghost use Rattle.mx_write.specs.Made as spec;
-ghost use Rattle.mx_write.specs.Makes.{MakesWrite};
+ghost use Rattle.mx_judge.specs.Makes.{MakesWrite};
 ghost use Rattle.mx_write.specs.Notes.{SpellsRead};
 ghost use Rattle.mx_write.specs.Writable.{describes_schema};
 ghost use Rattle.mx_write.specs.Writes as statement;
 ghost use Rattle.mx_model.specs.RunAlone.{Run, run_with};
-ghost use Rattle.mx_model.specs.Slow.{saturated};
 ghost use Rattle.mx_model.specs.statements.Answer.{Answer};
 ghost use Rattle.mx_model.specs.Streams.{Streams, begins_beside, is_name, streams_left, transaction_named, without_named};
 ghost use Rattle.mx_transactions.specs.Open.{HasRun, HasSlot, HaveOwnSlots, HoldsOpen, SlotHas, WritesNothing, slot_named};
@@ -32,11 +31,11 @@ ghost use Rattle.mx_transactions.specs.OpenSteps.{ChangesTo, ComesTo, DropsUnrea
 use crate::names::{Named, OpenNames};
 use crate::work::Work;
 use mx_base::{ConnId, Refusal, SpaceId, TxnName};
+use mx_judge::Made;
 use mx_row::Row;
 use mx_space::{KeptStates, State};
 use mx_tracker::{MarkSet, Reads, TouchedKeys, Tracker};
 use mx_txn::{MAX_OPEN, Slot, Slots, TxnState};
-use mx_write::Made;
 use std::alloc::{AllocError, Global};
 use std::marker::Model;
 

@@ -2,34 +2,34 @@
 
 ghost use Rattle.std.specs.Prelude.{◌≡◌, ◌∷◌, ◌++◌, [], false, Ok, Some, List, OnOk, MatchResult};
 ghost use Rattle.mx_row.specs.declared.row.Row.{Row as PlainRow};
-ghost use Rattle.mx_row.specs.Limits.{has_room, row_size as plain_row_size, rows_size};
+ghost use Rattle.mx_row.specs.Limits.{has_room, row_size as plain_row_size, rows_size, saturated};
 ghost use Rattle.mx_row.specs.Views.{row_value};
 ghost use Rattle.mx_schema.specs.Catalogues.{schema_of};
 ghost use Rattle.mx_schema.specs.State as plain;
 ghost use Rattle.mx_schema.specs.Sound.{IsSound};
-ghost use Rattle.mx_space.specs.OwnChanges.{AreNoDescriptions, HoldsOwn, HoldsView, state_with_own};
+ghost use Rattle.mx_entries.specs.OwnStates.{AreNoDescriptions, state_with_own};
+ghost use Rattle.mx_space.specs.OwnChanges.{HoldsOwn, HoldsView};
 ghost use Rattle.mx_space.specs.Stored.{Holds};
 ghost use Rattle.mx_write.specs.declared.writable.Writer.TheVariants.{Client};
 ghost use Rattle.mx_write.specs.Change.{Change};
 ghost use Rattle.mx_write.specs.Judge.{judged_write};
 ghost use Rattle.mx_write.specs.Made as spec;
-ghost use Rattle.mx_write.specs.Makes.{MakesWrite};
+ghost use Rattle.mx_judge.specs.Makes.{MakesWrite};
 ghost use Rattle.mx_write.specs.Touches.{AddsTouched, touched_at};
 ghost use Rattle.mx_write.specs.Writable.{describes_schema};
 ghost use Rattle.mx_write.specs.Writes as statement;
 ghost use Rattle.mx_model.specs.RunAlone.{Run, run_with};
-ghost use Rattle.mx_model.specs.Slow.{saturated};
 ghost use Rattle.mx_model.specs.statements.Answer.{Answer};
 ghost use Rattle.mx_model.specs.RunTouches.{changes_of};
 ghost use Rattle.mx_transactions.specs.Open.{HasWritten, WritesNothing};
 ghost use Rattle.mx_transactions.specs.OpenSteps.{BeginsAs, StandsOn};
 
 use mx_base::SpaceId;
+use mx_judge::Made;
 use mx_msgpack::Bytes;
 use mx_row::{MAX_ROWS, MAX_TRANSACTION_SIZE, ROW_HEADER_SIZE, Row, RowRef, Rows, row_size};
 use mx_space::{Overlay, State, StateView};
 use mx_tracker::TouchedKeys;
-use mx_write::Made;
 use std::alloc::{AllocError, Global};
 
 /// A primary key of a space, as comparable bytes.

@@ -12,7 +12,7 @@ use crate::tuple::Tuple;
 use mx_msgpack::{ValueRef, read_ref};
 
 /// Why a tuple doesn't meet a format. Fields count from 0.
-#[derive(Clone, Copy, Debug, Drop, PartialEq, Eq)]
+#[derive(Clone, Copy, Drop, PartialEq, Eq)]
 pub enum FieldFault {
     /// The field is absent.
     Missing { field: u32 },

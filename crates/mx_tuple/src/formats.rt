@@ -46,7 +46,7 @@ impl FieldKind {
 }
 
 /// What a format says of the field in an entry's place.
-#[derive(Debug, Drop)]
+#[derive(Drop)]
 pub struct FormatEntry {
     pub name: Bytes,
     pub kind: FieldKind,
@@ -56,7 +56,7 @@ pub struct FormatEntry {
 
 /// The entries of a format, in the order of the fields: at most 2^32 - 1, as many as a tuple can have
 /// fields.
-#[derive(Debug, Drop)]
+#[derive(Drop)]
 pub struct FormatEntries {
     items: Vec<FormatEntry>,
 }
@@ -74,7 +74,7 @@ impl Model for FormatEntries {
 }
 
 /// What a space asks of its tuples.
-#[derive(Debug, Drop)]
+#[derive(Drop)]
 pub struct Format {
     /// How many fields a tuple has; 0 for any number.
     pub count: u32,

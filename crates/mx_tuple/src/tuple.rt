@@ -16,7 +16,7 @@ pub const MAX_TUPLE_SIZE: usize = 1_048_576;
 
 /// A tuple: its bytes, and the places in them where its fields begin, with the place where the last
 /// one ends.
-#[derive(Debug, Drop)]
+#[derive(Drop)]
 pub struct Tuple {
     bytes: Bytes,
     places: Vec<usize>,
@@ -33,7 +33,7 @@ impl Model for Tuple {
 }
 
 /// Why there is no tuple.
-#[derive(Clone, Copy, Debug, Drop, PartialEq, Eq)]
+#[derive(Clone, Copy, Drop, PartialEq, Eq)]
 pub enum TupleBad {
     /// The bytes aren't one array.
     Bad,

@@ -8,7 +8,7 @@ use std::marker::Model;
 pub const MAX_OPEN: u32 = 1024;
 
 /// The number of a slot, below 1,024.
-#[derive(Clone, Copy, PartialEq, Eq, Debug)]
+#[derive(Clone, Copy, PartialEq, Eq)]
 pub struct Slot(pub(crate) u32);
 
 impl Model for Slot {

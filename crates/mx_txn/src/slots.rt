@@ -11,7 +11,7 @@ use std::alloc::{AllocError, Global};
 use std::marker::Model;
 
 /// The open transactions, each in a slot.
-#[derive(Debug, Drop)]
+#[derive(Drop)]
 pub struct Slots {
     states: Vec<Option<TxnState>>,
     live: u32,
@@ -23,7 +23,7 @@ pub struct Slots {
 }
 
 /// As many transactions are open as may be.
-#[derive(Clone, Copy, PartialEq, Eq, Debug)]
+#[derive(Clone, Copy, PartialEq, Eq)]
 pub struct Full {
     /// How many transactions are open.
     pub live: u32,

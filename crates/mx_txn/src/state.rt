@@ -4,7 +4,7 @@ ghost use Rattle.std.specs.Prelude.{◌≡◌, ◌≢◌, Some, MatchBool};
 ghost use Rattle.mx_txn.specs.Views.{view_in};
 
 /// What an open transaction reads, by the numbers of commits.
-#[derive(Clone, Copy, PartialEq, Eq, Debug)]
+#[derive(Clone, Copy, PartialEq, Eq)]
 pub enum TxnState {
     /// It began after this commit, and reads the newest state.
     Active { since: u64 },

@@ -12,7 +12,7 @@ use std::alloc::Global;
 use std::marker::Model;
 
 /// At most 4,000 operations, in the order in which they are applied.
-#[derive(Debug, Drop)]
+#[derive(Drop)]
 pub struct Ops<'a> {
     operations: Vec<Operation<'a>>,
 }

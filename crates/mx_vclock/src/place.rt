@@ -9,7 +9,7 @@ use crate::vclock::{MAX_LSN, REPLICAS};
 const MAX_ID: usize = REPLICAS - 1;
 
 /// What was read last of a vclock's text.
-#[derive(Clone, Copy, Debug, Drop, PartialEq, Eq)]
+#[derive(Clone, Copy, Drop, PartialEq, Eq)]
 pub(crate) enum Place {
     /// Nothing.
     Start,

@@ -23,13 +23,13 @@ use Rattle.mx_schema.proofs.IndexListLaws.{has_indexes, no_index_there}
 use Rattle.mx_schema.proofs.KeyedLaws.{one_key, two_key}
 use Rattle.mx_schema.proofs.RowsOfStateLaws.{index_key, space_key}
 use Rattle.mx_schema.proofs.StoredLaws.{each_none}
-use Rattle.mx_space.specs.declared.build.BuildFault.{BuildFault}
-use Rattle.mx_space.specs.Builds.{build_fault}
-use Rattle.mx_space.proofs.BuildLaws.{built_has}
+use Rattle.mx_entries.specs.declared.build_fault.BuildFault.{BuildFault}
+use Rattle.mx_entries.specs.Builds.{build_fault}
+use Rattle.mx_entries.proofs.BuildLaws.{built_has}
 use Rattle.mx_write.specs.Descriptions.{build_fault_by, build_fault_on, build_refusal, description_fault, index_drop_fault, index_drop_on, index_fault_beside, index_fault_by, index_fault_on, lacks_primary, space_drop_fault, space_drop_on, unless_indexed, unless_others}
 use Rattle.mx_write.specs.Installs.{Adds, AddsOrDrops, MayChange, Drops}
 use Rattle.mx_write.specs.Lookup.{other_indexes}
-use Rattle.mx_write.specs.Steps.{CanBeMade, CanBuild}
+use Rattle.mx_write.specs.Stages.{CanBeMade, CanBuild}
 use Rattle.mx_write.specs.Writable.{begins_with_system_number, describes_schema}
 
 -- ---- what descriptions say

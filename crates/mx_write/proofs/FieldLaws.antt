@@ -17,7 +17,7 @@ use Rattle.mx_update.specs.Updates.{◌>>=◌, Sent, fields_after, fields_after_
 use Rattle.mx_write.specs.Checks.{format_fault, key_fault, keys_fault, tuple_fault}
 use Rattle.mx_write.specs.Judged.{judged_as, next_stage}
 use Rattle.mx_write.specs.Lookup.{all_indexes}
-use Rattle.mx_write.specs.Steps.{ChecksKey}
+use Rattle.mx_write.specs.Stages.{ChecksKey}
 use Rattle.mx_write.specs.Update.{the_operations, tuple_or_refusal}
 
 module _ (one other : List ℕ) (same : unwrap_or (items_of one) [] ≡ unwrap_or (items_of other) []) where

@@ -1,16 +1,22 @@
 -- The row of a user's space or index is named by a key that begins with that number.
-use Rattle.std.proofs.Common.{◌≡◌, ℕ, Bool, true, false, List, [], ◌∷◌, length, Option, Some, None, Result, Ok, Err, refl, sym, ap, ◌∙◌, true≢false, eqb-true}
+use Rattle.std.proofs.Common.{◌≡◌, ℕ, List, sym, ◌∙◌, subst, ◌⊎◌, inl, inr, Bool, true, false, [], ◌∷◌, length, Option, Some, None, Result, Ok, Err, refl, ap, true≢false, eqb-true}
 use Rattle.std.specs.Prelude.{pos, ◌==◌, ◌||◌, if◌then◌else◌}
 use Rattle.std.specs.FinMap.{get}
 use Rattle.std.specs.Option.{ok_or, unwrap_or}
+use Rattle.mx_msgpack.specs.Items.{IsArray, items_of}
+use Rattle.mx_request.specs.Spelling.{IsInnerArray}
+use Rattle.mx_request.proofs.ValueTextLaws.{inner_is_array}
+use Rattle.mx_row.specs.declared.row.Row.{Row}
+use Rattle.mx_row.specs.Rows.{IsDelete, IsInsert, IsReplace, IsRow, IsUpdate, IsUpsert}
+use Rattle.mx_write.specs.Made.{write_of}
+use Rattle.mx_write.specs.Views.{AreArrays, write_view}
+use Rattle.mx_write.specs.Writes.{IsWellFormed, Write, Insert, Replace, Update, Delete, Upsert}
 use Rattle.mx_key.specs.declared.fault.Misfit.{Misfit}
 use Rattle.mx_key.specs.declared.fault.Misfit.TheVariants.{TooLong, WrongPart}
 use Rattle.mx_key.specs.declared.part.Part.{Part}
-use Rattle.mx_key.specs.declared.part.PartKind.TheVariants as kind
 use Rattle.mx_key.specs.Arrays.{key_array}
 use Rattle.mx_key.specs.Keys.{Key, KeyPart, Integer}
 use Rattle.mx_key.specs.Parts.{◌>>=◌, part_in, parts_of_items, whole_key, whole_key_of_items}
-use Rattle.mx_msgpack.specs.Items.{items_of}
 use Rattle.mx_msgpack.specs.Readers.{unsigned_in}
 use Rattle.mx_schema.specs.declared.index_def.IndexDef.{IndexDef}
 use Rattle.mx_schema.specs.declared.schema.Schema.{Schema}
@@ -21,6 +27,55 @@ use Rattle.mx_schema.specs.State.{State, index_rows, space_rows, tuples_in}
 use Rattle.mx_schema.proofs.DescribedLaws.{BeginsWith, index_begins, index_row_found, index_rows_key, space_begins, space_row_found, space_rows_key}
 use Rattle.mx_schema.proofs.KeyedLaws.{part_number}
 use Rattle.mx_write.specs.Writable.{begins_with_system_number, describes_schema, is_system_number}
+use Rattle.mx_write.specs.declared.write.Write as in_place
+use Rattle.mx_write.specs.declared.write.Write.TheVariants as place
+use Rattle.mx_key.specs.declared.part.PartKind.TheVariants as kind
+
+-- ---- an array of a request that can be asked is taken as it was sent
+
+pub as_sent : (sent shown taken : List ℕ) → shown ≡ sent → (IsArray shown → taken ≡ shown) → IsInnerArray sent → taken ≡ sent
+as_sent sent shown taken is same inner = same (subst IsArray (sym is) (inner_is_array sent inner)) ∙ is
+
+-- ---- the arrays of writes in place
+
+-- a write's tuple or key is an array
+abbrev HasArray : Write → Type 0
+HasArray (Insert tuple) = IsArray tuple
+HasArray (Replace tuple) = IsArray tuple
+HasArray (Update index base key operations) = IsArray key
+HasArray (Delete index key) = IsArray key
+HasArray (Upsert base tuple operations) = IsArray tuple
+
+arrays_in_place : (write : in_place.Write) → HasArray (write_view write) → AreArrays write
+arrays_in_place (place.Insert tuple) has = has
+arrays_in_place (place.Replace tuple) has = has
+arrays_in_place (place.Update index base key operations) has = has
+arrays_in_place (place.Delete index key) has = has
+arrays_in_place (place.Upsert base tuple operations) has = has
+
+-- that of a row that can be written is
+row_has : (row : Row) → (IsInsert row ⊎ IsReplace row ⊎ IsUpdate row ⊎ IsDelete row ⊎ IsUpsert row) → HasArray (write_of row)
+row_has row (inl (is, inner)) = subst (λ r. HasArray (write_of r)) (sym is) (inner_is_array row.tuple inner)
+row_has row (inr (inl (is, inner))) = subst (λ r. HasArray (write_of r)) (sym is) (inner_is_array row.tuple inner)
+row_has row (inr (inr (inl (is, base, inner, operations)))) = subst (λ r. HasArray (write_of r)) (sym is) (inner_is_array row.key inner)
+row_has row (inr (inr (inr (inl (is, inner))))) = subst (λ r. HasArray (write_of r)) (sym is) (inner_is_array row.key inner)
+row_has row (inr (inr (inr (inr (is, base, inner, operations))))) = subst (λ r. HasArray (write_of r)) (sym is) (inner_is_array row.tuple inner)
+
+pub row_arrays : (row : Row) (write : in_place.Write) → IsRow row → write_view write ≡ write_of row → AreArrays write
+row_arrays row write sound is = arrays_in_place write (subst HasArray (sym is) (row_has row sound.parts))
+
+-- and that of a well formed write
+well_formed_has : (write : Write) → IsWellFormed write → HasArray write
+well_formed_has (Insert tuple) well = inner_is_array tuple well
+well_formed_has (Replace tuple) well = inner_is_array tuple well
+well_formed_has (Update index base key operations) well = inner_is_array key well.1
+well_formed_has (Delete index key) well = inner_is_array key well
+well_formed_has (Upsert base tuple operations) well = inner_is_array tuple well.1
+
+pub well_formed_arrays : (write : in_place.Write) → IsWellFormed (write_view write) → AreArrays write
+well_formed_arrays write well = arrays_in_place write (well_formed_has (write_view write) well)
+
+-- ---- the row of a user's space or index is named by a key that begins with that number
 
 -- an array that is a whole key of numbers begins with the key's first one
 module _ (parts : List Part) (array : List ℕ) (number : ℕ) (others : Key) where

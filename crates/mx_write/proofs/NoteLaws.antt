@@ -20,7 +20,7 @@ use Rattle.mx_write.specs.Descriptions.{drop_fault}
 use Rattle.mx_write.specs.Judged.{Judged, found, found_or, next_stage, stopped, unless, ◌>>=◌}
 use Rattle.mx_write.specs.Lookup.{the_index, the_primary, the_space, the_unique_index, unless_unique}
 use Rattle.mx_write.specs.Made.{Made, made, row_with}
-use Rattle.mx_write.specs.Makes.{IsRefusedBy}
+use Rattle.mx_write.specs.Stages.{IsRefusedBy}
 use Rattle.mx_write.specs.Notes.{AddsReads, IsNotedUpTo, Noted, NotesJudged, SpellsRead}
 use Rattle.mx_write.specs.Reads.{Read, index_read, space_read}
 use Rattle.mx_write.specs.Writable.{write_refusal}

@@ -1,48 +1,97 @@
 -- What a write makes, its row makes again: judged as a row of a journal, it comes to the same.
-use Rattle.std.proofs.Common.{◌≡◌, ℕ, ◌≤◌, Bool, true, false, List, [], ◌∷◌, length, Option, Some, None, Ok, refl, sym, ap, ◌∙◌, arith}
-use Rattle.std.specs.Prelude.{◌==◌, ◌||◌, if◌then◌else◌}
+use Rattle.std.proofs.Common.{◌≡◌, ◌⊎◌, ℕ, Bool, true, false, List, Option, Some, None, Result, Ok, Err, inl, inr, refl, sym, ap, ◌∙◌, ◌≤◌, [], ◌∷◌, length, arith, ◌<◌, ◌^◌, subst}
+use Rattle.std.specs.Prelude.{not, ◌&&◌, ◌==◌, if◌then◌else◌, ◌||◌}
 use Rattle.std.specs.Option.{option_map}
 use Rattle.mx_base.specs.declared.kinds.Unsupported.TheVariants.{SystemSpaceWrite}
 use Rattle.mx_base.specs.declared.refusal.Refusal.{Refusal}
-use Rattle.mx_base.specs.declared.refusal.Refusal.TheVariants.{Unsupported}
-use Rattle.mx_base.specs.declared.refusal.Refusal.TheVariants.{IndexMissing, IndexNotUnique, SpaceMissing}
+use Rattle.mx_base.specs.declared.refusal.Refusal.TheVariants.{OutOfMemory, Unsupported, IndexMissing, IndexNotUnique, SpaceMissing}
+use Rattle.mx_schema.specs.Bootstrap.{cluster, settings}
+use Rattle.mx_schema.specs.Members.{is_member}
+use Rattle.mx_write.specs.declared.writable.Writer.{Writer}
+use Rattle.mx_write.specs.declared.writable.Writer.TheVariants.{Client, Journal}
+use Rattle.mx_write.specs.Judged.{Judged, judged_as, next_stage, ◌>>=◌, found, unless}
+use Rattle.mx_write.specs.Writable.{describes_schema, is_read_only, leader_refusal, schema_refusal, tuple_in_space, write_refusal, begins_with_system_number, own_row_refusal, primary_name, unless_member}
 use Rattle.mx_msgpack.specs.Items.{items_of}
 use Rattle.mx_key.specs.Arrays.{key_array}
-use Rattle.mx_key.specs.Keys.{Key}
+use Rattle.mx_key.specs.Keys.{Key, AreFit}
 use Rattle.mx_key.specs.Parts.{whole_key}
-use Rattle.mx_key.proofs.KeyArrayLaws.{whole_again}
+use Rattle.mx_key.proofs.KeyArrayLaws.{whole_again, array_spelled}
 use Rattle.mx_row.specs.declared.row.Row.{Row}
-use Rattle.mx_row.specs.Rows.{delete_row, delete_type, insert_type, max_body_size, replace_type, row_body_text, update_row, update_type, upsert_type}
+use Rattle.mx_row.specs.Rows.{delete_row, delete_type, insert_type, max_body_size, replace_type, row_body_text, update_row, update_type, upsert_type, IsDelete, IsInsert, IsReplace, IsRow, IsUpdate, IsUpsert}
 use Rattle.mx_row.proofs.SizeLaws.{delete_size, update_size}
 use Rattle.mx_schema.specs.declared.index_def.IndexDef.{IndexDef}
 use Rattle.mx_schema.specs.declared.schema.Schema.{Schema}
-use Rattle.mx_schema.specs.Bootstrap.{cluster, settings}
 use Rattle.mx_schema.specs.Catalogues.{index_with, schema_of}
 use Rattle.mx_schema.specs.Picks.{Indexed}
 use Rattle.mx_schema.specs.Sound.{IsSound}
 use Rattle.mx_schema.specs.State.{State}
 use Rattle.mx_schema.proofs.SoundLaws.{sound_key}
 use Rattle.mx_tuple.specs.Fields.{tuple_of}
-use Rattle.mx_write.specs.declared.writable.Writer.TheVariants.{Client, Journal}
 use Rattle.mx_write.specs.Delete.{delete_found, deletes}
 use Rattle.mx_write.specs.Descriptions.{drop_fault}
 use Rattle.mx_write.specs.Checks.{tuple_fault}
 use Rattle.mx_write.specs.Insert.{inserts}
 use Rattle.mx_write.specs.Judge.{change_in, judged_row, judged_write, refusal_in, row_change, row_refusal}
-use Rattle.mx_write.specs.Judged.{found, judged_as, unless}
 use Rattle.mx_write.specs.Lookup.{entry_under, entry_with, holder_of, key_or_refusal, own_key, primary_key_of, the_index, the_key, the_primary, the_space, the_unique_index, tuple_under, unless_unique}
 use Rattle.mx_write.specs.Made.{Made, nothing, row_with}
 use Rattle.mx_write.specs.Replace.{replaces}
 use Rattle.mx_update.specs.Updates.{updated, upserted}
 use Rattle.mx_write.specs.Update.{the_operations, tuple_or_refusal, update_found, updates}
 use Rattle.mx_write.specs.Upsert.{upsert_found, upserts}
-use Rattle.mx_write.specs.Writable.{begins_with_system_number, describes_schema, is_read_only, leader_refusal, own_row_refusal, primary_name, schema_refusal, tuple_in_space, unless_member, write_refusal}
-use Rattle.mx_write.specs.Writes.{Write, Insert, Replace, Update, Delete, Upsert}
+use Rattle.mx_write.specs.Writes.{Write, Insert, Replace, Update, Delete, Upsert, IsWellFormed}
 use Rattle.mx_write.proofs.KeyNameLaws.{key_of_users}
-use Rattle.mx_write.proofs.MemberLaws.{client_elsewhere, journal_stands}
 use Rattle.mx_write.proofs.StageLaws.{came_by, goes_on, is_found, none_refuses, passed_so}
 use Rattle.mx_write.proofs.UniqueLaws.{number_is}
-use Rattle.mx_write.proofs.WrittenLaws.{Sought, SoughtSo, entry_there, by_space, in_place_elsewhere, makes, of_users, placed, sought_by, sought_so, wrote_row}
+use Rattle.mx_write.proofs.WrittenLaws.{Sought, SoughtSo, entry_there, by_space, in_place_elsewhere, makes, of_users, placed, sought_by, sought_so, wrote_row, Wrote, wrote}
+use Rattle.mx_request.specs.Spelling.{IsInnerArray}
+
+-- ---- a tuple that an update made, where it may stand in its space
+
+-- what wasn't made stands nowhere
+pub none_made : (writer : Writer) (space : ℕ) (why : Refusal) → tuple_in_space writer space (Err why) ≡ Err why
+none_made Client space why = refl
+none_made Journal space why = refl
+
+module _ {X : Type 0} (writer : Writer) (space : ℕ) (judged : Judged X) (make : X → Result (List ℕ) Refusal) where
+  abbrev made_there : Judged (List ℕ)
+  made_there = judged >>= λ x. judged_as (tuple_in_space writer space (make x))
+
+  abbrev made_somewhere : Judged (List ℕ)
+  made_somewhere = judged >>= λ x. judged_as (make x)
+
+  -- the place is looked at last
+  pub placed_last : made_there.outcome ≡ tuple_in_space writer space made_somewhere.outcome
+  placed_last = by_outcome judged.outcome
+    where
+      by_outcome : (outcome : Result X Refusal)
+          → (next_stage judged.reads outcome (λ x. judged_as (tuple_in_space writer space (make x)))).outcome
+          ≡ tuple_in_space writer space (next_stage judged.reads outcome (λ x. judged_as (make x))).outcome
+      by_outcome (Err why) = sym (none_made writer space why)
+      by_outcome (Ok x) = refl
+
+  pub refused_anywhere : (why : Refusal) → (made_somewhere.outcome ≡ Err why) ⊎ (why ≡ OutOfMemory) → (made_there.outcome ≡ Err why) ⊎ (why ≡ OutOfMemory)
+  refused_anywhere why (inl is) = inl (placed_last ∙ ap (tuple_in_space writer space) is ∙ none_made writer space why)
+  refused_anywhere why (inr none) = inr none
+
+  pub made_so : (tuple : List ℕ) (outcome : Result (List ℕ) Refusal) → made_somewhere.outcome ≡ Ok tuple → outcome ≡ tuple_in_space writer space (Ok tuple) → made_there.outcome ≡ outcome
+  made_so tuple outcome is there = placed_last ∙ ap (tuple_in_space writer space) is ∙ sym there
+
+-- a client writes elsewhere
+pub client_elsewhere : (space type : ℕ) (named : Option (List ℕ)) → describes_schema space ≡ false → write_refusal Client space type named ≡ None → (space == cluster) ≡ false
+client_elsewhere space type named elsewhere e = by_tests (describes_schema space) (is_read_only space) (space == cluster) elsewhere e
+  where
+    by_tests : (rows read_only nodes : Bool) → rows ≡ false
+        → (if rows then schema_refusal type named else if read_only then Some (Unsupported SystemSpaceWrite) else if nodes then Some (Unsupported SystemSpaceWrite)
+        else if space == settings then leader_refusal Client named else None) ≡ None → nodes ≡ false
+    by_tests true read_only nodes elsewhere e = absurd cc
+    by_tests false true nodes elsewhere e = absurd cc
+    by_tests false false true elsewhere e = absurd cc
+    by_tests false false false elsewhere e = refl
+
+-- so a journal's tuple may stand where a client's does
+pub journal_stands : (space : ℕ) (made : Result (List ℕ) Refusal) → (space == cluster) ≡ false → tuple_in_space Journal space made ≡ made
+journal_stands space (Err why) elsewhere = refl
+journal_stands space (Ok tuple) elsewhere = ap (λ b. if b && not (is_member tuple) then Err (Unsupported SystemSpaceWrite) else Ok tuple) elsewhere
 
 -- ---- what a client may write, a journal may
 
@@ -273,3 +322,69 @@ module _ (before : State) (space : ℕ) (is : Made) (row : Row) (sound : IsSound
   -- so a state takes the row of a write, and changes as by the write
   pub takes_again : (write : Write) → (judged_write Client before space write).outcome ≡ Ok is → (row_refusal before row ≡ None) × (row_change before row ≡ is.change)
   takes_again write e = let again = made_again write e in (ap refusal_in again, ap change_in again)
+
+-- ---- the row that a write leaves can be written to a journal
+
+-- a row is one of the five
+abbrev IsOfType : Row → Type 0
+IsOfType row = IsInsert row ⊎ IsReplace row ⊎ IsUpdate row ⊎ IsDelete row ⊎ IsUpsert row
+
+-- a key that fits is spelled as an array that may stand in a body
+key_inner : (key : Key) → AreFit key → length (key_array key) ≤ max_body_size → IsInnerArray (key_array key)
+key_inner key fit short = array_spelled key fit (omega arith)
+
+-- a tuple that stands under a key of a sound state tells that the key fits
+key_fit : (before : State) (space : ℕ) (write : Write) (is : Made) (so : Wrote before space write is) (old : List ℕ) → IsSound before → tuple_under before space so.key ≡ Some old
+    → AreFit so.key
+key_fit before space write is so old sound stands = (sound_key before space so.changes.schema so.changes.primary so.key old sound so.changes.described so.changes.there stands).1
+
+parts : (before : State) (space : ℕ) (write : Write) (is : Made) (so : Wrote before space write is) → IsSound before → IsWellFormed write
+    → length (row_body_text (row_with space write (key_array so.key))) ≤ max_body_size → IsOfType (row_with space write (key_array so.key))
+parts before space (Insert tuple) is so sound well short = inl (refl, well)
+parts before space (Replace tuple) is so sound well short = inr (inl (refl, well))
+parts before space (Update index base key operations) is so sound (low, array, spelled) short =
+    let fit = key_fit before space (Update index base key operations) is so so.key_is.0 sound so.key_is.1 in
+    inr (inr (inl (refl, low, key_inner so.key fit (update_key_short space base (key_array so.key) operations short), spelled)))
+parts before space (Delete index key) is so sound well short =
+    let fit = key_fit before space (Delete index key) is so so.key_is.0 sound so.key_is.1 in
+    inr (inr (inr (inl (refl, key_inner so.key fit (delete_key_short space (key_array so.key) short)))))
+parts before space (Upsert base tuple operations) is so sound (low, array, spelled) short = inr (inr (inr (inr (refl, low, array, spelled))))
+
+-- the space of a write's row is the write's
+space_kept : (space : ℕ) (write : Write) (key : List ℕ) → (row_with space write key).space.0 ≡ space
+space_kept space (Insert tuple) key = refl
+space_kept space (Replace tuple) key = refl
+space_kept space (Update index base asked operations) key = refl
+space_kept space (Delete index asked) key = refl
+space_kept space (Upsert base tuple operations) key = refl
+
+module _ (before : State) (space : ℕ) (write : Write) (is : Made) where
+  pub leaves_row : (row : Row) → IsSound before → IsWellFormed write → space < 2 ^ 32 → (judged_write Client before space write).outcome ≡ Ok is → is.row ≡ Some row → IsRow row
+  leaves_row row sound well low e left =
+      let so = wrote_row Client before space is write row e left in
+      let (short, is_so) = makes space write so.key so.tuple so.shown is so.made in
+      let same : row ≡ row_with space write (key_array so.key) = one_row row (row_with space write (key_array so.key)) is (ap (λ (m : Made). m.row) is_so) left in
+      subst IsRow (sym same) (record {
+        space = subst (λ (n : ℕ). n < 2 ^ 32) (sym (space_kept space write (key_array so.key))) low;
+        parts = parts before space write is so sound well short;
+        short = short;
+      })
+
+  -- what leaves no row changes nothing
+  pub no_row_no_change : (judged_write Client before space write).outcome ≡ Ok is → is.row ≡ None → is.change ≡ None
+  no_row_no_change e none = by_case (wrote Client before space is write e)
+    where
+      by_case : (is ≡ nothing) ⊎ Wrote before space write is → is.change ≡ None
+      by_case (inl found_none) = ap (λ (m : Made). m.change) found_none
+      by_case (inr so) =
+          let is_so = (makes space write so.key so.tuple so.shown is so.made).1 in
+          let left : ◌≡◌ {A = Option Row} None (Some (row_with space write (key_array so.key))) = sym none ∙ ap (λ (m : Made). m.row) is_so in
+          absurd cc
+
+  -- the row is of the write's space
+  pub row_of_space : (row : Row) → (judged_write Client before space write).outcome ≡ Ok is → is.row ≡ Some row → row.space.0 ≡ space
+  row_of_space row e left =
+      let so = wrote_row Client before space is write row e left in
+      let is_so = (makes space write so.key so.tuple so.shown is so.made).1 in
+      let same : row ≡ row_with space write (key_array so.key) = one_row row (row_with space write (key_array so.key)) is (ap (λ (m : Made). m.row) is_so) left in
+      ap (λ (r : Row). r.space.0) same ∙ space_kept space write (key_array so.key)

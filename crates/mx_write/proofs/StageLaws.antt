@@ -1,23 +1,16 @@
--- How a write goes on from stage to stage, and where it ends.
-use Rattle.std.proofs.Common.{◌≡◌, ◌⊎◌, ℕ, inl, inr, Option, Some, None, Result, Ok, Err, refl, sym, ap, ◌∙◌, subst}
+-- How a write goes on from stage to stage.
+use Rattle.std.proofs.Common.{◌≡◌, ◌⊎◌, ℕ, inl, inr, Option, Some, None, Result, Ok, Err, refl, sym, ap, ◌∙◌}
 use Rattle.mx_base.specs.declared.refusal.Refusal.{Refusal}
-use Rattle.mx_base.specs.declared.refusal.Refusal.TheVariants.{OutOfMemory}
+use Rattle.mx_base.specs.declared.refusal.Refusal.TheVariants.{OutOfMemory, IndexMissing, SpaceMissing}
 use Rattle.mx_base.specs.declared.ids.IndexId.{IndexId}
 use Rattle.mx_base.specs.declared.ids.SpaceId.{SpaceId}
-use Rattle.mx_base.specs.declared.refusal.Refusal.TheVariants.{IndexMissing, SpaceMissing}
 use Rattle.mx_schema.specs.declared.index_def.IndexDef.{IndexDef}
 use Rattle.mx_schema.specs.declared.schema.Schema.{Schema}
 use Rattle.mx_schema.specs.Catalogues.{index_with, schema_of}
-use Rattle.mx_schema.specs.State.{State, tuples_in}
-use Rattle.mx_space.specs.OwnChanges.{ShowsTuples}
-use Rattle.mx_write.specs.declared.made.Made as code
-use Rattle.mx_write.specs.declared.scope.Target.{Target}
+use Rattle.mx_schema.specs.State.{State}
 use Rattle.mx_write.specs.Lookup.{the_index, the_space}
-use Rattle.mx_write.specs.Made.{Made}
-use Rattle.mx_write.specs.Writes.{Write}
-use Rattle.mx_write.specs.Judged.{Judged, found_or, judged_as, next_stage, unless, ◌>>=◌}
-use Rattle.mx_write.specs.Makes.{IsRefusedBy, JudgesFound, JudgesMade}
-use Rattle.mx_write.specs.Steps.{IsTarget, Refuses, SeesState, refusal_of}
+use Rattle.mx_write.specs.Judged.{Judged, found_or, next_stage, unless, ◌>>=◌}
+use Rattle.mx_write.specs.Stages.{IsRefusedBy, Refuses, refusal_of}
 
 module _ {X Y : Type 0} (judged : Judged X) (stage : X → Judged Y) where
   -- it goes on with what was found
@@ -101,20 +94,6 @@ module _ (space : ℕ) (schema : Schema) (index : IndexId) where
 
 -- ---- a space as the code has it
 
--- a space that was found, with its primary index
-pub is_target : (before : State) (target : Target) → SeesState before target.scope
-    → ShowsTuples (schema_of before target.scope.space.0) target.stored (tuples_in before target.scope.space.0)
-    → target.schema.now ≡ target.stored.space.now.schema → index_with 0 target.schema.now.indexes ≡ Some target.primary.now → IsTarget before target
-is_target before target sees stored same there = record {
-  holds = sees.holds;
-  alone = sees.alone;
-  stored = stored;
-  schema = same;
-  primary = there;
-}
-
--- ---- refusals of a stage that gives one or none
-
 -- an outcome without a refusal is that it went on
 pub went_on : (judged : Judged (Unit {0})) → None ≡ refusal_of judged.outcome → judged.outcome ≡ Ok tt
 went_on judged = by_outcome judged.outcome
@@ -129,14 +108,3 @@ stopped_so judged why e = inl (by_outcome judged.outcome e)
     by_outcome : (outcome : Result (Unit {0}) Refusal) → Some why ≡ refusal_of outcome → outcome ≡ Err why
     by_outcome (Ok tt) e = absurd cc
     by_outcome (Err other) e = cc
-
--- ---- what a write makes
-
--- the same outcome
-pub judged_by : (before : State) (space : ℕ) (write : Write) (result : Result code.Made Refusal) (one other : Judged Made) → one.outcome ≡ other.outcome
-    → JudgesMade before space write result other → JudgesMade before space write result one
-judged_by before space write result one other same = subst (λ outcome. JudgesMade before space write result (judged_as outcome)) (sym same)
-
-pub judged_by_found : (before : State) (space : ℕ) (write : Write) (result : Result (Option code.Made) Refusal) (one other : Judged Made) → one.outcome ≡ other.outcome
-    → JudgesFound before space write result other → JudgesFound before space write result one
-judged_by_found before space write result one other same = subst (λ outcome. JudgesFound before space write result (judged_as outcome)) (sym same)

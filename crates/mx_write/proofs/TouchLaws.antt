@@ -1,7 +1,7 @@
 -- That the keys that are added for a write lie in a range that was read exactly where the definitions say so.
 use Rattle.std.proofs.Common.{◌≡◌, ℕ, Bool, true, false, ◌&&◌, ◌||◌, List, [], ◌∷◌, ◌++◌, length, take, Option, Some, refl, sym, ap, ◌∙◌, eqb-true}
 use Rattle.std.specs.Prelude.{◌==◌, if◌then◌else◌}
-use Rattle.std.specs.List.{AllByRecursion, AllZip, list_any}
+use Rattle.std.specs.List.{AllByRecursion, list_any}
 use Rattle.std.proofs.lemmas.List.{append-nil, append_assoc}
 use Rattle.mx_key.specs.declared.edge.KeyRange.{KeyRange}
 use Rattle.mx_key.specs.Comparable.{comparable_of, edges_of, holds}
@@ -17,10 +17,10 @@ use Rattle.mx_schema.specs.State.{State}
 use Rattle.mx_schema.proofs.DescribedLaws.{its_keyed}
 use Rattle.mx_tracker.specs.declared.read.Read as noted
 use Rattle.mx_tracker.specs.declared.touched.Touched as coded
-use Rattle.mx_tracker.specs.Overlaps.{is_overlapped, lies_in_read}
+use Rattle.mx_tracker.specs.Overlaps.{lies_in_read}
 use Rattle.mx_write.specs.Notes.{SpellsRead, noted_range}
 use Rattle.mx_write.specs.Reads.{Read}
-use Rattle.mx_write.specs.Touches.{AddsTouched, SpellsTouched, Touched, are_met, index_by_state, is_met, lies_in_index, touched_key}
+use Rattle.mx_write.specs.Touches.{AddsTouched, Touched, index_by_state, is_met, lies_in_index, touched_key}
 
 -- ---- tests of lists
 
@@ -88,9 +88,6 @@ key_lies touched def key read coded space_is index_is is fit spells =
 abbrev pub AddsBeside : (old new : List coded.Touched) → Touched → List IndexDef → Type 0
 AddsBeside old new touched defs = (more : List coded.Touched) × (new ≡ old ++ more)
     × ((read : Read) (coded : noted.Read) → SpellsRead coded read → list_any (lies_in_read coded) more ≡ list_any (lies_by touched read) defs)
-
-pub none_beside : (old : List coded.Touched) (touched : Touched) → AddsBeside old old touched []
-none_beside old touched = ([], sym (append-nil old), λ read coded spells. refl)
 
 pub more_beside : (old new : List coded.Touched) (touched : Touched) (defs : List IndexDef) (def : IndexDef) (key : coded.Touched) → key.space ≡ touched.space → key.index ≡ def.id.0
     → key.key ≡ comparable_of (touched_key def touched) → AreFit (touched_key def touched)
@@ -213,23 +210,3 @@ adds_keys_of_both before a b old mid new (first, mid_is, spell_first) (second, n
       ∙ ap (λ t. list_any (is_met before read) a || t) (spell_second read coded spells)
       ∙ sym (any_both (is_met before read) a b),
 )
-
--- ---- what reads the keys overlap
-
--- keys overlap noted reads exactly where what they stand for is met by one of those
-pub overlapped_is_met : (before : State) (touched : List Touched) (keys : List coded.Touched) → SpellsTouched before touched keys
-    → (coded : List noted.Read) (reads : List Read) → AllZip SpellsRead coded reads → is_overlapped keys coded ≡ are_met before touched reads
-overlapped_is_met before touched keys spells [] [] none = refl
-overlapped_is_met before touched keys spells [] (read ∷ reads) none = absurd none
-overlapped_is_met before touched keys spells (one ∷ coded) [] none = absurd none
-overlapped_is_met before touched keys spells (one ∷ coded) (read ∷ reads) (first, others) =
-    ap (λ t. t || is_overlapped keys coded) (spells read one first)
-    ∙ ap (λ t. list_any (is_met before read) touched || t) (overlapped_is_met before touched keys spells coded reads others)
-
--- more keys overlap what either of them overlap
-pub overlapped_both : (a b : List coded.Touched) (reads : List noted.Read) → is_overlapped (a ++ b) reads ≡ (is_overlapped a reads || is_overlapped b reads)
-overlapped_both a b [] = refl
-overlapped_both a b (read ∷ reads) =
-    ap (λ t. t || is_overlapped (a ++ b) reads) (any_both (lies_in_read read) a b)
-    ∙ ap (λ t. (list_any (lies_in_read read) a || list_any (lies_in_read read) b) || t) (overlapped_both a b reads)
-    ∙ exchanged (list_any (lies_in_read read) a) (list_any (lies_in_read read) b) (is_overlapped a reads) (is_overlapped b reads)

@@ -17,7 +17,7 @@ use Rattle.mx_schema.specs.State.{State, tuples_in}
 use Rattle.mx_schema.proofs.StoredLaws.{primary_index}
 use Rattle.mx_write.specs.Judged.{Judged, next_stage, unless}
 use Rattle.mx_write.specs.Lookup.{holder_of, own_key}
-use Rattle.mx_write.specs.Steps.{IsReplaced, refusal_of}
+use Rattle.mx_write.specs.Stages.{IsReplaced, refusal_of}
 use Rattle.mx_write.specs.Unique.{are_free, duplicate, duplicate_refusal, held_refusal, is_another, is_free, is_free_if_unique, is_same_key}
 
 -- two keys are one where their bytes are
@@ -35,16 +35,6 @@ another_is primary holder tuple replaced bytes own key is there given are own_is
     by_key None are = absurd are
     by_key (Some key) (fits, bytes_are) =
         test ∙ (λ i. not (bytes_eq (own_is i) (bytes_are i))) ∙ ap not (sym (same_by_bytes (own_key primary tuple) key fit fits))
-
--- there is one, and none is replaced
-pub another_unless_replaced : (primary : IndexDef) (holder : Option (List ℕ)) (tuple : List ℕ) (replaced : Option (List ℕ)) (key : Option Key)
-    → holder ≡ Some tuple → replaced ≡ None → IsReplaced replaced key → true ≡ is_another primary key holder
-another_unless_replaced primary holder tuple replaced key there none are =
-    by_key key (subst (λ r. IsReplaced r key) none are) ∙ ap (is_another primary key) (sym there)
-  where
-    by_key : (key : Option Key) → IsReplaced None key → true ≡ is_another primary key (Some tuple)
-    by_key None are = refl
-    by_key (Some key) are = absurd are
 
 pub no_other : (primary : IndexDef) (holder : Option (List ℕ)) (key : Option Key) → holder ≡ None → false ≡ is_another primary key holder
 no_other primary holder key none = by_key key ∙ ap (is_another primary key) (sym none)

@@ -109,9 +109,6 @@ takes_keys schema primary tuple = by_size (nat_lt max_tuple_size (length tuple))
     by_size true e = absurd cc
     by_size false e = by_format (checked schema.def.format (tuple_of tuple).fields) e
 
-pub takes_key : (schema : Schema) (primary : IndexDef) (tuple : List ℕ) → tuple_fault schema primary tuple ≡ None → key_in primary.key tuple ≡ Ok (own_key primary tuple)
-takes_key schema primary tuple e = (takes_keys schema primary tuple e).0
-
 -- keys that are the same one are equal
 pub same_by_order : (one other : Key) → is_same_key one other ≡ true → one ≡ other
 same_by_order one other same = by_order (key_cmp one other) refl same

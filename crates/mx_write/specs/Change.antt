@@ -2,8 +2,8 @@
 use Rattle.std.specs.Prelude.{◌&&◌, Option, Some, None, is_none, ◌==◌, if◌then◌else◌}
 use Rattle.mx_schema.specs.SchemaChanges.{without_index}
 use Rattle.mx_schema.specs.State.{State, index_rows}
-use Rattle.mx_space.specs.Reserves.{PlainChange}
-pub use Rattle.mx_space.specs.Reserves.{state_with}
+use Rattle.mx_entries.specs.PlainChanges.{PlainChange}
+pub use Rattle.mx_entries.specs.PlainChanges.{state_with}
 use Rattle.mx_write.specs.Descriptions.{index_named_by, space_named_by}
 
 -- the tuple that stands under a primary key of a space afterwards, or none

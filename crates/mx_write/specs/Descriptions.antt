@@ -13,9 +13,9 @@ use Rattle.mx_schema.specs.IndexRows.{index_in}
 use Rattle.mx_schema.specs.SchemaChecks.{fields_in, first_number}
 use Rattle.mx_schema.specs.SpaceRows.{space_in}
 use Rattle.mx_schema.specs.State.{State, Tuples, index_rows, space_rows, tuples_in}
-use Rattle.mx_space.specs.declared.build.BuildFault.{BuildFault}
-use Rattle.mx_space.specs.declared.build.BuildFault.TheVariants.{Duplicate, LacksKey, NoMemory}
-use Rattle.mx_space.specs.Builds.{build_fault}
+use Rattle.mx_entries.specs.declared.build_fault.BuildFault.{BuildFault}
+use Rattle.mx_entries.specs.declared.build_fault.BuildFault.TheVariants.{Duplicate, LacksKey, NoMemory}
+use Rattle.mx_entries.specs.Builds.{build_fault}
 use Rattle.mx_write.specs.Checks.{fault_refusal}
 use Rattle.mx_write.specs.Lookup.{other_indexes}
 

@@ -13,9 +13,9 @@ ghost use Rattle.mx_tuple.specs.Formats.{checked};
 ghost use Rattle.mx_schema.specs.State.{key_in};
 ghost use Rattle.mx_write.specs.Checks as spec;
 ghost use Rattle.mx_write.specs.Lookup.{all_indexes, other_indexes};
-ghost use Rattle.mx_write.specs.Steps.{Checks, ChecksKey};
+ghost use Rattle.mx_write.specs.Stages.{Checks, ChecksKey};
 
-use crate::lookup::type_of;
+use crate::type_name::type_of;
 use mx_base::{Refusal, TypeName};
 use mx_key::{KeyFault, NoKey, key_of_tuple};
 use mx_msgpack::Bytes;
@@ -27,7 +27,7 @@ use std::alloc::Global;
 ///
 /// # Errors
 /// Why it doesn't: its size, then its fields by the format, then its keys, index by index.
-pub(crate) fn check_tuple(
+pub fn check_tuple(
     alloc: Global,
     schema: &Schema,
     primary: &IndexDef,

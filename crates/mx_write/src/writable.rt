@@ -19,7 +19,7 @@ use mx_schema::{
 const FIRST_USER_SPACE: u64 = 512;
 
 /// Who writes.
-#[derive(Clone, Copy, Debug, Drop, PartialEq, Eq)]
+#[derive(Clone, Copy, Drop, PartialEq, Eq)]
 pub enum Writer {
     Client,
     /// A journal, whose rows were judged when they were written.
@@ -118,7 +118,7 @@ fn names_by_tuple(kind: u8) -> bool
 ///
 /// # Errors
 /// It should be the row of a node of the replica set, and isn't.
-pub(crate) fn tuple_in_space(writer: Writer, space: SpaceId, tuple: Bytes) -> Result<Bytes, Refusal>
+pub fn tuple_in_space(writer: Writer, space: SpaceId, tuple: Bytes) -> Result<Bytes, Refusal>
     ensures { result ≡ spec.tuple_in_space writer space.0 (Ok tuple) }
 {
     match writer {

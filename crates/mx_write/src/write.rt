@@ -28,7 +28,7 @@ pub const UPSERT: u8 = 9;
 
 /// What a write does in its space. Keys, tuples and operations are arrays of MessagePack, and `base` is
 /// the number of a first field.
-#[derive(Clone, Copy, Debug)]
+#[derive(Clone, Copy)]
 pub enum Write<'a> {
     Insert {
         tuple: &'a [u8],

@@ -19,7 +19,7 @@ const MAX_DATA_SIZE: usize = 4_194_304;
 const END_MARKER: [u8; 4] = [0xd5, 0x10, 0xad, 0xed];
 
 /// What stands at a place of a file after its header. A place counts bytes from 0.
-#[derive(Clone, Copy, Debug, Drop, PartialEq, Eq)]
+#[derive(Clone, Copy, Drop, PartialEq, Eq)]
 pub enum Block {
     /// A block, with the place of its data's first byte and the place after its last.
     Rows {

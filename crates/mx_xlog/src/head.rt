@@ -4,7 +4,7 @@ use mx_vclock::Vclock;
 use uuid::Uuid;
 
 /// What a file's header says: which file it is, who wrote it, and where it begins.
-#[derive(Clone, Copy, Debug, Drop)]
+#[derive(Clone, Copy, Drop)]
 pub struct Head {
     /// Whether it is a snapshot, and not a journal.
     pub snapshot: bool,

@@ -1,6 +1,6 @@
 //! SELECT.
 
-ghost use Rattle.std.specs.Prelude.{◌≡◌, ◌⊎◌, ℕ, List, Option, Some, Ok, Err, IfSome, MatchResult, OnOk};
+ghost use Rattle.std.specs.Prelude.{◌≡◌, ◌≢◌, ◌⊎◌, ℕ, List, Option, Some, Ok, Err, IsOk, IfSome, MatchResult, OnOk};
 ghost use Rattle.std.specs.Option.{option_map};
 ghost use Rattle.mx_base.specs.declared.refusal.Refusal.TheVariants.{OutOfMemory};
 ghost use Rattle.mx_key.specs.Comparable.{edges_of};
@@ -11,23 +11,25 @@ ghost use Rattle.mx_msgpack.specs.Items.{IsArray};
 ghost use Rattle.mx_schema.specs.declared.index_def.IndexKind.TheVariants.{Hash};
 ghost use Rattle.mx_schema.specs.State as plain;
 ghost use Rattle.mx_schema.specs.State.{source_of};
+ghost use Rattle.mx_entries.specs.declared.pick.SelectFault.TheVariants.{TooLong};
 ghost use Rattle.mx_space.specs.OwnChanges.{HoldsView};
 ghost use Rattle.mx_space.specs.Stored.{Holds};
 ghost use Rattle.mx_write.specs.Notes.{AddsReads};
 ghost use Rattle.mx_model.specs.SelectSteps.{RefusesKey, TakesKey};
 ghost use Rattle.mx_model.specs.statements.Select.{part_count, range_reads, select_answer_in};
+ghost use Rattle.mx_engine.specs.SelectFaults.{IsFaultRefusal};
 ghost use Rattle.mx_engine.specs.Steps.{IsReplyOf};
 ghost use Rattle.mx_engine.specs.Views.{reply_of};
 
 use crate::answer::Answered;
 use crate::engine::Engine;
 use mx_base::{IndexId, Refusal, SpaceId, Unsupported};
+use mx_judge::{Notes, find_index, find_space};
 use mx_key::{IterKind, KeyRange, range};
 use mx_model::{misfit_refusal, part_count_refusal, takes_iterator};
 use mx_msgpack::{Tuples, known_array};
 use mx_schema::{IndexDef, IndexKind, source_of};
 use mx_space::{Pick, SelectFault, StateView};
-use mx_write::{Notes, find_index, find_space};
 use std::alloc::{AllocError, Global};
 
 impl Engine {
@@ -76,12 +78,41 @@ pub(crate) fn select(
             note_read(notes, space, def.id, read)?;
             Ok(Answered::Tuples)
         }
-        Err(SelectFault::Misfit(misfit)) => Err(misfit_refusal(def, misfit)),
-        Err(SelectFault::TooLong) => {
-            note_whole_range(alloc, notes, space, def, pick)?;
-            Err(Refusal::ResultTooLong)
+        Err(fault) => {
+            note_fault(alloc, notes, space, def, pick, fault)?;
+            Err(fault_refusal(def, fault))
         }
-        Err(SelectFault::NoMemory) => Err(Refusal::OutOfMemory),
+    }
+}
+
+/// The refusal of a SELECT that has this fault.
+fn fault_refusal(def: &IndexDef, fault: SelectFault) -> Refusal
+    ensures { IsFaultRefusal def.now fault result }
+{
+    match fault {
+        SelectFault::Misfit(misfit) => misfit_refusal(def, misfit),
+        SelectFault::TooLong => Refusal::ResultTooLong,
+        SelectFault::NoMemory => Refusal::OutOfMemory,
+    }
+}
+
+/// Notes what was read by a key where a SELECT has this fault: all of its range, where the tuples are too long.
+fn note_fault(
+    alloc: Global,
+    notes: &mut Notes,
+    space: SpaceId,
+    def: &IndexDef,
+    pick: &Pick<'_>,
+    fault: SelectFault,
+) -> Result<(), AllocError>
+    ensures long { (key : Key) → fault ≡ TooLong → key_of_array def.now.key pick.now.key.now ≡ Ok key → AreFit key
+        → OnOk result (AddsReads notes.old notes.new (range_reads (source_of space.0) def.now.id.0 (Some (range_of pick.now.iterator key)))) }
+    ensures other { fault ≢ TooLong → IsOk result × (notes.new ≡ notes.old) }
+{
+    match fault {
+        SelectFault::TooLong => note_whole_range(alloc, notes, space, def, pick),
+        SelectFault::Misfit(_) => Ok(()),
+        SelectFault::NoMemory => Ok(()),
     }
 }
 

@@ -22,7 +22,7 @@ ghost use Rattle.mx_model.specs.Streams.{Streams, standing_now, states_in};
 ghost use Rattle.mx_model.specs.declared.reply.Reply.TheVariants as reply;
 ghost use Rattle.mx_model.specs.statements.Statement.{Statement};
 ghost use Rattle.mx_engine.specs.StatementViews.{AreKeysArrays, select_view, statement_view, write_in_space};
-ghost use Rattle.mx_engine.specs.Steps.{AnswersAlone, IsActiveIn, IsMadeIn, IsOpenIn, IsReplyOf, Keeps, SameNode, TellsOutcome, TellsOrLacks, newest_run, row_made};
+ghost use Rattle.mx_engine.specs.Steps.{AnswersAlone, AnswersStatement, IsActiveIn, IsMadeIn, IsOpenIn, IsReplyOf, Keeps, SameNode, TellsOutcome, TellsOrLacks, newest_run, row_made};
 ghost use Rattle.mx_engine.specs.Views.{reply_of};
 
 use crate::answer::Answered;
@@ -31,13 +31,14 @@ use crate::statement::{SelectRef, StatementRef};
 use crate::statements::select::select;
 use crate::statements::write::show;
 use mx_base::{Refusal, ReplicaId, SpaceId, Unsupported, code_of};
+use mx_judge::{Made, Notes, Scope, row_of};
 use mx_model::WRITABLE_NODE;
 use mx_msgpack::Tuples;
 use mx_row::Row;
 use mx_space::StateView;
 use mx_transactions::size_of;
 use mx_txn::{Slot, TxnState};
-use mx_write::{Made, Notes, Scope, Write, Writer, row_of};
+use mx_write::{Write, Writer};
 use std::alloc::AllocError;
 
 impl Engine {
@@ -53,7 +54,7 @@ impl Engine {
         requires arrays { AreKeysArrays statement.now }
         requires live { get self.old.open.slots slot ≡ Some state }
         ensures answers { (streams : Streams) (name : TxnName) (one : Transaction) → AllStandAlone streams → IsOpenIn self.old streams name slot one → OperationHasBytes (statement_view statement.now).operation
-            → TellsOrLacks self.old self.new streams name (states_in streams one (statement_view statement.now)) (reply_of result found.new) }
+            → AnswersStatement self.old self.new streams name (states_in streams one (statement_view statement.now)) (reply_of result found.new) }
         ensures keeps { SameNode self.old self.new }
     {
         if statement.writes_schema() {
@@ -79,7 +80,7 @@ impl Engine {
         requires live { IsLive self.old.open.slots slot }
         ensures answers { (streams : Streams) (name : TxnName) (one : Transaction) → AllStandAlone streams → IsOpenIn self.old streams name slot one → standing_now streams false one ≡ View at
             → IsDataStatement (statement_view statement.now)
-            → TellsOrLacks self.old self.new streams name (states_in streams one (statement_view statement.now)) (reply_of result found.new) }
+            → AnswersStatement self.old self.new streams name (states_in streams one (statement_view statement.now)) (reply_of result found.new) }
         ensures keeps { SameNode self.old self.new }
     {
         match statement {
@@ -127,7 +128,7 @@ impl Engine {
         requires arrays { AreKeysArrays statement.now }
         requires live { IsLive self.old.open.slots slot }
         ensures answers { (streams : Streams) (name : TxnName) (one : Transaction) → AllStandAlone streams → IsActiveIn self.old streams name slot one → IsDataStatement (statement_view statement.now)
-            → TellsOrLacks self.old self.new streams name (states_in streams one (statement_view statement.now)) (reply_of result found.new) }
+            → AnswersStatement self.old self.new streams name (states_in streams one (statement_view statement.now)) (reply_of result found.new) }
         ensures keeps { SameNode self.old self.new }
     {
         match statement {
@@ -145,7 +146,7 @@ impl Engine {
         requires array { IsArray wanted.now.key.now }
         requires live { IsLive self.old.open.slots slot }
         ensures answers { (streams : Streams) (name : TxnName) (one : Transaction) → AllStandAlone streams → IsActiveIn self.old streams name slot one
-            → TellsOrLacks self.old self.new streams name (states_in streams one (select_view wanted.now)) (reply_of result found.new) }
+            → AnswersStatement self.old self.new streams name (states_in streams one (select_view wanted.now)) (reply_of result found.new) }
         ensures keeps { SameNode self.old self.new }
     {
         let mut notes = Notes::on(self.alloc);
@@ -172,16 +173,13 @@ impl Engine {
         requires arrays { AreArrays write.now }
         requires live { IsLive self.old.open.slots slot }
         ensures answers { (streams : Streams) (name : TxnName) (one : Transaction) → AllStandAlone streams → IsActiveIn self.old streams name slot one → IsDataStatement (write_in_space space write.now)
-            → TellsOrLacks self.old self.new streams name (states_in streams one (write_in_space space write.now)) (reply_of result found.new) }
+            → AnswersStatement self.old self.new streams name (states_in streams one (write_in_space space write.now)) (reply_of result found.new) }
         ensures keeps { SameNode self.old self.new }
     {
         if !self.is_writable() {
+            // Nothing was read, so there is nothing to note.
             let writable = ReplicaId(WRITABLE_NODE);
-            return self.note(
-                slot,
-                Notes::on(self.alloc),
-                Err(Refusal::ReadOnly { writable }),
-            );
+            return Err(Refusal::ReadOnly { writable });
         }
         let mut notes = Notes::on(self.alloc);
         let scope = Scope {

@@ -4,7 +4,7 @@ ghost use Rattle.std.specs.Prelude.{◌≡◌, ◌+◌, ◌%◌, ◌^◌, ◌∷
 ghost use Rattle.std.specs.Option.{option_copied, option_map};
 ghost use Rattle.mx_base.specs.declared.ids.TxnName.{TxnName};
 ghost use Rattle.mx_row.specs.Views.{row_value};
-ghost use Rattle.mx_write.specs.Makes.{tuples_shown};
+ghost use Rattle.mx_judge.specs.Makes.{tuples_shown};
 ghost use Rattle.mx_write.specs.Made.{row_with};
 ghost use Rattle.mx_write.specs.Views.{AreArrays, write_view};
 ghost use Rattle.mx_write.specs.Writable.{describes_schema};
@@ -15,19 +15,20 @@ ghost use Rattle.mx_model.specs.Streams.{Streams, states_alone};
 ghost use Rattle.mx_engine.specs.Standing.{HasStreams};
 ghost use Rattle.mx_engine.specs.StatementViews.{write_in_space};
 ghost use Rattle.mx_engine.specs.Steps as steps;
-ghost use Rattle.mx_engine.specs.Steps.{CountsCommit, CountsStep, IsWriteOf, Keeps, Prepares, Readies, SameNode, Stores, TellsOrLacks, row_made};
+ghost use Rattle.mx_engine.specs.Steps.{AnswersStatement, CountsCommit, CountsStep, IsWriteOf, Keeps, Prepares, Readies, SameNode, Stores, TellsOrLacks, row_made};
 ghost use Rattle.mx_engine.specs.Views.{reply_of};
 
 use crate::answer::Answered;
 use crate::engine::Engine;
 use crate::transactions::move_others;
 use mx_base::{Lsn, Refusal, ReplicaId, SpaceId};
+use mx_judge::{Effect, Made, Notes, Scope, row_of};
 use mx_model::{WRITABLE_NODE, next_lsn};
 use mx_msgpack::Tuples;
 use mx_row::{RowRef, Tx};
 use mx_space::StateView;
 use mx_tracker::{MarkSet, TouchedKeys};
-use mx_write::{Effect, Made, Notes, Scope, Write, Writer, describes_schema, row_of};
+use mx_write::{Write, Writer, describes_schema};
 use std::alloc::{AllocError, Global};
 
 impl Engine {
@@ -40,7 +41,7 @@ impl Engine {
     ) -> Result<Answered, Refusal>
         requires arrays { AreArrays write.now }
         ensures answers { (streams : Streams) (name : TxnName) → HasStreams self.old streams → AllStandAlone streams → CountsStep self.old → HasBytes (write_view write.now)
-            → TellsOrLacks self.old self.new streams name (states_alone streams (write_in_space space write.now)) (reply_of result found.new) }
+            → AnswersStatement self.old self.new streams name (states_alone streams (write_in_space space write.now)) (reply_of result found.new) }
         ensures keeps { SameNode self.old self.new }
     {
         if !self.is_writable() {

@@ -17,10 +17,9 @@ use Rattle.mx_schema.specs.declared.index_def.IndexKind.TheVariants.{Tree, Hash}
 use Rattle.mx_schema.specs.declared.schema.Schema.{Schema}
 use Rattle.mx_schema.specs.State.{State, source_of}
 use Rattle.mx_schema.specs.Picks.{Selection, pick, entries_of, total_bytes, max_result_size}
-use Rattle.mx_write.specs.Reads.{Read}
+use Rattle.mx_write.specs.Reads.{Read, schema_reads}
 use Rattle.mx_model.specs.statements.Answer.{Answer, refusal_after, tuples_after}
 use Rattle.mx_write.specs.Lookup.{misfit_refusal}
-use Rattle.mx_write.specs.Reads.{schema_reads}
 use Rattle.mx_model.specs.statements.Lookup.{in_index, in_space}
 
 -- the iterator of this number

@@ -4,7 +4,7 @@ use Rattle.mx_request.specs.Spelling.{IsAskable}
 use Rattle.mx_request.proofs.ValueTextLaws.{inner_is_array}
 use Rattle.mx_request.specs.declared.request.Request.{Request}
 use Rattle.mx_write.specs.Writes.{TupleIsBytes, write_in}
-use Rattle.mx_write.proofs.ViewLaws.{well_formed_arrays}
+use Rattle.mx_write.proofs.KeyNameLaws.{well_formed_arrays}
 use Rattle.mx_model.proofs.AnswerLaws.{write_fits}
 use Rattle.mx_engine.proofs.ViewLaws.{write_stated}
 use Rattle.mx_engine.proofs.statement.statement_in.Goals as goal

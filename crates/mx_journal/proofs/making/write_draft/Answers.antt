@@ -36,18 +36,18 @@ returns-clause-moments g c =
 pub returns-in_err-create-clause-others : goal.returns-in_err-create-clause-others
 returns-in_err-create-clause-others g c = λ ours.
     let name = c.args.name.now in
-    may_make_steps KeepsOthers (created name) (λ disk. created_others name disk ours) _ _ c.create.result c.create.ensures.made
+    may_make_steps KeepsOthers (created name) (λ disk. created_others name disk ours c.requires) _ _ c.create.result c.create.ensures.made
 
 pub returns-in_err-append_synced-clause-others : goal.returns-in_err-append_synced-clause-others
 returns-in_err-append_synced-clause-others g c = λ ours.
     let name = c.args.name.now in
     steps_then KeepsOthers _ _ _
-    (may_make_steps KeepsOthers (created name) (λ disk. created_others name disk ours) _ _ c.create.result c.create.ensures.made)
+    (may_make_steps KeepsOthers (created name) (λ disk. created_others name disk ours c.requires) _ _ c.create.result c.create.ensures.made)
     (append_others name c.args.bytes.now _ _ c.append_synced.result ours c.append_synced.ensures.states)
 
 pub returns-clause-others : goal.returns-clause-others
 returns-clause-others g c = λ ours.
     let name = c.args.name.now in
     steps_then KeepsOthers _ _ _
-    (may_make_steps KeepsOthers (created name) (λ disk. created_others name disk ours) _ _ c.create.result c.create.ensures.made)
+    (may_make_steps KeepsOthers (created name) (λ disk. created_others name disk ours c.requires) _ _ c.create.result c.create.ensures.made)
     (append_others name c.args.bytes.now _ _ c.append_synced.result ours c.append_synced.ensures.states)

@@ -1,4 +1,4 @@
-use Rattle.mx_model.proofs.FrameCommit.{rows_again, run_rows}
+use Rattle.mx_model.proofs.FrameRuns.{rows_again, run_rows}
 use Rattle.mx_model.proofs.laws.a_commit_is_its_statements.Goals as goal
 
 pub returns-clause-alone : goal.returns-clause-alone

@@ -1,5 +1,5 @@
 use Rattle.mx_model.specs.Answers.{answer_in_space}
-use Rattle.mx_model.proofs.FrameLaws.{answered_same}
+use Rattle.mx_model.proofs.FrameRuns.{answered_same}
 use Rattle.mx_model.proofs.FrameSteps.{changed_agree, plain_change}
 use Rattle.mx_model.proofs.laws.untouched_statements_are_answered_the_same.Goals as goal
 

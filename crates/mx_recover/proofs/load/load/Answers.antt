@@ -1,5 +1,5 @@
 use Rattle.std.proofs.Common.{◌≡◌, ◌+◌, ◌∙◌, arith}
-use Rattle.mx_recover.proofs.LoadingLaws.{of_both, one_more}
+use Rattle.mx_recover.proofs.ReplayLaws.{of_both, one_more}
 use Rattle.mx_recover.proofs.load.load.Goals as goal
 
 pub loop-at-preserved : goal.loop-at-preserved

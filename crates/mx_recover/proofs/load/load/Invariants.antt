@@ -1,7 +1,7 @@
 use Rattle.std.proofs.Common.{◌≡◌, ◌≤◌, ◌-◌}
 use Rattle.std.specs.Prelude.{vec_len}
 use Rattle.mx_outside.specs.Disks.{OfFile}
-use Rattle.mx_recover.proofs.LoadingLaws.{IsLoaded}
+use Rattle.mx_recover.proofs.ReplayLaws.{IsLoaded}
 use Rattle.mx_recover.proofs.load.load.Given as goal
 
 abbrev pub invariant-loop-at : goal.invariant-loop-at

@@ -1,5 +1,5 @@
 use Rattle.std.proofs.Common.{◌∙◌}
-use Rattle.mx_recover.proofs.LoadingLaws.{of_one, placed}
+use Rattle.mx_recover.proofs.ReplayLaws.{of_one, placed}
 use Rattle.mx_recover.proofs.load.read_into.Goals as goal
 
 pub returns-clause-read : goal.returns-clause-read

@@ -1,7 +1,7 @@
 use Rattle.std.proofs.Common.{Ok, subst}
 use Rattle.std.specs.Prelude.{IfOk}
 use Rattle.mx_outside.specs.Disks.{IfKnown}
-use Rattle.mx_model.specs.Directories.{Reached, IsDirectoryState}
+use Rattle.mx_directory.specs.Directories.{Reached, IsDirectoryState}
 use Rattle.mx_recover.specs.Recovered.{StandsFor}
 use Rattle.mx_recover.proofs.recovery.recover.Goals as goal
 

@@ -1,7 +1,7 @@
 use Rattle.std.proofs.Common.{refl, ap, ◌∙◌, map, string_bytes, arith}
 use Rattle.std.proofs.lemmas.List.{nil_from_length}
 use Rattle.std.proofs.lemmas.Result.{err_from_is_err_and}
-use Rattle.mx_model.specs.Directories.{nothing_yet}
+use Rattle.mx_directory.specs.Directories.{nothing_yet}
 use Rattle.mx_recover.proofs.FileLaws.{begins, is_there, goes_on, ends, breaks, snapshot_breaks}
 use Rattle.mx_recover.proofs.recovery.replay.Goals as goal
 

@@ -1,6 +1,6 @@
 use Rattle.std.proofs.Common.{◌≡◌, ◌≤◌, length, map, string_bytes}
 use Rattle.mx_outside.specs.Disks.{IfKnown}
-use Rattle.mx_model.specs.Directories as files
+use Rattle.mx_directory.specs.Directories as files
 use Rattle.mx_recover.specs.Recovered.{StandsFor}
 use Rattle.mx_recover.specs.Replay.{IsUnderway}
 use Rattle.mx_recover.proofs.recovery.replay.Given as goal

@@ -6,9 +6,9 @@ use Rattle.mx_key.specs.Keys.{AreFit}
 use Rattle.mx_schema.specs.Picks.{tuples_by_index}
 use Rattle.mx_schema.specs.State.{key_or_none}
 use Rattle.mx_schema.proofs.StoredLaws.{fit_joined, keys_joined}
-use Rattle.mx_space.specs.Entries.{with_entry}
-use Rattle.mx_space.specs.KeptKeys.{kept_key}
-use Rattle.mx_space.proofs.BuildLaws.{is_duplicate, no_row_fault, one_built}
+use Rattle.mx_entries.specs.Entries.{with_entry}
+use Rattle.mx_entries.specs.KeptKeys.{kept_key}
+use Rattle.mx_entries.proofs.BuildLaws.{is_duplicate, no_row_fault, one_built}
 use Rattle.mx_space.proofs.build.add_row.Goals as goal
 use Rattle.mx_space.proofs.build.add_row.Goals.{else-def-via-then-def+else-has_key, else-def-via-else-def}
 

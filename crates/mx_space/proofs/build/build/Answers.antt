@@ -1,5 +1,5 @@
 use Rattle.std.proofs.lemmas.Result.{err_from_is_err_and}
-use Rattle.mx_space.proofs.BuildLaws.{all_built, none_yet, one_more, row_refused}
+use Rattle.mx_entries.proofs.BuildLaws.{all_built, none_yet, one_more, row_refused}
 use Rattle.mx_space.proofs.build.build.Goals as goal
 
 pub loop-primary-init : goal.loop-primary-init

@@ -2,8 +2,8 @@ use Rattle.std.proofs.Common.{◌≡◌, ℕ, false}
 use Rattle.std.specs.Prelude.{◌==◌}
 use Rattle.mx_schema.specs.State as plain
 use Rattle.mx_schema.specs.Stored.{StoresTuples}
-use Rattle.mx_space.specs.Built.{AreLong}
-use Rattle.mx_space.proofs.BuildLaws.{PartBuilt}
+use Rattle.mx_entries.specs.Built.{AreLong}
+use Rattle.mx_entries.proofs.BuildLaws.{PartBuilt}
 use Rattle.mx_space.proofs.build.build.Given as goal
 
 abbrev pub invariant-loop-primary : goal.invariant-loop-primary

@@ -1,6 +1,6 @@
-use Rattle.mx_space.proofs.AloneLaws.{leads_once_by}
+use Rattle.mx_entries.proofs.FoundLaws.{leads_once_by}
 use Rattle.std.proofs.Common.{◌∙◌}
-use Rattle.mx_space.proofs.HolderLaws.{some_has}
+use Rattle.mx_entries.proofs.HolderKeyLaws.{some_has}
 use Rattle.mx_space.proofs.build.has_key.Goals as goal
 
 pub returns : goal.returns

@@ -2,9 +2,9 @@ use Rattle.std.proofs.Common.{ne_eqb, sym, ◌∙◌, subst}
 use Rattle.std.proofs.lemmas.Result.{MatchResult-weaker}
 use Rattle.mx_schema.specs.State.{Tuples}
 use Rattle.mx_schema.specs.Stored.{StoresTuples}
-use Rattle.mx_space.specs.Kept.{StoresByNumber, StoresIndex}
-use Rattle.mx_space.proofs.AlterLaws.{none_at_fault}
-use Rattle.mx_space.proofs.SpaceLaws.{nothing_kept}
+use Rattle.mx_entries.specs.KeptEntries.{StoresByNumber, StoresIndex}
+use Rattle.mx_entries.proofs.AlteredLaws.{none_at_fault}
+use Rattle.mx_entries.proofs.KeptLaws.{nothing_kept}
 use Rattle.mx_space.proofs.build.new_entries.Goals as goal
 
 pub returns-then-def-eq0 : goal.returns-then-def-eq0

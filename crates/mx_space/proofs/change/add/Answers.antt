@@ -1,5 +1,5 @@
 use Rattle.std.proofs.Common.{◌∙◌}
-use Rattle.mx_space.proofs.BytesLaws.{undone_so}
+use Rattle.mx_entries.proofs.BytesLaws.{undone_so}
 use Rattle.mx_space.proofs.change.add.Goals as goal
 
 pub returns-clause-undo : goal.returns-clause-undo

@@ -3,7 +3,7 @@ use Rattle.std.specs.Option.{option_copied}
 use Rattle.mx_key.specs.Comparable.{comparable_of}
 use Rattle.mx_key.specs.Keys.{Key, AreFit}
 use Rattle.mx_space.specs.Changes.{Puts}
-use Rattle.mx_space.proofs.ZipLaws.{IsMade}
+use Rattle.mx_space.proofs.SpaceLaws.{IsMade}
 use Rattle.mx_space.proofs.changes.changes_of.Given as goal
 
 abbrev pub invariant-loop-def : goal.invariant-loop-def

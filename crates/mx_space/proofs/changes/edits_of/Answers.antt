@@ -1,6 +1,6 @@
 use Rattle.std.specs.Option.{option_copied}
 use Rattle.mx_space.specs.Reserved.{Edits}
-use Rattle.mx_space.proofs.ZipLaws.{all_made}
+use Rattle.mx_space.proofs.SpaceLaws.{all_made}
 use Rattle.mx_space.proofs.changes.edits_of.Goals as goal
 
 pub returns : goal.returns

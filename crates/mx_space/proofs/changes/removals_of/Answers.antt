@@ -1,5 +1,5 @@
 use Rattle.mx_space.specs.Changes.{Removes}
-use Rattle.mx_space.proofs.ZipLaws.{all_made}
+use Rattle.mx_space.proofs.SpaceLaws.{all_made}
 use Rattle.mx_space.proofs.changes.removals_of.Goals as goal
 
 pub returns : goal.returns

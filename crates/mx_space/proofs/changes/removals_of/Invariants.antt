@@ -2,7 +2,7 @@ use Rattle.std.proofs.Common.{◌≡◌, length}
 use Rattle.mx_key.specs.Comparable.{comparable_of}
 use Rattle.mx_key.specs.Keys.{Key, AreFit}
 use Rattle.mx_space.specs.Changes.{Removes}
-use Rattle.mx_space.proofs.ZipLaws.{IsMade}
+use Rattle.mx_space.proofs.SpaceLaws.{IsMade}
 use Rattle.mx_space.proofs.changes.removals_of.Given as goal
 
 abbrev pub invariant-loop-def : goal.invariant-loop-def

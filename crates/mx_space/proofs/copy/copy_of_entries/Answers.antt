@@ -1,4 +1,4 @@
-use Rattle.mx_space.proofs.CopyLaws.{where_cloned}
+use Rattle.mx_space.proofs.PlaceLaws.{where_cloned}
 use Rattle.mx_space.proofs.copy.copy_of_entries.Goals as goal
 
 pub returns : goal.returns

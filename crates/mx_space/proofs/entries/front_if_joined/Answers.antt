@@ -1,4 +1,4 @@
-use Rattle.mx_space.proofs.JoinLaws.{other_front, other_rest}
+use Rattle.mx_entries.proofs.SplitLaws.{other_front, other_rest}
 use Rattle.mx_space.proofs.entries.front_if_joined.Goals as goal
 
 pub returns-then-ne : goal.returns-then-ne

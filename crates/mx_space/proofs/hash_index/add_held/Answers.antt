@@ -1,7 +1,7 @@
 use Rattle.std.proofs.Common.{[], ◌∷◌, ◌++◌, List, drop, sym, ap, ◌∙◌, append-nil, append_assoc}
 use Rattle.std.specs.FinMap.{entries}
 use Rattle.mx_hash.specs.Views.{map_of}
-use Rattle.mx_space.specs.Entries.{IndexEntry, with_entry}
+use Rattle.mx_entries.specs.Entries.{IndexEntry, with_entry}
 use Rattle.mx_space.specs.HashIndexes.{held_entries}
 use Rattle.mx_space.proofs.HashIndexLaws.{entries_more, pushed}
 use Rattle.mx_space.proofs.hash_index.add_held.Goals as goal

@@ -2,7 +2,7 @@ use Rattle.std.proofs.Common.{◌≡◌, ◌++◌, ℕ, List}
 use Rattle.std.specs.FinMap.{entries}
 use Rattle.mx_hash.specs.Views.{map_of}
 use Rattle.mx_space.specs.declared.held_entry.HeldEntry.{HeldEntry}
-use Rattle.mx_space.specs.Entries.{IndexEntry}
+use Rattle.mx_entries.specs.Entries.{IndexEntry}
 use Rattle.mx_space.specs.HashIndexes.{held_entries}
 use Rattle.mx_space.proofs.hash_index.add_held.Given as goal
 

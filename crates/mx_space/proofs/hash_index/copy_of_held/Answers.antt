@@ -1,4 +1,4 @@
-use Rattle.mx_space.proofs.CopyLaws.{where_cloned}
+use Rattle.mx_space.proofs.PlaceLaws.{where_cloned}
 use Rattle.mx_space.proofs.hash_index.copy_of_held.Goals as goal
 
 pub returns : goal.returns

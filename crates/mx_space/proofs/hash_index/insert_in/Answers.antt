@@ -4,8 +4,8 @@ use Rattle.std.specs.Map.{lookup}
 use Rattle.mx_space.specs.declared.held_entry.HeldEntry.{HeldEntry}
 use Rattle.mx_key.specs.Prefixes.{prefix_size}
 use Rattle.mx_space.specs.HashIndexes.{ArePlaced, hash_index_entries, key_hash, under_own}
-use Rattle.mx_space.proofs.FrontedLaws.{fronted_tried}
-use Rattle.mx_space.proofs.HashIndexLaws.{bytes_same, has_held, has_other, placed_too, with_held, with_other, with_there}
+use Rattle.mx_space.proofs.HashFindLaws.{fronted_tried}
+use Rattle.mx_space.proofs.HashIndexLaws.{has_held, has_other, placed_too, with_held, with_other, with_there}
 use Rattle.std.proofs.lemmas.Result.{on_ok_weaker}
 use Rattle.mx_space.proofs.hash_index.insert_in.Goals as goal
 
@@ -88,13 +88,12 @@ returns-in_ok-insert-in-None-clause-placed c =
     let held = c.args.held.now.entries in
     let others = c.args.others.now in
     let place = c.key_place-begin.ensures.place in
-    let entry : HeldEntry = record { key = key; begin = c.in-Ok.begin } in
+    let entry : HeldEntry = record { key = key; begin = c.in-Some.begin } in
     let free = ap (λ n. lookup (nat_eq n) held) (sym place) ∙ c.in-None.ensures in
     let set : (n : ℕ) → lookup (nat_eq n) c.insert-in-None.new.self.entries ≡ cond (nat_eq (key_hash parts key) n) (Some entry) (lookup (nat_eq n) held) = λ n.
     c.in_ok-insert-in-None.ensures.updates.0 n ∙ ap (λ p. cond (nat_eq p n) (Some entry) (lookup (nat_eq n) held)) place in
-    let begin : c.in-Ok.begin ≡ prefix_size parts key = c.in-Ok.ensures.1 ∙ c.key_place-begin.ensures.begin in
-    let value : drop c.in-Ok.begin key ≡ c.args.primary.now =
-    (λ i. drop (c.in-Ok.ensures.1 i) (sym c.as_slice.ensures i)) ∙ sym c.split_at.ensures.back ∙ bytes_same c.split_at.result.1.now c.args.primary.now c.if-ne.ensures in
+    let begin : c.in-Some.begin ≡ prefix_size parts key = c.in-Some.ensures.found.0 ∙ c.key_place-begin.ensures.begin in
+    let value : drop c.in-Some.begin key ≡ c.args.primary.now = (λ i. drop (c.in-Some.ensures.found.0 i) (sym c.as_slice.ensures i)) ∙ c.in-Some.ensures.found.1 in
     placed_too parts held others c.requires.unique c.requires.placed key c.insert-in-None.new.self.entries entry c.args.primary.now free set refl begin value
 
 pub returns-in_ok-insert-in-None-clause-is_new : goal.returns-in_ok-insert-in-None-clause-is_new
@@ -115,13 +114,12 @@ returns-in_ok-insert-in-None-clause-ok c =
     let held = c.args.held.now.entries in
     let others = c.args.others.now in
     let place = c.key_place-begin.ensures.place in
-    let entry : HeldEntry = record { key = key; begin = c.in-Ok.begin } in
+    let entry : HeldEntry = record { key = key; begin = c.in-Some.begin } in
     let free = ap (λ n. lookup (nat_eq n) held) (sym place) ∙ c.in-None.ensures in
     let set : (n : ℕ) → lookup (nat_eq n) c.insert-in-None.new.self.entries ≡ cond (nat_eq (key_hash parts key) n) (Some entry) (lookup (nat_eq n) held) = λ n.
     c.in_ok-insert-in-None.ensures.updates.0 n ∙ ap (λ p. cond (nat_eq p n) (Some entry) (lookup (nat_eq n) held)) place in
-    let begin : c.in-Ok.begin ≡ prefix_size parts key = c.in-Ok.ensures.1 ∙ c.key_place-begin.ensures.begin in
-    let value : drop c.in-Ok.begin key ≡ c.args.primary.now =
-    (λ i. drop (c.in-Ok.ensures.1 i) (sym c.as_slice.ensures i)) ∙ sym c.split_at.ensures.back ∙ bytes_same c.split_at.result.1.now c.args.primary.now c.if-ne.ensures in
+    let begin : c.in-Some.begin ≡ prefix_size parts key = c.in-Some.ensures.found.0 ∙ c.key_place-begin.ensures.begin in
+    let value : drop c.in-Some.begin key ≡ c.args.primary.now = (λ i. drop (c.in-Some.ensures.found.0 i) (sym c.as_slice.ensures i)) ∙ c.in-Some.ensures.found.1 in
     let absent = sym c.if-contains_key.ensures in
     with_held parts held others c.requires.unique c.requires.placed key c.insert-in-None.new.self.entries entry c.args.primary.now free set refl begin value
     c.in_ok-insert-in-None.ensures.unique absent
@@ -131,5 +129,5 @@ returns-in-Some-false-clause-fronted c =
     let parts = c.args.parts in
     let key = c.args.key in
     let behind : c.args.primary.now ≡ drop (prefix_size parts key) key =
-    sym (bytes_same c.split_at.result.1.now c.args.primary.now c.if-ne.ensures) ∙ c.split_at.ensures.back ∙ (λ i. drop (c.key_place-begin.ensures.begin i) (c.as_slice.ensures i)) in
+    sym c.in-Some.ensures.found.1 ∙ (λ i. drop (c.key_place-begin.ensures.begin i) (c.as_slice.ensures i)) in
     fronted_tried parts key c.args.primary.now behind c.args.others.now c.insert.new.self c.requires.fronted c.insert.result c.insert.ensures.ok c.insert.ensures.err

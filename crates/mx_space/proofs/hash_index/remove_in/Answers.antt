@@ -6,9 +6,9 @@ use Rattle.std.specs.Map.{lookup}
 use Rattle.std.specs.Ordering.{eq_by_cmp, nat_cmp}
 use Rattle.std.specs.Str.{bytes_eq}
 use Rattle.mx_space.specs.HashIndexes.{AreFronted, key_hash, under_own}
-use Rattle.mx_space.proofs.FrontedLaws.{fronted_without}
+use Rattle.mx_space.proofs.HashFindLaws.{fronted_without}
 use Rattle.mx_space.proofs.HashIndexLaws.{held_apart, held_gone, look_without, looks, placed_still, without_both}
-use Rattle.mx_space.proofs.SortedLaws.{ascending}
+use Rattle.mx_entries.proofs.SortedLaws.{ascending}
 use Rattle.mx_space.proofs.WaitingLaws.{place_waited_for, placed_moved, with_moved}
 use Rattle.mx_space.proofs.hash_index.remove_in.Goals as goal
 

@@ -1,6 +1,6 @@
 use Rattle.std.proofs.Common.{◌≡◌, ◌≤◌, ℕ, Bool, List, [], ◌∷◌, length, refl, arith}
 use Rattle.std.specs.Map.{remove_entry}
-use Rattle.mx_space.specs.Entries.{IndexEntry}
+use Rattle.mx_entries.specs.Entries.{IndexEntry}
 use Rattle.mx_space.proofs.hash_index.remove_other.Goals as goal
 
 none_less : (test : List ℕ → Bool) (all : List IndexEntry) → length all ≤ 0 → all ≡ remove_entry test all

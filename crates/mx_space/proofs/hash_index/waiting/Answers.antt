@@ -7,9 +7,9 @@ use Rattle.std.specs.Ordering.{nat_cmp}
 use Rattle.std.specs.Result.{OkIff, result_ok}
 use Rattle.std.proofs.Math.Seq.{drop-append_seam, take-append_seam}
 use Rattle.mx_msgpack.proofs.Options.{same_some}
-use Rattle.mx_space.specs.Entries.{LeadsTo}
-use Rattle.mx_space.proofs.LeadLaws.{first_found}
-use Rattle.mx_space.proofs.SortedLaws.{ascending}
+use Rattle.mx_entries.specs.Entries.{LeadsTo}
+use Rattle.mx_space.proofs.HashFindLaws.{first_found}
+use Rattle.mx_entries.proofs.SortedLaws.{ascending}
 use Rattle.mx_space.proofs.hash_index.waiting.Goals as goal
 
 match_ok : {A E : Type 0} (P : A → Type 0) (Q : E → Type 0) (r : Result A E) (a : A) → Some a ≡ result_ok r → MatchResult r P Q → P a

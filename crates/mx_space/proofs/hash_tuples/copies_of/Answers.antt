@@ -3,7 +3,7 @@ use Rattle.std.specs.BTreeMap.{insert_entry}
 use Rattle.std.specs.Cmp.Lexicographic.{slice_cmp}
 use Rattle.std.specs.Ordering.{nat_cmp}
 use Rattle.mx_space.specs.HashViews.{hash_entries}
-use Rattle.mx_space.proofs.HashLaws.{none_kept, one_further}
+use Rattle.mx_space.proofs.FirstTupleLaws.{none_kept, one_further}
 use Rattle.mx_space.proofs.hash_tuples.copies_of.Goals as goal
 
 pub loop-key-init : goal.loop-key-init

@@ -1,7 +1,6 @@
 use Rattle.std.proofs.Common.{◌≡◌, [], ◌∷◌, ◌++◌, take, sym, ap, ◌∙◌, append-nil, append_assoc}
 use Rattle.mx_space.specs.HashViews.{hash_entries}
-use Rattle.mx_space.proofs.FirstTupleLaws.{first_of_none}
-use Rattle.mx_space.proofs.HashLaws.{none_kept, one_further}
+use Rattle.mx_space.proofs.FirstTupleLaws.{first_of_none, none_kept, one_further}
 use Rattle.mx_space.proofs.hash_tuples.first_of.Goals as goal
 
 pub loop-key-init : goal.loop-key-init

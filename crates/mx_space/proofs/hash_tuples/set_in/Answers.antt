@@ -1,8 +1,8 @@
 use Rattle.std.proofs.Common.{is_some, refl, sym, ap, ◌∙◌}
 use Rattle.std.specs.Option.{option_copied_mut}
 use Rattle.mx_space.specs.HashViews.{hash_entries}
-use Rattle.mx_space.proofs.HashLaws.{looked_up, set_there}
-use Rattle.mx_space.proofs.PutBackLaws.{not_set}
+use Rattle.mx_space.proofs.FirstTupleLaws.{looked_up, set_there}
+use Rattle.mx_space.proofs.ChangeLaws.{not_set}
 use Rattle.mx_space.proofs.hash_tuples.set_in.Goals as goal
 
 pub returns-in_default : goal.returns-in_default

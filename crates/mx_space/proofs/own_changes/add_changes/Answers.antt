@@ -1,6 +1,6 @@
 use Rattle.std.proofs.Common.{◌++◌, map, ap, ◌∙◌, append_assoc}
 use Rattle.mx_space.specs.OwnCommit.{put_change, puts_in, removals_in}
-use Rattle.mx_space.specs.TupleMaps.{TupleEntries}
+use Rattle.mx_entries.specs.TupleMaps.{TupleEntries}
 use Rattle.mx_space.proofs.own_changes.add_changes.Goals as goal
 
 pub returns-clause-adds : goal.returns-clause-adds

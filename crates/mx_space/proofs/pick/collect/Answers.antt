@@ -2,7 +2,7 @@ use Rattle.std.proofs.Common.{rules, ◌≡◌, ◌-◌, ◌++◌, ◌∷◌, []
 use Rattle.std.proofs.lemmas.Result.{err_from_is_err_and}
 use Rattle.mx_schema.specs.Picks.{directed, max_result_size}
 use Rattle.mx_space.specs.Selecting.{row_of}
-use Rattle.mx_space.proofs.WindowLaws.{took_tuple, took_last, took_bytes, too_long}
+use Rattle.mx_entries.proofs.WindowLaws.{took_tuple, took_last, took_bytes, too_long}
 use Rattle.mx_space.proofs.pick.collect.Goals as goal
 
 pub returns-in_err-bytes : goal.returns-in_err-bytes

@@ -1,7 +1,8 @@
 use Rattle.std.proofs.Common.{◌≡◌, ◌≤◌, ◌++◌, map, take, option_map}
 use Rattle.mx_schema.specs.Picks.{directed, total_bytes, max_result_size}
-use Rattle.mx_space.specs.Selecting.{last_key_of, row_of}
-use Rattle.mx_space.proofs.WindowLaws.{tuples_of, last_after}
+use Rattle.mx_entries.specs.Windows.{last_key_of}
+use Rattle.mx_space.specs.Selecting.{row_of}
+use Rattle.mx_entries.proofs.WindowLaws.{tuples_of, last_after}
 use Rattle.mx_space.proofs.pick.collect.Given as goal
 
 -- what was taken and what remains are the whole together

@@ -1,7 +1,7 @@
 use Rattle.std.proofs.Common.{rules, ◌<◌, length, ne_eqb, sym, ap, ◌∙◌}
 use Rattle.std.specs.Prelude.{◌++◌, drop, take}
-use Rattle.mx_space.specs.Changes.{kept_without}
-use Rattle.mx_space.proofs.AlterLaws.{passed_here}
+use Rattle.mx_entries.specs.EntryChanges.{kept_without}
+use Rattle.mx_entries.proofs.AlteredLaws.{passed_here}
 use Rattle.mx_space.proofs.places.+remove_indexes.Goals as goal
 
 pub returns-else-def-id : goal.returns-else-def-id

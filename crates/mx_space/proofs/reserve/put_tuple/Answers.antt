@@ -1,6 +1,6 @@
 use Rattle.std.proofs.Common.{refl, sym, ◌∙◌, subst}
 use Rattle.std.specs.Prelude.{IsSome}
-use Rattle.mx_space.proofs.PutBackLaws.{insertion_undone, replacement_undone}
+use Rattle.mx_space.proofs.ChangeLaws.{insertion_undone, replacement_undone}
 use Rattle.mx_space.proofs.reserve.put_tuple.Goals as goal
 
 pub returns-in-Some-2-clause-undo : goal.returns-in-Some-2-clause-undo

@@ -1,4 +1,4 @@
-use Rattle.mx_space.specs.Reserves.{state_with_all}
+use Rattle.mx_entries.specs.PlainChanges.{state_with_all}
 use Rattle.mx_space.proofs.ReserveLaws.{left_less, none_left}
 use Rattle.mx_space.proofs.reserve_all.install_all.Goals as goal
 

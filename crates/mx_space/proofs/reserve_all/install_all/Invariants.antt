@@ -1,7 +1,8 @@
 use Rattle.std.proofs.Common.{ℕ, List, Option, length}
 use Rattle.mx_schema.specs.declared.schema.Schema.{Schema}
 use Rattle.mx_schema.specs.State.{State}
-use Rattle.mx_space.specs.Reserves.{AreReady, PlainChange, state_with_all}
+use Rattle.mx_space.specs.Reserves.{AreReady}
+use Rattle.mx_entries.specs.PlainChanges.{PlainChange, state_with_all}
 use Rattle.mx_space.proofs.ReserveLaws.{LeftReady}
 use Rattle.mx_space.proofs.reserve_all.install_all.Given as goal
 

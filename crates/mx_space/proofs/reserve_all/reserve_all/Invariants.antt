@@ -3,7 +3,8 @@ use Rattle.std.specs.List.{AllByRecursion, AllZip}
 use Rattle.mx_schema.specs.declared.schema.Schema.{Schema}
 use Rattle.mx_schema.specs.State.{State}
 use Rattle.mx_space.specs.Reserved.{all_released, content_under}
-use Rattle.mx_space.specs.Reserves.{AreApart, PlainChange, MayStand, SpellsChange}
+use Rattle.mx_entries.specs.PlainChanges.{AreApart, PlainChange, MayStand}
+use Rattle.mx_space.specs.Reserves.{SpellsChange}
 use Rattle.mx_space.specs.Stored.{SpacesHold}
 use Rattle.mx_space.proofs.ReserveLaws.{PartReady}
 use Rattle.mx_space.proofs.reserve_all.reserve_all.Given as goal

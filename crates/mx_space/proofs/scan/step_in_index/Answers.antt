@@ -1,7 +1,7 @@
 use Rattle.std.proofs.Common.{◌∷◌, sym, ap, ◌∙◌}
 use Rattle.mx_schema.specs.Picks.{directed}
-use Rattle.mx_space.specs.Entries.{entries_split, entry_split}
-use Rattle.mx_space.proofs.WindowLaws.{map-directed, next_seen}
+use Rattle.mx_entries.specs.Entries.{entries_split, entry_split}
+use Rattle.mx_entries.proofs.WindowLaws.{map-directed, next_seen}
 use Rattle.mx_space.proofs.scan.step_in_index.Goals as goal
 
 pub returns-in-Some : goal.returns-in-Some

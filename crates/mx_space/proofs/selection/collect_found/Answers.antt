@@ -1,7 +1,14 @@
-use Rattle.std.proofs.Common.{take, drop, ap, ◌∙◌}
+use Rattle.std.proofs.Common.{◌≡◌, List, [], ◌∷◌, map, take, drop, refl, ap, ◌∙◌}
 use Rattle.mx_schema.specs.Picks.{directed}
-use Rattle.mx_space.proofs.PickLaws.{entries_stay}
+use Rattle.mx_schema.specs.Stored.{StoredTuple}
+use Rattle.mx_space.specs.declared.pick.Source.TheVariants as source
+use Rattle.mx_space.specs.Selecting.{row_of}
 use Rattle.mx_space.proofs.selection.collect_found.Goals as goal
+
+-- entries that have their tuples stay as they are
+entries_stay : (all : List StoredTuple) → map (row_of source.Entries) all ≡ all
+entries_stay [] = refl
+entries_stay (entry ∷ all) = ap (λ l. entry ∷ l) (entries_stay all)
 
 pub returns : goal.returns
 returns c =

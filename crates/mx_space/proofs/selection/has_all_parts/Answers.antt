@@ -1,4 +1,4 @@
-use Rattle.mx_space.proofs.WholeKeyLaws.{array_is_whole}
+use Rattle.mx_entries.proofs.WholeKeyLaws.{array_is_whole}
 use Rattle.mx_space.proofs.selection.has_all_parts.Goals as goal
 
 pub returns : goal.returns

@@ -8,11 +8,10 @@ use Rattle.mx_key.specs.Ranges.{AreFitEnds, descends, range_of, range_until}
 use Rattle.mx_key.proofs.RangeLaws.{range_holds}
 use Rattle.mx_schema.specs.Picks.{Indexed}
 use Rattle.mx_schema.specs.Stored.{StoredTuple, stored_tuple}
-use Rattle.mx_space.specs.declared.pick.Pick.{Pick}
-use Rattle.mx_space.specs.Scans.{picked_of}
-use Rattle.mx_space.specs.Selecting.{AreFitEntries, IsCollected, found_in, last_key_of}
-use Rattle.mx_space.proofs.PickLaws.{HoldsItsKeys, ReadsTo, fit_ends, reads_to_end, reads_to_last, tuples_are_picked}
-use Rattle.mx_space.proofs.ReadFitLaws.{read_fit}
+use Rattle.mx_entries.specs.declared.pick.Pick.{Pick}
+use Rattle.mx_entries.specs.Scans.{picked_of}
+use Rattle.mx_entries.specs.Windows.{AreFitEntries, IsCollected, found_in, last_key_of}
+use Rattle.mx_entries.proofs.PickLaws.{HoldsItsKeys, ReadsTo, fit_ends, reads_to_end, reads_to_last, tuples_are_picked, read_fit}
 use Rattle.mx_space.proofs.selection.read_to.Goals as goal
 
 module _ (all : List Indexed) (wanted : Pick) (key : Key) (fits : AreFitEntries all) (fit : AreFit key) (range : KeyRange) (edges : range ≡ edges_of (range_of wanted.iterator key))

@@ -1,7 +1,7 @@
 use Rattle.std.specs.FinMap as finite
 use Rattle.mx_schema.specs.Picks.{tuples_by_index}
-use Rattle.mx_space.specs.Selecting.{keys_read}
-use Rattle.mx_space.proofs.StopLaws.{selects_told}
+use Rattle.mx_entries.specs.Windows.{keys_read}
+use Rattle.mx_entries.proofs.PickLaws.{selects_told}
 use Rattle.mx_space.proofs.selection.select_from.Goals as goal
 
 pub returns : goal.returns

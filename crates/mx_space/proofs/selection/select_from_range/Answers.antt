@@ -2,10 +2,10 @@ use Rattle.std.proofs.Common.{length, sym, ap, ◌∙◌, subst}
 use Rattle.std.specs.FinMap as finite
 use Rattle.mx_schema.specs.State as plain
 use Rattle.mx_schema.proofs.StoredLaws.{primary_index}
-use Rattle.mx_space.specs.Scans.{Selects}
-use Rattle.mx_space.specs.Selecting.{found_in, keys_read}
-use Rattle.mx_space.proofs.MapLaws.{all_as_long}
-use Rattle.mx_space.proofs.WholeKeyLaws.{whole_found}
+use Rattle.mx_entries.specs.Scans.{Selects}
+use Rattle.mx_entries.specs.Windows.{found_in, keys_read}
+use Rattle.mx_entries.proofs.WindowLaws.{all_as_long}
+use Rattle.mx_entries.proofs.WholeKeyLaws.{whole_found}
 use Rattle.mx_space.proofs.selection.select_from_range.Goals as goal
 
 pub returns-in-Some : goal.returns-in-Some

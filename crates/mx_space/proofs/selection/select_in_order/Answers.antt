@@ -4,10 +4,10 @@ use Rattle.mx_schema.specs.Picks.{tuples_by_index}
 use Rattle.mx_schema.specs.State as plain
 use Rattle.mx_schema.specs.Stored.{StoresTuples}
 use Rattle.mx_schema.proofs.StoredLaws.{primary_index}
-use Rattle.mx_space.specs.Scans.{Selects}
-use Rattle.mx_space.specs.Selecting.{found_in, keys_read}
+use Rattle.mx_entries.specs.Scans.{Selects}
+use Rattle.mx_entries.specs.Windows.{found_in, keys_read}
 use Rattle.mx_space.proofs.FirstTupleLaws.{found_first}
-use Rattle.mx_space.proofs.MapLaws.{kept_stored}
+use Rattle.mx_entries.proofs.WindowLaws.{kept_stored}
 use Rattle.mx_space.proofs.selection.select_in_order.Goals as goal
 
 pub returns-then-is_all : goal.returns-then-is_all

@@ -1,5 +1,5 @@
 use Rattle.std.proofs.Common.{rules, ◌≡◌, ◌++◌, ◌∷◌, [], ◌<◌}
-use Rattle.mx_space.proofs.WindowLaws.{took_tuple, took_last, took_bytes}
+use Rattle.mx_entries.proofs.WindowLaws.{took_tuple, took_last, took_bytes}
 use Rattle.mx_space.proofs.shown_select.collect_shown.Goals as goal
 
 pub loop-left-preserved : goal.loop-left-preserved

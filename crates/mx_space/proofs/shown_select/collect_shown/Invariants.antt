@@ -1,8 +1,8 @@
 use Rattle.std.proofs.Common.{◌≡◌, ◌≤◌, ◌++◌, take, option_map}
 use Rattle.mx_schema.specs.Picks.{total_bytes, max_result_size}
-use Rattle.mx_space.specs.Selecting.{last_key_of}
+use Rattle.mx_entries.specs.Windows.{last_key_of}
 use Rattle.mx_space.specs.ShownRows.{rows_left}
-use Rattle.mx_space.proofs.WindowLaws.{tuples_of, last_after}
+use Rattle.mx_entries.proofs.WindowLaws.{tuples_of, last_after}
 use Rattle.mx_space.proofs.shown_select.collect_shown.Given as goal
 
 -- what was taken and what remains are the whole together

@@ -2,9 +2,9 @@ use Rattle.std.proofs.Common.{◌≡◌, drop, map, take, ap, ◌∙◌, subst}
 use Rattle.std.specs.Option.{option_map}
 use Rattle.std.proofs.lemmas.Result.{err_from_is_err_and}
 use Rattle.mx_schema.specs.Stored.{stored_tuple}
-use Rattle.mx_space.specs.Selecting.{IsCollected, found_in}
+use Rattle.mx_entries.specs.Windows.{IsCollected, found_in}
 use Rattle.mx_space.specs.ShownRows.{rows_left}
-use Rattle.mx_space.proofs.StopLaws.{stopped_told}
+use Rattle.mx_entries.proofs.PickLaws.{stopped_told}
 use Rattle.mx_space.proofs.shown_select.select_rows.Goals as goal
 
 pub returns : goal.returns

@@ -1,4 +1,4 @@
-use Rattle.mx_space.proofs.FirstLaws.{first_is}
+use Rattle.mx_entries.proofs.SplitLaws.{first_is}
 use Rattle.mx_space.proofs.tree_index.first_begin.Goals as goal
 
 pub returns : goal.returns

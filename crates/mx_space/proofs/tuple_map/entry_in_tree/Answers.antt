@@ -1,7 +1,7 @@
 use Rattle.std.specs.BTreeMap.{is_at}
 use Rattle.std.specs.Cmp.Lexicographic.{slice_cmp}
 use Rattle.std.specs.Ordering.{nat_cmp}
-use Rattle.mx_space.proofs.WholeKeyLaws.{pair_found}
+use Rattle.mx_entries.proofs.WholeKeyLaws.{pair_found}
 use Rattle.mx_space.proofs.tuple_map.entry_in_tree.Goals as goal
 
 pub returns : goal.returns

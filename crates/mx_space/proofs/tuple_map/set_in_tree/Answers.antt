@@ -1,6 +1,6 @@
 use Rattle.std.proofs.Common.{sym, ap, ◌∙◌}
 use Rattle.std.specs.Option.{option_copied_mut}
-use Rattle.mx_space.proofs.PutBackLaws.{not_set}
+use Rattle.mx_space.proofs.ChangeLaws.{not_set}
 use Rattle.mx_space.proofs.tuple_map.set_in_tree.Goals as goal
 
 pub returns-in_default : goal.returns-in_default

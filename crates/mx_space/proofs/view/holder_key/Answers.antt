@@ -1,10 +1,9 @@
 use Rattle.std.proofs.Common.{ap, sym, ◌∙◌, subst}
 use Rattle.std.specs.Option.{option_copied, option_map}
-use Rattle.mx_space.specs.Entries.{LeadsTo}
-use Rattle.mx_space.specs.Overlays.{IsHolder}
-use Rattle.mx_space.proofs.AloneLaws.{leads_once_in}
-use Rattle.mx_space.proofs.HolderLaws.{no_index, none_holds_key}
-use Rattle.mx_space.proofs.ViewLaws.{holder_is}
+use Rattle.mx_entries.specs.Entries.{LeadsTo}
+use Rattle.mx_entries.specs.OwnWrites.{IsHolder}
+use Rattle.mx_space.proofs.HolderLaws.{leads_once_in, no_index, none_holds_key}
+use Rattle.mx_space.proofs.OverlayLaws.{holder_is}
 use Rattle.mx_space.proofs.view.holder_key.Goals as goal
 
 pub returns-in_default : goal.returns-in_default

@@ -1,8 +1,9 @@
 use Rattle.std.proofs.Common.{sym, ap, ◌∙◌}
 use Rattle.std.specs.FinMap as finite
 use Rattle.std.specs.Option.{option_copied}
-use Rattle.mx_space.specs.Overlays.{under}
-use Rattle.mx_space.proofs.ViewLaws.{index_of_own, own_holds, own_one_each, stores_own}
+use Rattle.mx_entries.specs.OwnWrites.{under}
+use Rattle.mx_space.proofs.OverlayLaws.{index_of_own, stores_own}
+use Rattle.mx_entries.proofs.SeenLaws.{own_holds, own_one_each}
 use Rattle.mx_space.proofs.view.holder_under.Goals as goal
 
 pub returns-in-Some : goal.returns-in-Some

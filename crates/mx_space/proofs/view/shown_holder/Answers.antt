@@ -1,6 +1,7 @@
 use Rattle.std.proofs.Common.{sym, ◌∙◌}
-use Rattle.mx_space.specs.Overlays.{IsHolder}
-use Rattle.mx_space.proofs.ViewLaws.{hidden_holder, hides_written, none_seen, shown_holder}
+use Rattle.mx_entries.specs.OwnWrites.{IsHolder}
+use Rattle.mx_space.proofs.OverlayLaws.{hides_written}
+use Rattle.mx_entries.proofs.SeenLaws.{hidden_holder, shown_holder, none_seen}
 use Rattle.mx_space.proofs.view.shown_holder.Goals as goal
 
 pub returns-in_default : goal.returns-in_default

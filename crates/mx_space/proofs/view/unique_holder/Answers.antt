@@ -1,5 +1,5 @@
 use Rattle.std.proofs.Common.{◌∙◌}
-use Rattle.mx_space.specs.Overlays.{IsHolder}
+use Rattle.mx_entries.specs.OwnWrites.{IsHolder}
 use Rattle.mx_space.proofs.view.unique_holder.Goals as goal
 
 pub returns-in_default : goal.returns-in_default

@@ -1,8 +1,9 @@
 use Rattle.std.proofs.Common.{false, ap, ◌∙◌}
 use Rattle.std.specs.List.{filter}
 use Rattle.mx_schema.specs.Picks.{directed}
-use Rattle.mx_space.specs.Selecting.{indexed_row}
-use Rattle.mx_space.specs.ShownRows.{is_shown, merged}
+use Rattle.mx_entries.specs.Windows.{indexed_row}
+use Rattle.mx_space.specs.ShownRows.{is_shown}
+use Rattle.mx_entries.specs.MergedRows.{merged}
 use Rattle.mx_space.proofs.view_select.index_rows.Goals as goal
 
 pub returns : goal.returns

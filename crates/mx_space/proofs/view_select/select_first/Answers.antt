@@ -6,10 +6,11 @@ use Rattle.mx_key.specs.Ranges.{descends}
 use Rattle.mx_schema.specs.Picks.{directed}
 use Rattle.mx_schema.specs.Stored.{StoredTuple, stored_tuple}
 use Rattle.mx_space.specs.declared.pick.Source.TheVariants as source
-use Rattle.mx_space.specs.Overlays.{under}
+use Rattle.mx_entries.specs.OwnWrites.{under}
 use Rattle.mx_space.specs.Selecting.{row_of}
-use Rattle.mx_space.specs.ShownRows.{is_shown, merged, rows_left}
-use Rattle.mx_space.specs.TupleMaps.{TupleEntries}
+use Rattle.mx_space.specs.ShownRows.{is_shown, rows_left}
+use Rattle.mx_entries.specs.MergedRows.{merged}
+use Rattle.mx_entries.specs.TupleMaps.{TupleEntries}
 use Rattle.mx_space.proofs.ShownRowLaws.{first_rows_are}
 use Rattle.mx_space.proofs.view_select.select_first.Goals as goal
 

@@ -5,10 +5,10 @@ use Rattle.std.specs.Option.{option_copied}
 use Rattle.mx_key.specs.Comparable.{holds}
 use Rattle.mx_schema.specs.Picks.{directed, tuples_by_index}
 use Rattle.mx_schema.specs.Stored.{stored_tuple}
-use Rattle.mx_space.specs.Kept.{StoresEntries, kept_entries}
-use Rattle.mx_space.specs.Overlays.{under}
+use Rattle.mx_entries.specs.KeptEntries.{StoresEntries, kept_entries}
+use Rattle.mx_entries.specs.OwnWrites.{under}
 use Rattle.mx_space.proofs.ShownRowLaws.{entries_kept, index_rows_are}
-use Rattle.mx_space.proofs.ViewLaws.{index_of_own, stores_own}
+use Rattle.mx_space.proofs.OverlayLaws.{index_of_own, stores_own}
 use Rattle.mx_space.proofs.view_select.select_other.Goals as goal
 
 pub returns : goal.returns

@@ -6,16 +6,16 @@ use Rattle.mx_schema.specs.Catalogues.{index_with}
 use Rattle.mx_schema.specs.Picks.{tuples_by_index}
 use Rattle.mx_schema.specs.Stored.{stored_tuple}
 use Rattle.mx_schema.proofs.StoredLaws.{primary_index}
-use Rattle.mx_space.specs.Overlays.{under}
-use Rattle.mx_space.specs.Scans.{Selects}
-use Rattle.mx_space.specs.Selecting.{keys_read}
-use Rattle.mx_space.specs.TupleMaps.{under_key}
-use Rattle.mx_space.proofs.IndexScanLaws.{array_short}
+use Rattle.mx_entries.specs.OwnWrites.{under}
+use Rattle.mx_entries.specs.Scans.{Selects}
+use Rattle.mx_entries.specs.Windows.{keys_read}
+use Rattle.mx_entries.specs.TupleMaps.{under_key}
+use Rattle.mx_entries.proofs.IndexScanLaws.{array_short}
 use Rattle.mx_space.proofs.ShownRowLaws.{first_fits, seen_fits, seen_long}
-use Rattle.mx_space.proofs.MapLaws.{all_as_long}
-use Rattle.mx_space.proofs.ViewLaws.{each_own}
-use Rattle.mx_space.proofs.WholeKeyLaws.{row_stored, whole_bytes, whole_found}
-use Rattle.mx_space.proofs.WholeRowLaws.{keys_long}
+use Rattle.mx_entries.proofs.WindowLaws.{all_as_long}
+use Rattle.mx_entries.proofs.SeenLaws.{each_own}
+use Rattle.mx_entries.proofs.WholeKeyLaws.{row_stored, whole_bytes, whole_found}
+use Rattle.mx_entries.proofs.FoundLaws.{keys_long}
 use Rattle.mx_space.proofs.view_select.select_seen.Goals as goal
 
 pub returns : goal.returns

@@ -5,10 +5,11 @@ use Rattle.std.specs.FinMap as finite
 use Rattle.std.specs.Map.{lookup_entry}
 use Rattle.std.specs.Option.{option_map}
 use Rattle.std.specs.Ordering.{nat_cmp}
-use Rattle.mx_space.specs.Overlays.{under}
-use Rattle.mx_space.specs.TupleMaps.{TupleEntries, under_key}
-use Rattle.mx_space.proofs.ViewLaws.{hides_written, not_some, not_written, was_written}
-use Rattle.mx_space.proofs.WholeKeyLaws.{row_stored}
+use Rattle.mx_entries.specs.OwnWrites.{under}
+use Rattle.mx_entries.specs.TupleMaps.{TupleEntries, under_key}
+use Rattle.mx_space.proofs.OverlayLaws.{hides_written}
+use Rattle.mx_entries.proofs.SeenLaws.{not_some, not_written, was_written}
+use Rattle.mx_entries.proofs.WholeKeyLaws.{row_stored}
 use Rattle.mx_space.proofs.view_select.shown_row.Goals as goal
 
 pub returns-then-hides : goal.returns-then-hides

@@ -1,8 +1,8 @@
 use Rattle.std.proofs.Common.{rules, subst}
 use Rattle.std.specs.Option.{option_map}
 use Rattle.std.proofs.lemmas.Result.{err_from_is_err_and}
-use Rattle.mx_space.specs.Selecting.{IsCollected}
-use Rattle.mx_space.proofs.StopLaws.{stopped_told}
+use Rattle.mx_entries.specs.Windows.{IsCollected}
+use Rattle.mx_entries.proofs.PickLaws.{stopped_told}
 use Rattle.mx_space.proofs.whole_row.select_row.Goals as goal
 
 pub returns : goal.returns

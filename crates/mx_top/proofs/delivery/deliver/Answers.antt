@@ -1,4 +1,4 @@
-use Rattle.mx_top.proofs.PassedLaws.{passes_on}
+use Rattle.mx_top.proofs.ProgressLaws.{passes_on}
 use Rattle.mx_top.proofs.delivery.deliver.Goals as goal
 
 pub returns-clause-passes : goal.returns-clause-passes

@@ -1,6 +1,6 @@
 use Rattle.std.proofs.Common.{ℕ, List, ◌++◌, ap, ◌∙◌}
 use Rattle.mx_top.specs.TraceOutput.{unit_text}
-use Rattle.mx_top.proofs.OutputLaws.{units_text-more}
+use Rattle.mx_top.proofs.UnitLaws.{units_text-more}
 use Rattle.mx_top.proofs.output_unit.write_units.Goals as goal
 
 pub loop-unit-preserved : goal.loop-unit-preserved

@@ -6,7 +6,7 @@ use Rattle.mx_top.specs.TraceOutput.{units_text}
 use Rattle.mx_top.specs.Units.{unit_by}
 use Rattle.mx_top.specs.UnitViews.{head_view}
 use Rattle.mx_node.proofs.LastingLaws.{where_err}
-use Rattle.mx_top.proofs.OutputLaws.{known_unit, took_unit, took_breaks}
+use Rattle.mx_top.proofs.UnitLaws.{known_unit, took_unit, took_breaks}
 use Rattle.mx_top.proofs.trace.answer_unit.Goals as goal
 
 pub unit-requires-clause-connection : goal.unit-requires-clause-connection

@@ -4,7 +4,7 @@ use Rattle.mx_images.proofs.MomentLaws.{steps_then}
 use Rattle.mx_node.specs.Starts.{IsStart}
 use Rattle.mx_node.proofs.ServerLaws.{can_serve}
 use Rattle.mx_top.specs.Runs.{held}
-use Rattle.mx_top.proofs.RunLaws.{served_seen, not_opened, left_alone, passed_by}
+use Rattle.mx_top.proofs.RunLaws.{served_seen, not_opened, left_alone, opened_is_of, opened_survive, passed_by}
 use Rattle.mx_top.proofs.trace.trace.Goals as goal
 
 pub run_units-requires : goal.run_units-requires
@@ -16,10 +16,12 @@ pub returns-in-Ok-clause-history : goal.returns-in-Ok-clause-history
 returns-in-Ok-clause-history g c = λ bytes told.
     let (start, begins, serves) = c.in-Ok.ensures.serves in
     let began = subst (λ ids. IsStart start ids c.args.seed.now (g.D.Dir.states c.args.dir.now)) c.first_ids-ids.ensures begins in
-    rw c.status_of.ensures (served_seen c.run_units.result start c.args.seed.now bytes (held (g.K.Sink.contents c.args.output.now) (g.K.Sink.passed c.args.output.now))
+    rw c.status_of.ensures (served_seen c.run_units.result start c.args.seed.now bytes (g.S.Source.left c.run_units.new.input) (held (g.K.Sink.contents c.args.output.now) (g.K.Sink.passed c.args.output.now))
     (held (g.K.Sink.contents c.run_units.new.output) (g.K.Sink.passed c.run_units.new.output)) (g.D.Dir.states c.args.dir.now) (g.D.Dir.states c.start.new.dir) (g.D.Dir.states c.run_units.new.dir)
     began c.start.ensures.told (λ origin earlier recovers transactions front follow.
     (c.start.ensures.moments origin earlier transactions recovers front follow, c.start.ensures.reads origin earlier transactions recovers front follow))
+    (opened_survive start c.in-Ok.node c.args.seed.now (g.D.Dir.states c.args.dir.now) (g.D.Dir.states c.start.new.dir) began c.start.ensures.told serves)
+    (opened_is_of start c.in-Ok.node (g.D.Dir.states c.start.new.dir) serves)
     (c.run_units.ensures.units start bytes serves told))
 
 pub returns-in-Err-Damaged-clause-history : goal.returns-in-Err-Damaged-clause-history
@@ -29,13 +31,13 @@ returns-in-Err-Damaged-clause-history g c = λ bytes told.
 
 pub returns-in-Err-Failed-clause-history : goal.returns-in-Err-Failed-clause-history
 returns-in-Err-Failed-clause-history g c = λ bytes told.
-    inl (not_opened (held (g.K.Sink.contents c.args.output.now) (g.K.Sink.passed c.args.output.now)) (g.D.Dir.states c.args.dir.now) (g.D.Dir.states c.start.new.dir) c.start.ensures.told
+    inl (not_opened bytes (g.S.Source.left c.args.input.now) (held (g.K.Sink.contents c.args.output.now) (g.K.Sink.passed c.args.output.now)) (g.D.Dir.states c.args.dir.now) (g.D.Dir.states c.start.new.dir) told c.start.ensures.told
     (λ origin earlier recovers transactions front follow.
     (c.start.ensures.moments origin earlier transactions recovers front follow, c.start.ensures.reads origin earlier transactions recovers front follow)))
 
 pub returns-in-Err-NoMemory-clause-history : goal.returns-in-Err-NoMemory-clause-history
 returns-in-Err-NoMemory-clause-history g c = λ bytes told.
-    inl (not_opened (held (g.K.Sink.contents c.args.output.now) (g.K.Sink.passed c.args.output.now)) (g.D.Dir.states c.args.dir.now) (g.D.Dir.states c.start.new.dir) c.start.ensures.told
+    inl (not_opened bytes (g.S.Source.left c.args.input.now) (held (g.K.Sink.contents c.args.output.now) (g.K.Sink.passed c.args.output.now)) (g.D.Dir.states c.args.dir.now) (g.D.Dir.states c.start.new.dir) told c.start.ensures.told
     (λ origin earlier recovers transactions front follow.
     (c.start.ensures.moments origin earlier transactions recovers front follow, c.start.ensures.reads origin earlier transactions recovers front follow)))
 

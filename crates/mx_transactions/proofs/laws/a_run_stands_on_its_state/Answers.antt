@@ -1,4 +1,4 @@
-use Rattle.mx_transactions.proofs.RunLaws.{run_stands}
+use Rattle.mx_transactions.proofs.OpenLaws.{run_stands}
 use Rattle.mx_transactions.proofs.laws.a_run_stands_on_its_state.Goals as goal
 
 pub returns : goal.returns

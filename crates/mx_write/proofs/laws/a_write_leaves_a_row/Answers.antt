@@ -1,4 +1,4 @@
-use Rattle.mx_write.proofs.RowLaws.{leaves_row, no_row_no_change}
+use Rattle.mx_write.proofs.RowJudgeLaws.{leaves_row, no_row_no_change}
 use Rattle.mx_write.proofs.laws.a_write_leaves_a_row.Goals as goal
 
 pub returns-clause-row : goal.returns-clause-row

@@ -2,7 +2,7 @@ use Rattle.std.proofs.Common.{Some, sym, ap, ◌∙◌, subst}
 use Rattle.mx_msgpack.specs.Spelling.{AreBytes}
 use Rattle.mx_request.specs.Spelling.{IsAskable}
 use Rattle.mx_write.specs.Writes.{Insert, Replace, Update, Delete, Upsert, TupleIsBytes, write_in}
-use Rattle.mx_write.proofs.AskedLaws.{as_sent}
+use Rattle.mx_write.proofs.KeyNameLaws.{as_sent}
 use Rattle.mx_write.proofs.write.write_of_request.Goals as goal
 
 pub returns-in-Insert-clause-value : goal.returns-in-Insert-clause-value

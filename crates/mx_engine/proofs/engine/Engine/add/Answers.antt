@@ -1,14 +1,13 @@
 use Rattle.std.proofs.Common.{[], Some, sym, ap, ◌∙◌, subst}
 use Rattle.std.specs.Prelude.{◌==◌}
 use Rattle.std.specs.List.{AllZip}
-use Rattle.mx_row.specs.Limits.{row_size}
+use Rattle.mx_row.specs.Limits.{row_size, saturated}
 use Rattle.mx_write.specs.Made.{row_with}
 use Rattle.mx_write.specs.Notes.{AddsReads, SpellsRead}
 use Rattle.mx_write.specs.Views.{write_view}
 use Rattle.mx_model.specs.declared.ids.Ids.{Ids}
 use Rattle.mx_model.specs.declared.reply.Reply.TheVariants.{Tuples}
 use Rattle.mx_model.specs.Bases.{writable_node}
-use Rattle.mx_model.specs.Slow.{saturated}
 use Rattle.mx_model.specs.statements.Answer.{Answer}
 use Rattle.mx_transactions.specs.Open.{newest_state}
 use Rattle.mx_engine.specs.StatementViews.{write_in_space}

@@ -5,9 +5,9 @@ use Rattle.mx_txn.specs.declared.state.TxnState.{TxnState}
 use Rattle.mx_model.specs.declared.reply.Reply.TheVariants.{Empty, Refused}
 use Rattle.mx_model.specs.Streams.{Outcome, outcome_of}
 use Rattle.mx_transactions.specs.OpenSteps.{FindsIn}
-use Rattle.mx_engine.specs.Steps.{TellsOrLacks}
+use Rattle.mx_engine.specs.Steps.{AnswersCommit}
 use Rattle.mx_engine.specs.Views.{reply_of}
-use Rattle.mx_engine.proofs.OutcomeLaws.{active_commits, doomed_commits, ends_with, is_active_in, lacks_or_tells, only_opened, view_commits}
+use Rattle.mx_engine.proofs.OutcomeLaws.{active_commits, doomed_commits, ends_with, is_active_in, only_opened, view_commits}
 use Rattle.mx_engine.proofs.engine.Engine.commit_open.Goals as goal
 
 pub returns-in-Active-clause-answers : goal.returns-in-Active-clause-answers
@@ -18,8 +18,7 @@ returns-in-Active-clause-answers c = λ streams found has all counts apart strea
     let finds = subst (λ (state : TxnState). FindsIn streams old.open name slot state) c.in-Active.is found_in in
     let is = is_active_in old streams name slot c.in-Active.since has all c.requires apart finds in
     let told = c.commit_active.ensures.answers streams finds.transaction found all is counts in
-    lacks_or_tells old c.commit_active.new.self streams name (reply_of c.commit_active.result found)
-    (subst (λ (o : Outcome). TellsOrLacks old c.commit_active.new.self streams name o (reply_of c.commit_active.result found)) (sym (active_commits streams old.open name slot stream c.in-Active.since finds)) told)
+    subst (λ (o : Outcome). AnswersCommit old c.commit_active.new.self streams name o (reply_of c.commit_active.result found)) (sym (active_commits streams old.open name slot stream c.in-Active.since finds)) told
 
 pub returns-in-View-clause-answers : goal.returns-in-View-clause-answers
 returns-in-View-clause-answers c = λ streams found has all counts apart stream found_in.

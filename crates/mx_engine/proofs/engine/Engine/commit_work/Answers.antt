@@ -7,7 +7,7 @@ use Rattle.mx_model.specs.Bases.{writable_node}
 use Rattle.mx_transactions.specs.declared.work.Work.{Work}
 use Rattle.mx_transactions.specs.Open.{Open, newest_state, slot_named}
 use Rattle.mx_engine.proofs.CommitWorkLaws.{active_kept, commit_told, run_held}
-use Rattle.mx_engine.proofs.OthersLaws.{others_moved}
+use Rattle.mx_engine.proofs.ViewLaws.{others_moved}
 use Rattle.mx_engine.proofs.OutcomeLaws.{has_beside, same_work}
 use Rattle.mx_engine.proofs.engine.Engine.commit_work.Goals as goal
 

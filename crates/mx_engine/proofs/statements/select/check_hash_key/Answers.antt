@@ -1,6 +1,6 @@
 use Rattle.std.proofs.Common.{rules, ◌≡◌, inl, true, sym, ◌∙◌}
 use Rattle.mx_model.specs.statements.Select.{takes_iterator}
-use Rattle.mx_model.proofs.AskedKeyLaws.{hash_refuses}
+use Rattle.mx_model.proofs.AnswerLaws.{hash_refuses}
 use Rattle.mx_engine.proofs.statements.select.check_hash_key.Goals as goal
 
 pub returns : goal.returns

@@ -1,5 +1,5 @@
 use Rattle.std.proofs.Common.{sym}
-use Rattle.mx_model.proofs.AskedKeyLaws.{parts_are_counted}
+use Rattle.mx_model.proofs.AnswerLaws.{parts_are_counted}
 use Rattle.mx_engine.proofs.statements.select.check_key.Goals as goal
 
 pub returns-in-Hash : goal.returns-in-Hash

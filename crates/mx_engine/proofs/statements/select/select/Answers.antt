@@ -1,7 +1,7 @@
 use Rattle.std.proofs.Common.{inr}
 use Rattle.std.proofs.lemmas.Result.{err_from_is_err_and}
 use Rattle.mx_write.proofs.NoteLaws.{as_result}
-use Rattle.mx_engine.proofs.SelectLaws.{found_by_number, notes_long, notes_misfit, notes_no_index, notes_no_space, notes_refusal, notes_tuples, tells_no_space, tells_no_index, tells_refusal, tells_tuples, tells_misfit, tells_long}
+use Rattle.mx_engine.proofs.SelectLaws.{found_by_number, notes_fault, notes_no_index, notes_no_space, notes_refusal, notes_tuples, tells_fault, tells_no_space, tells_no_index, tells_refusal, tells_tuples}
 use Rattle.mx_engine.proofs.statements.select.select.Goals as goal
 
 pub returns-in_err-stored-clause-told : goal.returns-in_err-stored-clause-told
@@ -49,26 +49,15 @@ returns-in_ok-note_read-in-Ok-clause-notes c = λ state holds.
     let found = c.in-Ok.ensures state holds stored (found_by_number c.args.index.0 c.in_ok-stored.stored.space.now.schema c.schema.result.now c.in_ok-def.def.now c.schema.ensures c.in_ok-def.ensures) in
     inr (notes_tuples state c.args.space.0 c.args.index.0 c.args.pick.now c.args.notes.now _ c.in_ok-note_space.ensures _ c.in_ok-note_indexes.ensures c.in_ok-stored.stored.space.now.schema c.schema.result.now stored.sees.state.holds.is c.schema.ensures c.in_ok-def.def.now c.in_ok-def.ensures c.in_ok-check_key.ensures _ c.in-Ok.read _ found c.in_ok-note_read-in-Ok.ensures)
 
-pub returns-in-Err-Misfit-clause-told : goal.returns-in-Err-Misfit-clause-told
-returns-in-Err-Misfit-clause-told c = λ state holds.
+pub returns-in_ok-note_fault-in-Err-clause-told : goal.returns-in_ok-note_fault-in-Err-clause-told
+returns-in_ok-note_fault-in-Err-clause-told c = λ state holds.
     let stored = c.in_ok-stored.ensures state holds in
-    let found = c.in-Err-Misfit.ensures state holds stored (found_by_number c.args.index.0 c.in_ok-stored.stored.space.now.schema c.schema.result.now c.in_ok-def.def.now c.schema.ensures c.in_ok-def.ensures) in
-    tells_misfit state c.args.space.0 c.args.index.0 c.args.pick.now c.in_ok-stored.stored.space.now.schema c.schema.result.now stored.sees.state.holds.is c.schema.ensures c.in_ok-def.def.now c.in_ok-def.ensures c.in_ok-check_key.ensures c.select.new.found c.in-Err-Misfit.field-0 found c.in-Err-Misfit.misfit c.misfit_refusal.result c.in-Err-Misfit.field-0-is c.misfit_refusal.ensures
+    let found = c.in-Err.ensures state holds stored (found_by_number c.args.index.0 c.in_ok-stored.stored.space.now.schema c.schema.result.now c.in_ok-def.def.now c.schema.ensures c.in_ok-def.ensures) in
+    tells_fault state c.args.space.0 c.args.index.0 c.args.pick.now c.in_ok-stored.stored.space.now.schema c.schema.result.now stored.sees.state.holds.is c.schema.ensures c.in_ok-def.def.now c.in_ok-def.ensures c.in_ok-check_key.ensures c.select.new.found c.in-Err.fault found c.fault_refusal.result c.fault_refusal.ensures
 
-pub returns-in-Err-Misfit-clause-notes : goal.returns-in-Err-Misfit-clause-notes
-returns-in-Err-Misfit-clause-notes c = λ state holds.
+pub returns-in_ok-note_fault-in-Err-clause-notes : goal.returns-in_ok-note_fault-in-Err-clause-notes
+returns-in_ok-note_fault-in-Err-clause-notes c = λ state holds.
     let stored = c.in_ok-stored.ensures state holds in
-    let found = c.in-Err-Misfit.ensures state holds stored (found_by_number c.args.index.0 c.in_ok-stored.stored.space.now.schema c.schema.result.now c.in_ok-def.def.now c.schema.ensures c.in_ok-def.ensures) in
-    inr (notes_misfit state c.args.space.0 c.args.index.0 c.args.pick.now c.args.notes.now _ c.in_ok-note_space.ensures _ c.in_ok-note_indexes.ensures c.in_ok-stored.stored.space.now.schema c.schema.result.now stored.sees.state.holds.is c.schema.ensures c.in_ok-def.def.now c.in_ok-def.ensures c.in_ok-check_key.ensures c.select.new.found c.in-Err-Misfit.field-0 found c.in-Err-Misfit.misfit c.in-Err-Misfit.field-0-is)
-
-pub returns-in_ok-note_whole_range-in-Err-TooLong-clause-told : goal.returns-in_ok-note_whole_range-in-Err-TooLong-clause-told
-returns-in_ok-note_whole_range-in-Err-TooLong-clause-told c = λ state holds.
-    let stored = c.in_ok-stored.ensures state holds in
-    let found = c.in-Err-TooLong.ensures state holds stored (found_by_number c.args.index.0 c.in_ok-stored.stored.space.now.schema c.schema.result.now c.in_ok-def.def.now c.schema.ensures c.in_ok-def.ensures) in
-    tells_long state c.args.space.0 c.args.index.0 c.args.pick.now c.in_ok-stored.stored.space.now.schema c.schema.result.now stored.sees.state.holds.is c.schema.ensures c.in_ok-def.def.now c.in_ok-def.ensures c.in_ok-check_key.ensures c.select.new.found c.in-Err-TooLong.field-0 found c.in-Err-TooLong.field-0-is
-
-pub returns-in_ok-note_whole_range-in-Err-TooLong-clause-notes : goal.returns-in_ok-note_whole_range-in-Err-TooLong-clause-notes
-returns-in_ok-note_whole_range-in-Err-TooLong-clause-notes c = λ state holds.
-    let stored = c.in_ok-stored.ensures state holds in
-    let found = c.in-Err-TooLong.ensures state holds stored (found_by_number c.args.index.0 c.in_ok-stored.stored.space.now.schema c.schema.result.now c.in_ok-def.def.now c.schema.ensures c.in_ok-def.ensures) in
-    inr (notes_long state c.args.space.0 c.args.index.0 c.args.pick.now c.args.notes.now _ c.in_ok-note_space.ensures _ c.in_ok-note_indexes.ensures c.in_ok-stored.stored.space.now.schema c.schema.result.now stored.sees.state.holds.is c.schema.ensures c.in_ok-def.def.now c.in_ok-def.ensures c.in_ok-check_key.ensures c.select.new.found c.in-Err-TooLong.field-0 found _ c.in-Err-TooLong.field-0-is c.in_ok-note_whole_range-in-Err-TooLong.ensures)
+    let found = c.in-Err.ensures state holds stored (found_by_number c.args.index.0 c.in_ok-stored.stored.space.now.schema c.schema.result.now c.in_ok-def.def.now c.schema.ensures c.in_ok-def.ensures) in
+    as_result _ (notes_fault state c.args.space.0 c.args.index.0 c.args.pick.now c.args.notes.now _ c.in_ok-note_space.ensures _ c.in_ok-note_indexes.ensures c.in_ok-stored.stored.space.now.schema c.schema.result.now stored.sees.state.holds.is c.schema.ensures c.in_ok-def.def.now c.in_ok-def.ensures c.in_ok-check_key.ensures c.select.new.found c.in-Err.fault found _ c.fault_refusal.result c.fault_refusal.ensures
+    c.in_ok-note_fault-in-Err.ensures.long (λ other. (c.in_ok-note_fault-in-Err.ensures.other other).1))

@@ -3,8 +3,7 @@ use Rattle.mx_xlog.specs.Headers.{header_of}
 use Rattle.mx_files.specs.Names.{journal_name, counts, draft_ending, is_ours}
 use Rattle.mx_journal.specs.declared.journal.Journal.{Journal}
 use Rattle.mx_journal.specs.Written.{name_of}
-use Rattle.mx_journal.proofs.BegunLaws.{begins_moments, begun_there}
-use Rattle.mx_journal.proofs.NameLaws.{draft_name_ours, name_counts, name_ours}
+use Rattle.mx_journal.proofs.MakeLaws.{begins_moments, begun_there, draft_name_ours, name_counts, name_ours}
 use Rattle.mx_journal.proofs.WrittenLaws.{begun_now}
 use Rattle.mx_journal.proofs.journal.Journal.create.Goals as goal
 
@@ -50,9 +49,11 @@ returns-clause-there g c =
 pub returns-in_err-make_file-clause-others : goal.returns-in_err-make_file-clause-others
 returns-in_err-make_file-clause-others g c =
     let named = c.as_str.ensures.value ∙ c.in_ok-name.ensures ∙ ap journal_name c.signature.ensures in
-    c.make_file.ensures.others (ap is_ours named ∙ name_ours c.args.head) (ap (λ name. is_ours (name ++ draft_ending)) named ∙ draft_name_ours c.args.head)
+    c.make_file.ensures.others c.args.head
+    (c.as_slice.ensures ∙ c.in_ok-write_header.ensures ∙ ap (λ front. front ++ header_of c.args.head) c.new-header.ensures) (ap is_ours named ∙ name_ours c.args.head) (ap (λ name. is_ours (name ++ draft_ending)) named ∙ draft_name_ours c.args.head)
 
 pub returns-clause-others : goal.returns-clause-others
 returns-clause-others g c =
     let named = c.as_str.ensures.value ∙ c.in_ok-name.ensures ∙ ap journal_name c.signature.ensures in
-    c.make_file.ensures.others (ap is_ours named ∙ name_ours c.args.head) (ap (λ name. is_ours (name ++ draft_ending)) named ∙ draft_name_ours c.args.head)
+    c.make_file.ensures.others c.args.head
+    (c.as_slice.ensures ∙ c.in_ok-write_header.ensures ∙ ap (λ front. front ++ header_of c.args.head) c.new-header.ensures) (ap is_ours named ∙ name_ours c.args.head) (ap (λ name. is_ours (name ++ draft_ending)) named ∙ draft_name_ours c.args.head)

@@ -1,7 +1,7 @@
 use Rattle.std.proofs.Common.{rules, ◌<◌, ◌^◌, Err, length, sym, ap, ◌∙◌, arith}
 use Rattle.mx_base.specs.declared.refusal.Refusal.TheVariants.{KeyPartCount}
 use Rattle.mx_write.specs.Lookup.{misfit_refusal}
-use Rattle.mx_space.proofs.StopLaws.{has_more_parts}
+use Rattle.mx_entries.proofs.PickLaws.{has_more_parts}
 use Rattle.mx_model.proofs.statements.select.misfit_refusal.Goals as goal
 
 pub returns-in-TooLong : goal.returns-in-TooLong

@@ -1,25 +1,24 @@
 use Rattle.std.proofs.Common.{subst}
 use Rattle.mx_model.specs.Histories.{IsLegal}
-use Rattle.mx_model.proofs.CommitLaws.{commits_follow}
-use Rattle.mx_model.specs.Survival.{Lasts}
+use Rattle.mx_serial.proofs.CommitLaws.{commits_follow}
+use Rattle.mx_directory.specs.Survival.{Lasts}
 use Rattle.mx_images.proofs.ToldLaws.{told_weaker}
 use Rattle.mx_journal.proofs.BlockLaws.{none_waits}
-use Rattle.mx_node.specs.Ready.{taken_of}
+use Rattle.mx_store.specs.Stores.{taken_of}
 use Rattle.mx_node.specs.Serving.{left_from}
 use Rattle.mx_node.proofs.BreakLaws.{end_broken}
-use Rattle.mx_node.proofs.ClosingLaws.{closed}
-use Rattle.mx_node.proofs.EndLaws.{end_keeps}
-use Rattle.mx_node.proofs.LastingLaws.{lasts_none, where_err}
-use Rattle.mx_node.proofs.ServingLaws.{end_lasts}
+use Rattle.mx_node.proofs.EndLaws.{closed, end_keeps}
+use Rattle.mx_store.proofs.StoreLaws.{end_lasts, lasts_none}
+use Rattle.mx_node.proofs.LastingLaws.{where_err}
 use Rattle.mx_node.proofs.single.Single.end.Goals as goal
 
 pub end-requires-clause-written : goal.end-requires-clause-written
 end-requires-clause-written g c =
     let (base, history, ready) = c.requires.ready in
-    told_weaker (g.D.Dir.states c.args.dir.now) (λ disk past was. (taken_of base history, was.0)) ready.behind.written
+    told_weaker (g.D.Dir.states c.args.dir.now) (λ disk past was. (taken_of base history, was.0)) ready.behind.has.written
 
 pub end-requires-clause-none : goal.end-requires-clause-none
-end-requires-clause-none g c = none_waits c.args.self.journal c.requires.ready.2.behind.waits
+end-requires-clause-none g c = none_waits c.args.self.journal c.requires.ready.2.behind.has.waits
 
 pub returns-in_err-leave_all-clause-breaks : goal.returns-in_err-leave_all-clause-breaks
 returns-in_err-leave_all-clause-breaks g c = λ start units history serves.
@@ -31,7 +30,7 @@ returns-in_err-end-clause-breaks g c = λ start units history serves.
     let old = g.D.Dir.states c.args.dir.now in
     let new = g.D.Dir.states c.end.new.dir in
     let lasts : Lasts start.base history old new =
-    end_lasts start.base history c.args.self.engine c.args.self.journal old new serves.ready c.end.ensures.told c.end.ensures.moments c.end.ensures.reads in
+    end_lasts start.base history c.args.self.journal old new serves.ready.behind.stands.legal serves.ready.behind.has serves.ready.taken c.end.ensures.told c.end.ensures.moments c.end.ensures.reads in
     where_err c.from_residual-in_err-end.result (end_broken start c.args.self units history old new serves lasts)
 
 pub returns-clause-closed : goal.returns-clause-closed
@@ -41,7 +40,7 @@ returns-clause-closed g c = λ start units history serves.
     let stands = serves.ready.behind.stands in
     let left = c.in_ok-leave_all.ensures start.base history stands in
     let lasts : Lasts start.base history old new =
-    end_lasts start.base history c.args.self.engine c.args.self.journal old new serves.ready c.end.ensures.told c.end.ensures.moments c.end.ensures.reads in
+    end_lasts start.base history c.args.self.journal old new serves.ready.behind.stands.legal serves.ready.behind.has serves.ready.taken c.end.ensures.told c.end.ensures.moments c.end.ensures.reads in
     closed start c.args.self units history old new serves
     (subst (λ l. IsLegal start.base (left_from 0 l history)) c.deref.ensures.value left.legal) lasts
     (end_keeps start.base history c.args.self.engine c.args.self.journal old new (commits_follow start.base history stands.legal) serves.ready

@@ -1,4 +1,6 @@
+use Rattle.std.proofs.Common.{refl}
 use Rattle.std.proofs.lemmas.Result.{err_from_is_err_and}
+use Rattle.mx_node.specs.Starts.{Start}
 use Rattle.mx_node.proofs.single.Single.start.Goals as goal
 
 pub returns-in_err-opened-clause-damaged : goal.returns-in_err-opened-clause-damaged
@@ -11,5 +13,9 @@ returns-in_err-opened-clause-damaged g c = λ damage is.
 
 pub returns-clause-serves : goal.returns-clause-serves
 returns-clause-serves g c =
-    let opened = c.in_ok-opened.ensures.opened c.args.salt.now in
-    (opened.0, opened.1, c.in_ok-over.ensures opened.0 (g.D.Dir.states c.open.new.dir) opened.1.salted opened.2)
+    let (base, based, stands, has) = c.in_ok-opened.ensures.opened in
+    let start : Start = record { salt = c.args.salt.now; base = base } in (
+      start,
+      record { salted = refl; based = based },
+      c.in_ok-over.ensures start (g.D.Dir.states c.open.new.dir) refl stands has,
+    )

@@ -1,6 +1,6 @@
 use Rattle.std.proofs.Common.{sym, ap, ◌∙◌}
-use Rattle.mx_model.specs.Directories.{after_block}
-use Rattle.mx_model.proofs.BlockLaws.{after_block-nil, after_block-step, after_block-refused, after_block-unread}
+use Rattle.mx_directory.specs.Directories.{after_block}
+use Rattle.mx_directory.proofs.DirectoryLaws.{after_block-nil, after_block-step, after_block-refused, after_block-unread}
 use Rattle.mx_row.proofs.BehindLaws.{transaction_at-Advances}
 use Rattle.mx_row.specs.Views.{tx_view}
 use Rattle.mx_recover.proofs.ReplayLaws.{was_taken, was_refused, none_taken, one_taken, some_left, none_left}

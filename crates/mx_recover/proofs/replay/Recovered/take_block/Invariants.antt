@@ -1,6 +1,6 @@
 use Rattle.std.proofs.Common.{◌≡◌, length}
-use Rattle.mx_model.specs.Directories as files
-use Rattle.mx_model.specs.Directories.{after_block}
+use Rattle.mx_directory.specs.Directories as files
+use Rattle.mx_directory.specs.Directories.{after_block}
 use Rattle.mx_recover.specs.Recovered.{StandsFor}
 use Rattle.mx_recover.proofs.replay.Recovered.take_block.Given as goal
 

@@ -1,7 +1,7 @@
 use Rattle.std.proofs.Common.{◌-◌, length, take, sym, ap, ◌∙◌, arith}
 use Rattle.std.specs.Prelude.{Err}
 use Rattle.std.proofs.lemmas.List.{length-drop}
-use Rattle.mx_model.specs.Directories.{after_block}
+use Rattle.mx_directory.specs.Directories.{after_block}
 use Rattle.mx_recover.proofs.ReplayLaws.{was_taken, was_refused, places, block_taken, block_refused, blocks_end, same_damage}
 use Rattle.mx_recover.proofs.replay.Recovered.take_blocks.Goals as goal
 

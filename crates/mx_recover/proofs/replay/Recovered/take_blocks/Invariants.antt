@@ -1,7 +1,7 @@
 use Rattle.std.proofs.Common.{◌≡◌, ◌-◌, length, drop}
 use Rattle.mx_xlog.specs.Reading.{blocks_of}
-use Rattle.mx_model.specs.Directories as files
-use Rattle.mx_model.specs.Directories.{after_blocks}
+use Rattle.mx_directory.specs.Directories as files
+use Rattle.mx_directory.specs.Directories.{after_blocks}
 use Rattle.mx_recover.specs.Recovered.{StandsFor}
 use Rattle.mx_recover.proofs.replay.Recovered.take_blocks.Given as goal
 

@@ -2,9 +2,9 @@ use Rattle.std.proofs.Common.{◌≡◌, drop, refl, sym, ap, ◌∙◌}
 use Rattle.std.specs.Prelude.{Some, None, Err, unwrap_or}
 use Rattle.std.proofs.lemmas.Result.{on_ok_weaker}
 use Rattle.mx_xlog.specs.Reading.{blocks_of}
-use Rattle.mx_model.specs.declared.damage.DamageKind.TheVariants.{Gap}
-use Rattle.mx_model.specs.Directories as files
-use Rattle.mx_model.specs.Directories.{after_head, after_blocks}
+use Rattle.mx_directory.specs.declared.damage.DamageKind.TheVariants.{Gap}
+use Rattle.mx_directory.specs.Directories as files
+use Rattle.mx_directory.specs.Directories.{after_head, after_blocks}
 use Rattle.mx_xlog.specs.Files.{FileRead}
 use Rattle.mx_recover.specs.Recovered.{StandsFor}
 use Rattle.mx_recover.proofs.ReplayLaws.{head_refused, gap_told, head_taken, known_by, begun, same_here, same_damage}

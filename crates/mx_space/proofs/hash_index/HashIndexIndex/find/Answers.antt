@@ -6,11 +6,11 @@ use Rattle.std.specs.Option.{option_map}
 use Rattle.std.specs.Ordering.{nat_cmp}
 use Rattle.std.specs.Str.{bytes_eq}
 use Rattle.std.proofs.lemmas.List.{nil_from_length}
-use Rattle.mx_space.specs.Entries.{LeadsOnce, LeadsTo}
+use Rattle.mx_entries.specs.Entries.{LeadsOnce, LeadsTo}
 use Rattle.mx_space.specs.HashIndexes.{hash_number}
 use Rattle.mx_space.proofs.HashFindLaws.{held_leads, none_leads, others_lead}
-use Rattle.mx_space.proofs.IndexedLaws.{not_none}
-use Rattle.mx_space.proofs.SortedLaws.{ascending}
+use Rattle.mx_entries.proofs.IndexedLaws.{not_none}
+use Rattle.mx_entries.proofs.SortedLaws.{ascending}
 use Rattle.mx_space.proofs.hash_index.HashIndexIndex.find.Goals as goal
 
 pub returns-in-Some-clause-primary : goal.returns-in-Some-clause-primary

@@ -3,7 +3,7 @@ use Rattle.std.specs.BTreeMap.{is_at}
 use Rattle.std.specs.Cmp.Lexicographic.{slice_cmp}
 use Rattle.std.specs.Map.{lookup}
 use Rattle.std.specs.Ordering.{nat_cmp}
-use Rattle.mx_space.proofs.HashLaws.{looked_up}
+use Rattle.mx_space.proofs.FirstTupleLaws.{looked_up}
 use Rattle.mx_space.proofs.hash_tuples.HashTuples.get.Goals as goal
 
 pub returns : goal.returns

@@ -5,9 +5,9 @@ use Rattle.std.specs.Map.{lookup_entry}
 use Rattle.std.specs.Option.{option_map}
 use Rattle.std.specs.Ordering.{nat_cmp}
 use Rattle.mx_space.specs.HashViews.{hash_entries}
-use Rattle.mx_space.specs.TupleMaps.{under_key}
-use Rattle.mx_space.proofs.HashLaws.{looked_up, pair_is}
-use Rattle.mx_space.proofs.SortedLaws.{entry_of}
+use Rattle.mx_entries.specs.TupleMaps.{under_key}
+use Rattle.mx_space.proofs.FirstTupleLaws.{looked_up, pair_is}
+use Rattle.mx_entries.proofs.SortedLaws.{entry_of}
 use Rattle.mx_space.proofs.hash_tuples.HashTuples.get_key_value.Goals as goal
 
 pub returns : goal.returns

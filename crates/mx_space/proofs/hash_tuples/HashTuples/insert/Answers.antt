@@ -3,7 +3,7 @@ use Rattle.std.specs.BTreeMap.{insert_entry, is_at}
 use Rattle.std.specs.Cmp.Lexicographic.{slice_cmp}
 use Rattle.std.specs.Map.{keys_of, lookup}
 use Rattle.std.specs.Ordering.{nat_cmp}
-use Rattle.mx_space.proofs.HashLaws.{keys_stay, looked_up, put_in}
+use Rattle.mx_space.proofs.FirstTupleLaws.{keys_stay, looked_up, put_in}
 use Rattle.mx_space.proofs.hash_tuples.HashTuples.insert.Goals as goal
 
 pub returns-clause-old : goal.returns-clause-old

@@ -3,7 +3,7 @@ use Rattle.std.specs.BTreeMap.{is_at}
 use Rattle.std.specs.Cmp.Lexicographic.{slice_cmp}
 use Rattle.std.specs.Map.{remove_entry}
 use Rattle.std.specs.Ordering.{nat_cmp}
-use Rattle.mx_space.proofs.HashLaws.{taken_out}
+use Rattle.mx_space.proofs.FirstTupleLaws.{taken_out}
 use Rattle.mx_space.proofs.hash_tuples.HashTuples.remove.Goals as goal
 
 pub returns : goal.returns

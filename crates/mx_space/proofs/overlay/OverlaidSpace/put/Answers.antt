@@ -2,7 +2,7 @@ use Rattle.std.proofs.Common.{Some, refl}
 use Rattle.std.proofs.lemmas.Result.{on_err_weaker, on_ok_weaker}
 use Rattle.std.specs.FinMap.{empty}
 use Rattle.mx_space.specs.declared.overlay.OverlaidSpace.{OverlaidSpace}
-use Rattle.mx_space.specs.Overlays.{under}
+use Rattle.mx_entries.specs.OwnWrites.{under}
 use Rattle.mx_space.proofs.OverlayLaws.{own_index, stores_put, stores_still}
 use Rattle.mx_space.proofs.overlay.OverlaidSpace.put.Goals as goal
 

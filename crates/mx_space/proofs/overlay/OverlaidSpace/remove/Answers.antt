@@ -4,8 +4,9 @@ use Rattle.std.specs.Cmp.Lexicographic.{slice_cmp}
 use Rattle.std.specs.FinMap.{empty}
 use Rattle.std.specs.Ordering.{nat_cmp}
 use Rattle.mx_space.specs.declared.overlay.OverlaidSpace.{OverlaidSpace}
-use Rattle.mx_space.specs.Overlays.{under}
-use Rattle.mx_space.proofs.OverlayLaws.{IsSetTo, not_held, own_index, stores_again, stores_removed, stores_still}
+use Rattle.mx_entries.specs.OwnWrites.{under}
+use Rattle.mx_entries.proofs.UnderLaws.{IsSetTo, not_held}
+use Rattle.mx_space.proofs.OverlayLaws.{own_index, stores_again, stores_removed, stores_still}
 use Rattle.mx_space.proofs.overlay.OverlaidSpace.remove.Goals as goal
 
 pub returns-then-is_new-clause-err : goal.returns-then-is_new-clause-err

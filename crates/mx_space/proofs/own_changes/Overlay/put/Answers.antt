@@ -4,8 +4,9 @@ use Rattle.std.specs.Option.{option_copied, option_copied_mut}
 use Rattle.std.proofs.lemmas.Result.{on_err_weaker, on_ok_weaker}
 use Rattle.mx_space.specs.declared.own_changes.Overlay.{Overlay}
 use Rattle.mx_space.specs.Overlays.{StoresWritten}
-use Rattle.mx_space.specs.OwnChanges.{overlaid, written_by}
-use Rattle.mx_space.specs.Reserves.{MayStand, PlainChange}
+use Rattle.mx_space.specs.OwnChanges.{overlaid}
+use Rattle.mx_entries.specs.OwnStates.{written_by}
+use Rattle.mx_entries.specs.PlainChanges.{MayStand, PlainChange}
 use Rattle.mx_space.proofs.OwnHeldLaws.{holds_first, holds_more, holds_still, none_in, writes_there}
 use Rattle.mx_space.proofs.own_changes.Overlay.put.Goals as goal
 

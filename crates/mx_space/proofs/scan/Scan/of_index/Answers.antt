@@ -2,9 +2,9 @@ use Rattle.std.proofs.Common.{ap, ◌∙◌}
 use Rattle.std.specs.BTreeMap.Range.{entries_between}
 use Rattle.std.specs.Cmp.Lexicographic.{slice_cmp}
 use Rattle.std.specs.Ordering.{nat_cmp}
-use Rattle.mx_space.specs.Entries.{entries_split}
-use Rattle.mx_space.proofs.PickLaws.{entries_held}
-use Rattle.mx_space.proofs.SplitLaws.{split_held}
+use Rattle.mx_entries.specs.Entries.{entries_split}
+use Rattle.mx_entries.proofs.PickLaws.{entries_held}
+use Rattle.mx_entries.proofs.SplitLaws.{split_held}
 use Rattle.mx_space.proofs.scan.Scan.of_index.Goals as goal
 
 pub returns : goal.returns

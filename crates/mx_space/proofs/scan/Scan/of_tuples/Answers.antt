@@ -2,7 +2,7 @@ use Rattle.std.proofs.Common.{◌∙◌}
 use Rattle.std.specs.BTreeMap.Range.{entries_between}
 use Rattle.std.specs.Cmp.Lexicographic.{slice_cmp}
 use Rattle.std.specs.Ordering.{nat_cmp}
-use Rattle.mx_space.proofs.PickLaws.{entries_held}
+use Rattle.mx_entries.proofs.PickLaws.{entries_held}
 use Rattle.mx_space.proofs.scan.Scan.of_tuples.Goals as goal
 
 pub returns : goal.returns

@@ -4,10 +4,10 @@ use Rattle.std.specs.Prelude.{map, Some, if◌then◌else◌}
 use Rattle.std.specs.Vec.{with_items}
 use Rattle.mx_schema.specs.SchemaChanges.{schema_without_index}
 use Rattle.mx_space.specs.declared.space.Space.{Space}
-use Rattle.mx_space.specs.Changes.{kept_without}
+use Rattle.mx_entries.specs.EntryChanges.{kept_without}
 use Rattle.mx_space.specs.Kept.{StoresIndexed}
-use Rattle.mx_space.proofs.AlterLaws.{space_without_index, space_without_primary}
-use Rattle.mx_space.proofs.ItemLaws.{items_cleared}
+use Rattle.mx_space.proofs.HeldLaws.{space_without_index, space_without_primary}
+use Rattle.mx_space.proofs.SpaceLaws.{items_cleared}
 use Rattle.mx_space.proofs.space.Space.drop_index.Goals as goal
 
 pub returns-then-id-eq0 : goal.returns-then-id-eq0

@@ -1,8 +1,8 @@
 use Rattle.std.proofs.Common.{refl}
 use Rattle.std.specs.FinMap as finite
-use Rattle.mx_space.specs.Kept.{StoresIndex}
-use Rattle.mx_space.proofs.SpaceLaws.{new_space, nothing_kept}
-use Rattle.mx_space.proofs.ZipLaws.{all_made, one_made}
+use Rattle.mx_entries.specs.KeptEntries.{StoresIndex}
+use Rattle.mx_space.proofs.SpaceLaws.{new_space, all_made, one_made}
+use Rattle.mx_entries.proofs.KeptLaws.{nothing_kept}
 use Rattle.mx_space.proofs.space.Space.of.Goals as goal
 
 pub loop-def-preserved : goal.loop-def-preserved

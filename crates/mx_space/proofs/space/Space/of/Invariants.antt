@@ -1,7 +1,7 @@
 use Rattle.std.proofs.Common.{length}
 use Rattle.std.specs.FinMap as finite
-use Rattle.mx_space.specs.Kept.{StoresIndex}
-use Rattle.mx_space.proofs.ZipLaws.{IsMade}
+use Rattle.mx_entries.specs.KeptEntries.{StoresIndex}
+use Rattle.mx_space.proofs.SpaceLaws.{IsMade}
 use Rattle.mx_space.proofs.space.Space.of.Given as goal
 
 abbrev pub invariant-loop-def : goal.invariant-loop-def

@@ -3,8 +3,8 @@ use Rattle.std.specs.Vec.{with_items}
 use Rattle.mx_space.specs.declared.space.Space.{Space}
 use Rattle.mx_space.specs.Changes.{all_without}
 use Rattle.mx_space.specs.Kept.{StoresIndexed}
-use Rattle.mx_space.proofs.ItemLaws.{items_without}
-use Rattle.mx_space.proofs.SpaceLaws.{none_removed, space_without, space_without_alone}
+use Rattle.mx_space.proofs.SpaceLaws.{items_without, space_without, space_without_alone}
+use Rattle.mx_entries.proofs.KeptLaws.{none_removed}
 use Rattle.mx_space.proofs.space.Space.remove.Goals as goal
 
 pub returns-then-has_one_index-clause-ok : goal.returns-then-has_one_index-clause-ok

@@ -8,12 +8,13 @@ use Rattle.mx_schema.specs.Catalogues.{index_with}
 use Rattle.mx_schema.specs.Picks.{tuples_by_index}
 use Rattle.mx_schema.specs.State.{Tuples}
 use Rattle.mx_space.specs.declared.space.Space as coded
-use Rattle.mx_space.specs.Changes.{index_kept}
-use Rattle.mx_space.specs.Entries.{IndexEntry}
-use Rattle.mx_space.specs.Kept.{StoresByNumber, StoresEntries, StoresIndexed, kept_entries}
-use Rattle.mx_space.specs.Selecting.{keys_read}
-use Rattle.mx_space.proofs.SpaceLaws.{index_there}
-use Rattle.mx_space.proofs.StopLaws.{selects_told}
+use Rattle.mx_entries.specs.EntryChanges.{index_kept}
+use Rattle.mx_entries.specs.Entries.{IndexEntry}
+use Rattle.mx_entries.specs.KeptEntries.{StoresByNumber, StoresEntries, kept_entries}
+use Rattle.mx_space.specs.Kept.{StoresIndexed}
+use Rattle.mx_entries.specs.Windows.{keys_read}
+use Rattle.mx_entries.proofs.KeptLaws.{index_there}
+use Rattle.mx_entries.proofs.PickLaws.{selects_told}
 use Rattle.mx_space.proofs.space.Space.select.Goals as goal
 
 module _ (schema : Option Schema) (space : coded.Space) (all : Tuples) (def : IndexDef) (stores : StoresIndexed schema space all) (there : index_with def.id.0 space.schema.indexes ≡ Some def)

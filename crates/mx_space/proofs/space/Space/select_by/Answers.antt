@@ -2,12 +2,12 @@ use Rattle.std.proofs.Common.{◌≡◌, length, map, ne_eqb, refl, sym, ◌∙�
 use Rattle.std.specs.FinMap as finite
 use Rattle.mx_schema.specs.Picks.{tuples_by_index}
 use Rattle.mx_schema.specs.Stored.{stored_tuple}
-use Rattle.mx_space.specs.Kept.{StoresEntries, kept_entries}
-use Rattle.mx_space.proofs.AloneLaws.{leads_once_by}
-use Rattle.mx_space.proofs.IndexScanLaws.{array_short, index_fits, rows_are_found}
-use Rattle.mx_space.proofs.MapLaws.{all_as_long}
-use Rattle.mx_space.proofs.WholeKeyLaws.{whole_bytes, whole_found}
-use Rattle.mx_space.proofs.WholeRowLaws.{fits as fits_of, keys_long, row_found}
+use Rattle.mx_entries.specs.KeptEntries.{StoresEntries, kept_entries}
+use Rattle.mx_entries.proofs.FoundLaws.{leads_once_by, keys_long}
+use Rattle.mx_entries.proofs.IndexScanLaws.{array_short, index_fits, rows_are_found}
+use Rattle.mx_entries.proofs.WindowLaws.{all_as_long}
+use Rattle.mx_entries.proofs.WholeKeyLaws.{whole_bytes, whole_found}
+use Rattle.mx_entries.proofs.WholeRowLaws.{fits as fits_of, row_found}
 use Rattle.mx_space.proofs.space.Space.select_by.Goals as goal
 
 pub returns-in-Some : goal.returns-in-Some

@@ -1,6 +1,6 @@
 use Rattle.std.proofs.Common.{ap, map, ◌∙◌}
 use Rattle.mx_space.specs.Reserved.{entry_content}
-use Rattle.mx_space.proofs.CopyLaws.{ascend_too, same_under}
+use Rattle.mx_space.proofs.PlaceLaws.{ascend_too, same_under}
 use Rattle.mx_space.proofs.spaces.Spaces.copy.Goals as goal
 
 pub invariant_of-result : goal.invariant_of-result

@@ -1,8 +1,7 @@
 use Rattle.std.proofs.Common.{subst}
 use Rattle.mx_space.specs.Reserved.{content_installed}
 use Rattle.mx_space.specs.Spaces.{IsGapOf, IsPlaceOf}
-use Rattle.mx_space.proofs.ContentLaws.{content_changed, none_changed}
-use Rattle.mx_space.proofs.PlaceLaws.{found, none_found, space_changed, stays_ascending}
+use Rattle.mx_space.proofs.PlaceLaws.{content_changed, none_changed, found, none_found, space_changed, stays_ascending}
 use Rattle.mx_space.proofs.spaces.Spaces.install.Goals as goal
 
 pub invariant_of-self : goal.invariant_of-self

@@ -6,8 +6,7 @@ use Rattle.mx_msgpack.proofs.Options.{same_some}
 use Rattle.mx_schema.specs.Stored.{StoresTuples}
 use Rattle.mx_space.specs.Reserved.{Content, EditsAll, content_of, content_readied, content_released}
 use Rattle.mx_space.specs.Spaces.{IsGapOf, IsPlaceOf}
-use Rattle.mx_space.proofs.ContentLaws.{content_back, content_changed, content_same, none_changed}
-use Rattle.mx_space.proofs.PlaceLaws.{found, none_found, space_changed, stays_ascending}
+use Rattle.mx_space.proofs.PlaceLaws.{content_back, content_changed, content_same, none_changed, found, none_found, space_changed, stays_ascending}
 use Rattle.mx_space.proofs.spaces.Spaces.reserve.Goals as goal
 
 pub invariant_of-self : goal.invariant_of-self

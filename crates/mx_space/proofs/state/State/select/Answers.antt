@@ -4,8 +4,8 @@ use Rattle.std.proofs.lemmas.Bool.{eqb-true}
 use Rattle.mx_schema.specs.Catalogues.{schema_of}
 use Rattle.mx_schema.specs.Picks.{tuples_by_index}
 use Rattle.mx_schema.specs.State.{source_of, tuples_in}
-use Rattle.mx_space.specs.Scans.{SelectsByKey}
-use Rattle.mx_space.proofs.SoundLaws.{are_long, have_keys, have_unique}
+use Rattle.mx_entries.specs.Scans.{SelectsByKey}
+use Rattle.mx_space.proofs.SpaceLaws.{are_long, have_keys, have_unique}
 use Rattle.mx_space.proofs.state.State.select.Goals as goal
 
 pub returns-then-eq : goal.returns-then-eq

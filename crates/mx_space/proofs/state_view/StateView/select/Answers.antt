@@ -3,7 +3,7 @@ use Rattle.std.specs.FinMap.{entries}
 use Rattle.mx_schema.specs.Catalogues.{schema_of}
 use Rattle.mx_schema.specs.Picks.{tuples_by_index}
 use Rattle.mx_schema.specs.State.{Tuples, source_of, tuples_in}
-use Rattle.mx_space.specs.Scans.{SelectsByKey}
+use Rattle.mx_entries.specs.Scans.{SelectsByKey}
 use Rattle.mx_space.proofs.StateViewLaws.{have_shown, long_both, one_each_stored, source_kept, unique_shown}
 use Rattle.mx_space.proofs.state_view.StateView.select.Goals as goal
 

@@ -1,6 +1,6 @@
 use Rattle.std.proofs.Common.{ap, sym, ◌∙◌}
-use Rattle.mx_space.specs.Entries.{has_entry}
-use Rattle.mx_space.proofs.SplitLaws.{split_has}
+use Rattle.mx_entries.specs.Entries.{has_entry}
+use Rattle.mx_entries.proofs.SplitLaws.{split_has}
 use Rattle.mx_space.proofs.tree_index.TreeIndex.contains_key.Goals as goal
 
 pub returns : goal.returns

@@ -1,5 +1,5 @@
 use Rattle.std.proofs.Common.{ap, ◌∙◌}
-use Rattle.mx_space.specs.Entries.{entries_split}
+use Rattle.mx_entries.specs.Entries.{entries_split}
 use Rattle.mx_space.proofs.tree_index.TreeIndex.copy.Goals as goal
 
 pub returns : goal.returns

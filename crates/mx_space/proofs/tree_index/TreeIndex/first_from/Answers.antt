@@ -1,7 +1,7 @@
 use Rattle.std.proofs.Common.{Some, sym, ap, ◌∙◌}
 use Rattle.std.specs.Option.{option_map}
-use Rattle.mx_space.specs.Entries.{entry_split, first_from}
-use Rattle.mx_space.proofs.SplitLaws.{split_first}
+use Rattle.mx_entries.specs.Entries.{entry_split, first_from}
+use Rattle.mx_entries.proofs.SplitLaws.{split_first}
 use Rattle.mx_space.proofs.tree_index.TreeIndex.first_from.Goals as goal
 
 pub returns-in_err-entry : goal.returns-in_err-entry

@@ -3,7 +3,7 @@ use Rattle.std.specs.Cmp.Lexicographic.{slice_cmp}
 use Rattle.std.specs.List.Sorted.{IsStrictlySortedBy}
 use Rattle.std.specs.Map.{keys_of}
 use Rattle.std.specs.Ordering.{nat_cmp}
-use Rattle.mx_space.proofs.SplitLaws.{split_keys, split_length}
+use Rattle.mx_entries.proofs.SplitLaws.{split_keys, split_length}
 use Rattle.mx_space.proofs.tree_index.TreeIndex.len.Goals as goal
 
 pub returns-clause-len : goal.returns-clause-len

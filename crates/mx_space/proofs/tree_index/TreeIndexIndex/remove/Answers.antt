@@ -3,8 +3,8 @@ use Rattle.std.specs.BTreeMap.{is_at}
 use Rattle.std.specs.Cmp.Lexicographic.{slice_cmp}
 use Rattle.std.specs.Map.{remove_entry}
 use Rattle.std.specs.Ordering.{nat_cmp}
-use Rattle.mx_space.specs.Entries.{entries_split}
-use Rattle.mx_space.proofs.SplitLaws.{split_remove}
+use Rattle.mx_entries.specs.Entries.{entries_split}
+use Rattle.mx_entries.proofs.SplitLaws.{split_remove}
 use Rattle.mx_space.proofs.tree_index.TreeIndexIndex.remove.Goals as goal
 
 pub returns : goal.returns

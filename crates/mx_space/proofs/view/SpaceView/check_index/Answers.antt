@@ -2,9 +2,9 @@ use Rattle.std.proofs.Common.{◌≡◌, None, Some, sym, ap, ◌∙◌, subst}
 use Rattle.std.specs.Prelude.{◌⊎◌, MatchResult}
 use Rattle.std.specs.Option.{option_copied}
 use Rattle.mx_schema.specs.State.{Tuples}
-use Rattle.mx_space.specs.declared.build.BuildFault.TheVariants.{NoMemory}
-use Rattle.mx_space.specs.Builds.{build_fault}
-use Rattle.mx_space.proofs.ViewLaws.{no_writes}
+use Rattle.mx_entries.specs.declared.build_fault.BuildFault.TheVariants.{NoMemory}
+use Rattle.mx_entries.specs.Builds.{build_fault}
+use Rattle.mx_space.proofs.OverlayLaws.{no_writes}
 use Rattle.mx_space.proofs.view.SpaceView.check_index.Goals as goal
 
 pub returns : goal.returns

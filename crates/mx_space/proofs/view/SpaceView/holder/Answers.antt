@@ -7,7 +7,8 @@ use Rattle.mx_schema.specs.State.{Tuples}
 use Rattle.mx_space.specs.Overlays.{StoresOver, StoresWritten}
 use Rattle.mx_space.proofs.SpaceLaws.{space_long}
 use Rattle.mx_space.proofs.StateViewLaws.{long_both, one_each_shown, one_each_stored}
-use Rattle.mx_space.proofs.ViewLaws.{each_own, no_writes, own_long}
+use Rattle.mx_entries.proofs.SeenLaws.{each_own}
+use Rattle.mx_space.proofs.OverlayLaws.{no_writes, own_long}
 use Rattle.mx_space.proofs.view.SpaceView.holder.Goals as goal
 
 pub returns-in-None-clause-sees : goal.returns-in-None-clause-sees

@@ -1,8 +1,9 @@
 use Rattle.std.proofs.Common.{sym, ap, subst}
 use Rattle.std.specs.Option.{option_copied}
 use Rattle.mx_space.specs.Kept.{StoresIndexed}
-use Rattle.mx_space.specs.Overlays.{StoresOver, StoresWritten, under}
-use Rattle.mx_space.proofs.ViewLaws.{no_writes}
+use Rattle.mx_space.specs.Overlays.{StoresOver, StoresWritten}
+use Rattle.mx_entries.specs.OwnWrites.{under}
+use Rattle.mx_space.proofs.OverlayLaws.{no_writes}
 use Rattle.mx_space.proofs.view.SpaceView.select.Goals as goal
 
 pub returns-in-Some : goal.returns-in-Some

@@ -2,8 +2,10 @@ use Rattle.std.proofs.Common.{sym, ap, ◌∙◌, subst}
 use Rattle.std.specs.FinMap as finite
 use Rattle.std.specs.Option.{option_copied}
 use Rattle.mx_schema.specs.Stored.{StoresTuples}
-use Rattle.mx_space.specs.Overlays.{StoresOver, StoresWritten, under}
-use Rattle.mx_space.proofs.ViewLaws.{hides_written, no_writes, not_some, not_written, was_written}
+use Rattle.mx_space.specs.Overlays.{StoresOver, StoresWritten}
+use Rattle.mx_entries.specs.OwnWrites.{under}
+use Rattle.mx_space.proofs.OverlayLaws.{hides_written, no_writes}
+use Rattle.mx_entries.proofs.SeenLaws.{not_some, not_written, was_written}
 use Rattle.mx_space.proofs.view.SpaceView.tuple.Goals as goal
 
 pub returns-in_default-clause-sees : goal.returns-in_default-clause-sees

@@ -1,5 +1,5 @@
 use Rattle.std.proofs.Common.{arith, length-take, ◌≤◌, length, ◌-◌, take, drop}
-use Rattle.mx_top.proofs.Waiting.{waiting-consume}
+use Rattle.mx_top.proofs.UnitLaws.{waiting-consume}
 use Rattle.mx_top.proofs.intake.Intake.consume.Goals as goal
 
 pub returns-else-self : goal.returns-else-self

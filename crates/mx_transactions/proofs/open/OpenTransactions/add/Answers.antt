@@ -5,7 +5,7 @@ use Rattle.mx_tracker.specs.Tracks.{ChangesReads}
 use Rattle.mx_model.specs.RunAlone.{run_with}
 use Rattle.mx_write.specs.Notes.{SpellsRead}
 use Rattle.mx_transactions.specs.Open.{HasWritten, reads_made}
-use Rattle.mx_transactions.proofs.AddLaws.{added_table, comes_to, reads_dropped, zip_append}
+use Rattle.mx_transactions.proofs.WorkLaws.{added_table, comes_to, reads_dropped, zip_append}
 use Rattle.mx_transactions.proofs.MoveLaws.{item_there, nothing_changes, some_same}
 use Rattle.mx_transactions.proofs.open.OpenTransactions.add.Goals as goal
 

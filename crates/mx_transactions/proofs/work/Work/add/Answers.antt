@@ -1,5 +1,5 @@
 use Rattle.std.proofs.Common.{rules, ◌≡◌, ◌+◌, ◌∙◌, refl, ap}
-use Rattle.mx_model.specs.Slow.{saturated}
+use Rattle.mx_row.specs.Limits.{saturated}
 use Rattle.mx_transactions.specs.declared.work.ChangedKey.{ChangedKey}
 use Rattle.mx_transactions.specs.declared.work.Work.{Work}
 use Rattle.mx_transactions.proofs.WorkLaws.{none_written, one_written, spelled_key}

@@ -1,0 +1,13 @@
+pub mod Builds
+pub mod Built
+pub mod KeptKeys
+pub mod Entries
+pub mod Scans
+pub mod TupleMaps
+pub mod KeptEntries
+pub mod OwnWrites
+pub mod OwnStates
+pub mod PlainChanges
+pub mod Windows
+pub mod MergedRows
+pub mod EntryChanges

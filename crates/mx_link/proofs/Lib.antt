@@ -1,0 +1,4 @@
+pub mod PieceLaws
+pub mod SessionLaws
+pub mod ReplyLaws
+pub mod LinkLaws

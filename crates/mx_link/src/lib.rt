@@ -1,0 +1,9 @@
+//! One connection: its jobs are answered in order, and the replies wait until they may be sent.
+#![tactic(auto)]
+
+mod asker;
+mod buffers;
+mod replying;
+
+pub use asker::{Asker, Given, answer_all};
+pub use buffers::Buffers;

@@ -1,5 +1,0 @@
-use Rattle.mx_model.proofs.OnceLaws.{stands_once}
-use Rattle.mx_model.proofs.laws.a_directory_stands_once.Goals as goal
-
-pub returns : goal.returns
-returns c = stands_once

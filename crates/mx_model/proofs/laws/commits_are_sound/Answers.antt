@@ -1,5 +1,0 @@
-use Rattle.mx_model.proofs.CommitLaws.{commits_follow, stays_sound_after}
-use Rattle.mx_model.proofs.laws.commits_are_sound.Goals as goal
-
-pub returns : goal.returns
-returns c = λ base history legal. (commits_follow base history legal, stays_sound_after base history legal)

@@ -1,5 +1,0 @@
-use Rattle.mx_node.proofs.AgainLaws.{none_recovers}
-use Rattle.mx_node.proofs.laws.an_empty_directory_recovers.Goals as goal
-
-pub returns : goal.returns
-returns c = none_recovers

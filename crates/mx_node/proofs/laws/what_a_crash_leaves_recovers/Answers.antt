@@ -1,5 +1,0 @@
-use Rattle.mx_node.proofs.AgainLaws.{left_recovers}
-use Rattle.mx_node.proofs.laws.what_a_crash_leaves_recovers.Goals as goal
-
-pub returns : goal.returns
-returns c = left_recovers

@@ -1,5 +1,0 @@
-use Rattle.mx_node.proofs.AgainLaws.{read_recovers}
-use Rattle.mx_node.proofs.laws.what_a_kill_leaves_recovers.Goals as goal
-
-pub returns : goal.returns
-returns c = read_recovers

@@ -1,0 +1,4 @@
+pub mod Slow
+pub mod SlowReads
+pub mod SlowTouches
+pub mod SlowReadSteps

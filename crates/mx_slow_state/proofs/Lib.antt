@@ -1,0 +1,10 @@
+pub mod SlowLaws
+pub mod SlowMoveLaws
+pub mod SlowSchemaLaws
+pub mod SlowChangeLaws
+pub mod SlowListLaws
+pub mod SlowBuildLaws
+pub mod SlowSiteLaws
+pub mod SlowMakeLaws
+pub mod SlowAnswerLaws
+pub mod SlowCopyLaws

@@ -1,0 +1,3 @@
+pub mod SlowState
+pub mod SlowSteps
+pub mod SlowWrites

@@ -1,5 +1,0 @@
-use Rattle.mx_write.proofs.NumberKeyLaws.{number_bytes}
-use Rattle.mx_write.proofs.notes.number_key.Goals as goal
-
-pub returns : goal.returns
-returns c = rw c.to_be_bytes.ensures (number_bytes c.args.number c.ranges.number.fits)
