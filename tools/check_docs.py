@@ -1,5 +1,6 @@
 #!/usr/bin/env python3
-"""Checks what the documents say of the repository, and that no two crates define one name.
+"""Checks what the documents say of the repository, that no two crates define one name, and that each crate is in
+proportion.
 
 A document is README.md, CONTRIBUTING.md, CHANGELOG.md, docs/*.md or crates/*/README.md. Each fault is
 printed as `FILE: what`, and the status is then 1. Checked are:
@@ -10,7 +11,10 @@ printed as `FILE: what`, and the status is then 1. Checked are:
 - docs/ARCHITECTURE.md has each definitions file, crates/*/specs/*.antt, in a table;
 - its table of crates agrees with crates.txt on the crates and on what each of them stands on;
 - no name is defined in the specs/ of two crates;
-- README.md has at most 1,000 words, and each crate has a README.md of 15 to 40 lines.
+- README.md has at most 1,000 words, and each crate has a README.md of 15 to 40 lines;
+- no crate has more than 2,000 lines of code or 8,000 of specs and proofs, but for those of LARGER, which may
+  not grow;
+- each crate names every crate of ours that crates.txt says it stands on.
 
 `--self-test` makes a small repository with a fault of each kind, and checks that each is found.
 """
@@ -25,6 +29,9 @@ from pathlib import Path
 ROOT = Path(__file__).resolve().parent.parent
 MAX_WORDS = 1000
 MIN_LINES, MAX_LINES = 15, 40
+MAX_CODE, MAX_PROOFS = 2000, 8000
+# Crates that have more lines of code, or of specs and proofs, than a crate should, each with what it may have.
+LARGER = {"mx_space": (5000, MAX_PROOFS)}
 # Names that two crates may define, since public signatures fix them.
 ALLOWED = set()
 
@@ -41,6 +48,9 @@ ENDINGS = (".antt", ".edit", ".md", ".py", ".rs", ".rt", ".txt")
 # The folders of a crate. A path that begins with one of them holds for some crate.
 PARTS = ("src", "specs", "proofs", "must-fail")
 PLACEHOLDER = re.compile(r"[A-Z]+")
+# The crates that a file names, in Rust's paths or in those of definitions, and comments, which name none.
+NAMED = re.compile(r"\bRattle\.(\w+)\.|(?<![\w:])(\w+)::")
+COMMENT = re.compile(r"^\s*(?://|--).*$", re.M)
 
 
 def expand(text):
@@ -73,8 +83,8 @@ def crates(root):
 class Checker:
     """The faults of one repository."""
 
-    def __init__(self, root, allowed=ALLOWED):
-        self.root, self.allowed = root, allowed
+    def __init__(self, root, allowed=ALLOWED, larger=LARGER):
+        self.root, self.allowed, self.larger = root, allowed, larger
         self.faults = []
         self.paths = 0
         self.definitions = 0
@@ -178,6 +188,27 @@ class Checker:
             if not MIN_LINES <= count <= MAX_LINES:
                 self.fault(readme, f"{count} lines, {MIN_LINES} to {MAX_LINES} expected")
 
+    def check_proportion(self):
+        """Checks that no crate has too many lines."""
+        for name in sorted(crates(self.root)):
+            folder = self.root / "crates" / name
+            most = self.larger.get(name, (MAX_CODE, MAX_PROOFS))
+            parts = (("src",), "*.rt", "of code"), (("specs", "proofs"), "*.antt", "of specs and proofs")
+            for (places, ending, what), limit in zip(parts, most, strict=True):
+                paths = (path for place in places for path in folder.glob(f"{place}/**/{ending}"))
+                count = sum(len(path.read_text().splitlines()) for path in paths)
+                if count > limit:
+                    self.fault(folder, f"{count:,} lines {what}, at most {limit:,}")
+
+    def check_dependencies(self):
+        """Checks that each crate names those that it stands on."""
+        for name, stands_on in sorted(crates(self.root).items()):
+            folder = self.root / "crates" / name
+            paths = itertools.chain(*(folder.glob(f"{part}/**/*.{end}") for part, end in (("src", "rt"), ("specs", "antt"), ("proofs", "antt"))))
+            named = set().union(*(NAMED.findall(COMMENT.sub("", path.read_text())) for path in paths))
+            for crate in sorted(stands_on - {part for parts in named for part in parts}):
+                self.fault(self.root / "crates.txt", f"nothing in {name} names {crate}")
+
     def check(self):
         """All faults."""
         for document in documents(self.root):
@@ -188,6 +219,8 @@ class Checker:
         self.check_architecture()
         self.check_definitions()
         self.check_sizes()
+        self.check_proportion()
+        self.check_dependencies()
         return self.faults
 
 
@@ -199,8 +232,10 @@ SOUND = {
     "docs/ARCHITECTURE.md": "## The crates\n| crate | stands on |\n|---|---|\n| `a` | |\n| `b` | `a` |\n\n| `a/specs/{X,Y}.antt` |\n",
     "crates/a/README.md": "line\n" * 15,
     "crates/b/README.md": "line\n" * 40,
-    "crates/a/src/x.rt": "",
+    "crates/a/src/x.rt": "line\n" * 2000,
     "crates/a/src/y.rt": "",
+    "crates/b/src/lib.rt": "// c::X\nuse a::X;\n",
+    "crates/b/proofs/f/Answers.antt": "line\n" * 3,
     "crates/a/specs/Lib.antt": "pub mod X\npub use Y\n",
     "crates/b/specs/Lib.antt": "pub mod X\npub use Y\nabbrev pub State : ℕ\n",
     "crates/a/specs/X.antt": "mutual\n  pub data one : Type 0 where\n    Two : one\nabbrev pub ◌+◌ : ℕ\npub record Three : Type 0 where\n  pub two : ℕ\n",
@@ -224,6 +259,9 @@ UNSOUND = (
     ("crates/b/specs/Lib.antt", "pub use Y", "abbrev pub two : ℕ", "crates/a/specs/Y.antt: two is defined in b too"),
     ("crates/b/specs/Lib.antt", "pub mod X", "abbrev pub three : ℕ\npub record Three : Type 0 where", "Three is defined in b too"),
     ("crates/b/specs/Lib.antt", "pub use Y", "pub data one : Type 0 where", "crates/a/specs/X.antt: one is defined in b too"),
+    ("crates/a/src/y.rt", "", "line\n", "crates/a: 2,001 lines of code, at most 2,000"),
+    ("crates/b/proofs/f/Answers.antt", "line\n", "line\n" * 3, "crates/b: 12 lines of specs and proofs, at most 10"),
+    ("crates/b/src/lib.rt", "use a::X", "use c::X", "crates.txt: nothing in b names a"),
 )
 
 
@@ -234,7 +272,7 @@ def faults_in(files):
         for name, text in files.items():
             (root / name).parent.mkdir(parents=True, exist_ok=True)
             (root / name).write_text(text)
-        return Checker(root, allowed={"State"}).check()
+        return Checker(root, allowed={"State"}, larger={"b": (MAX_CODE, 10)}).check()
 
 
 def self_test():
