@@ -3,8 +3,8 @@
 
 Each round has a folder of its own. A run on it is sent one commit after the other, and is killed by SIGKILL. A commit
 is one REPLACE, or a transaction of 1 to 50 of them: in one unit, in a unit for each request, or beside another one in
-a second stream. Between transactions some are rolled back, and one is never ended. Then a further run SELECTs all
-tuples: it has to find those of all commits up to one of them, each whole and with its own tuples, among them all that
+a second stream. Or a unit has 1 to 50 commits, of one REPLACE each, on one of 1 to 3 connections. Between transactions some are rolled back, and one is never ended. Then a further run SELECTs all
+tuples: it has to find those of all commits of the first units, each whole and with its own tuples, among them all that
 were acknowledged and none that wasn't sent. Some rounds kill three runs in a row, and each goes on at the next commit.
 
 A line is printed for each round that fails, and the status is 0 only where none does.
@@ -45,17 +45,18 @@ ONE, OTHER, ROLLED_BACK, LEFT_OPEN = range(1, 5)
 
 
 class Unit(NamedTuple):
-    """What is asked in a unit, what it is answered, and how many commits it makes."""
+    """What is asked in a unit, what it is answered, how many commits it makes, and on which connection."""
 
     asked: bytes
     answer: bytes
     commits: int = 0
+    connection: int = 1
 
 
 def joined(units):
     """What these units ask, in one."""
-    asked, answers, commits = zip(*units)
-    return Unit(b"".join(asked), b"".join(answers), sum(commits))
+    asked, answers, commits, connections = zip(*units)
+    return Unit(b"".join(asked), b"".join(answers), sum(commits), *set(connections))
 
 
 def replace(sync, tuple_, stream=None, commits=0):
@@ -93,6 +94,30 @@ def one_request(first):
     """The units of all commits from this one on, each of them one REPLACE."""
     for commit in itertools.count(first):
         yield replace(commit, *one_row(commit), commits=1)
+
+
+def many_commits(first, connections):
+    """The same in units of 1 to 50 of them, on so many connections."""
+    commits = itertools.count(first)
+    for number in itertools.count():
+        connection = 1 + number * 5 % connections
+        some = itertools.islice(commits, 1 + (first + number) * 31 % MAX_ROWS)
+        yield joined(replace(commit, *one_row(commit), commits=1)._replace(connection=connection) for commit in some)
+
+
+def many_on_one(first):
+    """Units of 1 to 50 commits on one connection."""
+    return many_commits(first, 1)
+
+
+def many_on_two(first):
+    """The same on two."""
+    return many_commits(first, 2)
+
+
+def many_on_three(first):
+    """The same on three."""
+    return many_commits(first, 3)
 
 
 def one_unit(first):
@@ -148,11 +173,16 @@ class Run:
     def send(self):
         """Sends the next unit, which counts as sent once its sending begins."""
         self.sent.append(next(self.units))
-        self.process.stdin.write(input_unit(self.sent[-1].asked))
+        self.process.stdin.write(self.input_of(self.sent[-1]))
+
+    @staticmethod
+    def input_of(unit):
+        """A unit as it is sent."""
+        return input_unit(unit.asked, unit.connection)
 
     def send_part(self, size):
         """Sends so many bytes of the next unit, or all but so many below 0, so that it doesn't count as sent."""
-        unit = input_unit(next(self.units).asked)
+        unit = self.input_of(next(self.units))
         assert size < len(unit), f"bytes of a unit: expected fewer than {len(unit)}, saw {size}"
         self.process.stdin.write(unit[:size])
 
@@ -192,17 +222,19 @@ class Run:
         expect("standard error of the killed run", b"", stderr)
 
     def commits(self):
-        """How many commits are acknowledged, and how many were sent.
+        """How many commits may be found: those of the units that are acknowledged, and of each further one that was sent.
 
         The output has to be the answers to the units that were sent, the last one maybe cut.
         """
-        count, rest = len(contents(self.output)), self.output
+        count, rest, greeted = len(contents(self.output)), self.output, set()
         for at, unit in enumerate(self.sent[: count + 1]):
-            due = output_unit((b"" if at else GREETING) + unit.answer)
+            greeting = b"" if unit.connection in greeted else GREETING
+            due = output_unit(greeting + unit.answer, unit.connection)
             expect_bytes(f"output unit {at}", due[: len(rest)], rest[: len(due)])
             rest = rest[len(due) :]
+            greeted.add(unit.connection)
         expect("output that answers no unit", "", rest.hex())
-        return sum(unit.commits for unit in self.sent[:count]), sum(unit.commits for unit in self.sent)
+        return list(itertools.accumulate((unit.commits for unit in self.sent), initial=0))[count:]
 
 
 def after_reply(run, count):
@@ -288,6 +320,20 @@ ROUNDS = (
             [(while_streaming, 20), (while_starting, 60), (while_streaming, 20)],
         )
     ),
+    *(
+        (one_row, requests, kills)
+        for requests in (many_on_one, many_on_two, many_on_three)
+        for kills in (
+            [(after_reply, 1)],
+            [(after_reply, 20)],
+            [(after_unit, 2)],
+            [(after_units, 12)],
+            [(inside_unit, (3, -1))],
+            [(while_streaming, 3)],
+            [(while_streaming, 30)],
+            [(after_unit, 3), (while_starting, 40), (inside_unit, (2, 40))],
+        )
+    ),
     # The first unit is never committed, and the one before the third commit is rolled back.
     *(
         (many_rows, one_unit, kills)
@@ -363,8 +409,8 @@ def tuples_found(folder):
     return held[0][GREETING_BYTES:]
 
 
-def commits_found(folder, rows, least, most):
-    """How many commits a further run finds. It has to find the tuples of these, from the first on, and nothing else."""
+def commits_found(folder, rows, counts):
+    """How many commits a further run finds, one of these counts. It has to find their tuples, and nothing else."""
     reply, commits, tuples = tuples_found(folder), 0, []
     found = read_reply(reply).body.get(DATA, [])
     while len(tuples) < len(found):
@@ -374,7 +420,7 @@ def commits_found(folder, rows, least, most):
         expect(f"tuple {place} that is found", due, seen)
     expect("number of tuples that are found", len(tuples), len(found))
     expect_bytes("reply with all tuples", tuples_reply(1, *tuples), reply)
-    assert least <= commits <= most, f"commits found: expected {least} to {most}, saw {commits}"
+    assert commits in counts, f"commits found: expected one of {counts}, saw {commits}"
     return commits
 
 
@@ -384,8 +430,8 @@ def check_round(rows, requests, kills):
     for kill, point in kills:
         with Run(folder, requests(there + 1)) as run:
             kill(run, point)
-            least, most = run.commits()
-        there = commits_found(folder, rows, there + least, there + most)
+            counts = [there + count for count in run.commits()]
+        there = commits_found(folder, rows, counts)
 
 
 def name_of(requests, kills):

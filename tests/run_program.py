@@ -5,6 +5,7 @@ It ends with status 0 only where all checks pass. What no proof sees is tried he
 folders, files and pipes, the arguments of a command line, the exit statuses and the printed lines.
 """
 
+import errno
 import os
 import shutil
 import subprocess
@@ -78,7 +79,7 @@ def run(arguments, given=b"", seed=SEED, **options):
 
 
 def check_end(ended, status, line, output=b""):
-    """Checks the status, the one line on standard error and, where it was kept, the output."""
+    """Checks the status, what is printed on standard error and, where it was kept, the output."""
     expected = b"" if line is None else line.encode() + b"\n"
     assert ended.returncode == status, f"status {ended.returncode}, {ended.stderr!r}"
     assert ended.stderr == expected, f"standard error {ended.stderr!r}"
@@ -151,21 +152,29 @@ def leftovers_are_removed():
     assert set(files_in(folder / "DIR")) == {FIRST, "notes.inprogress", "notes"}, f"{files_in(folder / 'DIR')}"
 
 
-def check_not_opened(ended, argument):
-    """Checks that the directory of this argument wasn't opened, and that a line has the argument."""
-    lines = ended.stderr.decode().splitlines()
-    assert ended.returncode == 5, f"status {ended.returncode}, {ended.stderr!r}"
-    assert len(lines) == 2 and lines[0] == "DiskFault", f"standard error {ended.stderr!r}"
-    assert lines[1].startswith(f"{argument}: "), f"standard error {ended.stderr!r}"
-    assert ended.stdout == b"", f"{len(ended.stdout)} bytes of output"
+NO_FOLDER = "this isn't a folder: name a folder, or a new one in a folder that is there"
+IN_USE = "another process uses the folder: end it first, or name another folder"
+
+
+def not_opened(number):
+    """Why a folder isn't opened where the system's error has this number."""
+    error = f"{os.strerror(number)} (os error {number})"
+    return f"the folder can't be opened ({error}): name a folder of this user's, or a new one in a folder that is there"
 
 
 def folders_that_cannot_be_opened_are_told():
     folder = new_folder()
     (folder / "file").write_bytes(b"")
-    for argument in ("file", "no/folder"):
-        check_not_opened(run(["trace", argument], INPUT, cwd=folder), argument)
-    assert [path.name for path in folder.iterdir()] == ["file"]
+    (folder / "link").symlink_to("link")
+    for argument, why in (
+        ("file", NO_FOLDER),
+        ("file/folder", NO_FOLDER),
+        ("no/folder", not_opened(errno.ENOENT)),
+        ("link", not_opened(errno.ELOOP)),
+        ("d" * 256, not_opened(errno.ENAMETOOLONG)),
+    ):
+        check_end(run(["trace", argument], INPUT, cwd=folder), 5, f"DiskFault\n{argument}: {why}")
+    assert sorted(path.name for path in folder.iterdir()) == ["file", "link"]
 
 
 def refused_words_make_no_folder():
@@ -189,7 +198,7 @@ def directory_has_one_process():
     with first:
         first.stdin.write(INPUT)
         first.stdout.read(1)
-        check_not_opened(run(TRACE, INPUT, cwd=folder), "DIR")
+        check_end(run(TRACE, INPUT, cwd=folder), 5, f"DiskFault\nDIR: {IN_USE}")
         first.stdin.close()
         first.stdout.read()
     timer.cancel()

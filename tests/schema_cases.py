@@ -22,6 +22,8 @@ from steps import (
     TEST,
     add_index,
     add_space,
+    begin,
+    commit,
     delete,
     drop_index,
     drop_space,
@@ -224,6 +226,42 @@ INDEX_OF_TUPLES = (
     insert([3, "a"], duplicate("u")),
 )
 
+# A text that is longer than 16 bits tell, and one that it begins.
+LONG_TEXT = "k" * 70_000
+LONGER_TEXT = LONG_TEXT + "l"
+LONG_KEYS = (
+    add_index(BY_NAME),
+    add_index([TEST, 2, "h", "hash", {}, TEXTS]),
+    insert([1, LONG_TEXT]),
+    insert([2, LONGER_TEXT]),
+    insert([3, LONG_TEXT], duplicate("name")),
+    select([LONG_TEXT], [1, LONG_TEXT], index=1),
+    select([LONG_TEXT], [2, LONGER_TEXT], index=1, iterator="GT"),
+    select([], [1, LONG_TEXT], [2, LONGER_TEXT], index=1),
+    select([LONG_TEXT], [1, LONG_TEXT], index=2),
+    select([LONGER_TEXT], [2, LONGER_TEXT], index=2),
+    update([LONGER_TEXT], [["=", 1, LONG_TEXT]], duplicate("name"), index=2),
+    update([LONGER_TEXT], [["=", 2, 5]], [[2, LONGER_TEXT, 5]], index=2),
+    delete([LONG_TEXT], [[1, LONG_TEXT]], index=2),
+    select([LONG_TEXT], index=1),
+    select([LONG_TEXT], index=2),
+    upsert([3, LONG_TEXT], []),
+    # Of the tuples that are there, and within a transaction.
+    drop_index(TEST, 2, [[TEST, 2, "h", "hash", {}, TEXTS]]),
+    drop_index(TEST, 1, [BY_NAME]),
+    add_index(HASH),
+    add_index(index_row(TEST, 2, "name", TEXTS)),
+    begin(),
+    replace([3, LONG_TEXT + "m"], stream=1),
+    insert([4, LONG_TEXT], stream=1),
+    insert([5, LONGER_TEXT], duplicate("h"), stream=1),
+    select([LONG_TEXT], [4, LONG_TEXT], index=1, stream=1),
+    select([], [4, LONG_TEXT], [2, LONGER_TEXT, 5], [3, LONG_TEXT + "m"], index=2, stream=1),
+    commit(),
+    select([LONG_TEXT], [4, LONG_TEXT], index=1),
+    select([], [4, LONG_TEXT], [2, LONGER_TEXT, 5], [3, LONG_TEXT + "m"], index=2),
+)
+
 # Two fields, of which the second may be Nil.
 FORMATTED = [OWN, 1, "pairs", "memtx", 2, {}, [{"name": "id", "type": "integer"}, {"name": "text", "type": "string", "is_nullable": True}]]
 FORMATS = (
@@ -248,6 +286,7 @@ CONVERSATIONS = {
     "an index of equal keys": EQUAL_KEYS,
     "a hash index": HASH_INDEX,
     "an index of the tuples that are there": INDEX_OF_TUPLES,
+    "keys of 70,000 bytes": LONG_KEYS,
     "a space with a format": FORMATS,
 }
 

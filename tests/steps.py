@@ -373,15 +373,20 @@ def block(data):
     return bytes.fromhex("d5ba0bab") + sizes + data
 
 
-def transaction(lsn, *steps):
-    """The block of a commit whose rows are those of these steps, the first of this lsn. A key is the primary one."""
+def rows_of(lsn, *steps):
+    """The rows of a commit, which are those of these steps, the first of this lsn. A key is the primary one."""
     rows, last = [], len(steps) - 1
     for place, (name, fields, _) in enumerate(steps):
         header = {TYPE: TYPES[name], 0x02: 1, 0x03: lsn + place}
         header |= {0x08: place} if last else {}
         header |= {0x09: 1} if last and place == last else {}
         rows.append(pack(header) + body_of(name, {field: fields[field] for field in ROW_FIELDS if field in fields}))
-    return block(b"".join(rows))
+    return b"".join(rows)
+
+
+def transaction(lsn, *steps):
+    """The block of a commit alone, with the rows of these steps."""
+    return block(rows_of(lsn, *steps))
 
 
 def expect_journals(folder, blocks):

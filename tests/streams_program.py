@@ -69,6 +69,7 @@ from steps import (
     insert,
     replace,
     rollback,
+    rows_of,
     select,
     space_exists,
     space_row,
@@ -805,7 +806,7 @@ def packets_may_come_at_once():
     asked = b"".join(packet_ for _, packet_ in asked_by(ASKED_AT_ONCE))
     due = b"".join(content for contents in due_to(ASKED_AT_ONCE) for content in contents)
     output_is(folder, [input_unit(asked)], output_unit(GREETING + due))
-    expect_journals(folder, {0: [transaction(1, insert([1])), transaction(2, insert([2]))]})
+    expect_journals(folder, {0: [block(rows_of(1, insert([1])) + rows_of(2, insert([2])))]})
     converse([has_tuples([1], [2])], folder)
 
 

@@ -4,7 +4,8 @@
 Runs go under strace. Before a reply is written, all that was written, created, renamed, removed or
 read until then has to be synced. A file is appended to at its end, and read from offset to offset.
 Where a call on the directory, the input or the output fails, the run has to end with the status of
-that one, and a further run has to find each commit that was acknowledged.
+that one, and a further run has to find each commit that was acknowledged. A write that takes fewer
+bytes than it was given goes on with the others.
 
 A line is printed for each check that fails, and the status is 0 only where none does. Where strace
 isn't installed, or may not trace, only the checks that don't need it are made.
@@ -13,6 +14,7 @@ isn't installed, or may not trace, only the checks that don't need it are made.
 import os
 import random
 import re
+import resource
 import shutil
 import subprocess
 import sys
@@ -23,7 +25,7 @@ from pathlib import Path
 
 from iproto import GREETING_BYTES, SEED, contents, input_unit, ok_reply, output_unit, request, tuples_reply
 from program import EXAMPLE, GREETING, ROOT, TRACE, environment, expect, run_checks
-from steps import END, transaction
+from steps import END, block, expect_bytes, journal_header, rows_of, transaction
 
 # strace is given the program itself, and not the script that builds it.
 BUILT = ROOT / "crates" / "mx_program" / "out" / "mx_program"
@@ -53,7 +55,12 @@ def tuple_of(key):
 
 def replace(key):
     """A unit with a REPLACE of a key's tuple."""
-    return input_unit(request("REPLACE", key, space=512, tuple=tuple_of(key)))
+    return replace_all([key])
+
+
+def replace_all(keys):
+    """A unit with a REPLACE of the tuple of each of these keys."""
+    return input_unit(b"".join(request("REPLACE", key, space=512, tuple=tuple_of(key)) for key in keys))
 
 
 def select(key):
@@ -66,7 +73,7 @@ def replies(*held):
     return b"".join(output_unit((b"" if at else GREETING) + one) for at, one in enumerate(held))
 
 
-def run(folder, given, arguments=TRACE, seed=SEED, before=()):
+def run(folder, given, arguments=TRACE, seed=SEED, before=(), **options):
     """Runs the program to its end in a folder, under the command `before` it if there is one."""
     source = folder / "input"
     source.write_bytes(given)
@@ -77,6 +84,7 @@ def run(folder, given, arguments=TRACE, seed=SEED, before=()):
             capture_output=True,
             env=environment(seed),
             cwd=folder,
+            **options,
         )
 
 
@@ -136,8 +144,8 @@ class Call:
         return [Path(os.path.normpath(self.folder / name)) for name in re.findall(r'"([^"]+)"', self.arguments)]
 
     @property
-    def offset(self):
-        """The offset of a `pread64` or a `pwrite64`, which stands last."""
+    def last(self):
+        """The last argument: the offset of a `pread64` or a `pwrite64`, and how many bytes a `write` has."""
         return int(self.arguments.rpartition(", ")[2])
 
     def is_inside(self):
@@ -165,12 +173,12 @@ class Call:
         return self.name.startswith("rename") and self.named == [old, new]
 
 
-def traced(folder, given, failing=None):
-    """A run in a folder, in which this call fails if there is one, and the calls that it made."""
+def traced(folder, given, failing=None, outcome="error=EIO"):
+    """A run in a folder, in which this call fails or comes out so, if there is one, and the calls that it made."""
     log = folder / "calls"
     before = ["strace", "-y", "-s", "0", "-o", log, "-e", "trace=file,desc"]
     if failing is not None:
-        before += ["-e", f"inject={failing.name}:error=EIO:when={failing.number}"]
+        before += ["-e", f"inject={failing.name}:{outcome}:when={failing.number}"]
     ended = run(folder, given, before=before)
     calls, numbers = [], Counter()
     for line in log.read_text().splitlines():
@@ -276,6 +284,28 @@ def transaction_is_appended_at_its_commit():
     )
 
 
+def commits_of_a_unit_are_appended_and_synced_once():
+    folder = new_folder()
+    keys = range(1, 2001)
+    rows = [rows_of(key, ("REPLACE", {"space": 512, "tuple": tuple_of(key)}, None)) for key in keys]
+    ended, calls = traced(folder, replace_all(keys))
+    check_end(ended, 0, replies(b"".join(tuples_reply(key, tuple_of(key)) for key in keys)))
+    check_durable(calls)
+    journal = folder / "DIR" / journal_name(0)
+    held = block(b"".join(rows))
+    appends = [call.result for call in calls if call.writes_to(journal)]
+    expect("bytes of each append", [len(held), len(END)], appends)
+    expect("syncs of the journal", 2, sum(call.syncs(journal) for call in calls))
+    check_order(
+        calls,
+        ("appending the commits", lambda call: call.writes_to(journal)),
+        ("syncing the commits", lambda call: call.syncs(journal)),
+        ("the replies", Call.writes_reply),
+        ("appending the end marker", lambda call: call.writes_to(journal)),
+    )
+    expect_bytes("the journal", journal_header(0) + held + END, journal.read_bytes())
+
+
 def journals_that_are_read_are_durable_before_a_reply():
     folder = new_folder()
     keys = (1, 2, 3)
@@ -309,15 +339,46 @@ def files_are_appended_to():
         if call.name == "openat":
             appending[call.result] = "O_APPEND" in call.arguments
         if call.name == "ftruncate":
-            expect("size that a new file is cut to", 0, call.offset)
+            expect("size that a new file is cut to", 0, call.last)
             sizes[call.path] = 0
         if call.name in ("write", "writev", "pwrite64"):
             if call.name == "pwrite64":
-                expect("offset of an append", sizes[call.path], call.offset)
+                expect("offset of an append", sizes[call.path], call.last)
             else:
                 assert appending[call.descriptor], f"{call.path.name} isn't open for appends"
             sizes[call.path] += call.result
     assert sizes, "no file was written"
+
+
+def append_that_is_cut_short_goes_on():
+    row = ("REPLACE", {"space": 512, "tuple": tuple_of(1)}, None)
+    whole, cut = len(transaction(1, row)), 10
+    _, calls = traced(new_folder(), replace(1))
+    append = next(call for call in calls if call.writes_to(call.folder / "DIR" / journal_name(0)))
+    folder = new_folder()
+    # The system takes nothing, and tells that it took the first bytes.
+    ended, made = traced(folder, replace(1), append, f"retval={cut}")
+    check_end(ended, 0, replies(tuples_reply(1, tuple_of(1))))
+    check_durable(made)
+    appends = [(call.last, call.result) for call in made if call.writes_to(folder / "DIR" / journal_name(0))]
+    expect("bytes of each append", [(whole, cut), (whole - cut, whole - cut), (len(END), len(END))], appends)
+
+
+def append_that_ends_at_a_limit_is_told():
+    rows = [("REPLACE", {"space": 512, "tuple": tuple_of(key)}, None) for key in (1, 2)]
+    first, second = (transaction(lsn, row) for lsn, row in enumerate(rows, 1))
+    held = journal_header(0) + first + second[: len(second) // 2]
+    folder = new_folder()
+    # A write that passes the limit takes what fits, and only the next one fails: without a signal, as Python has it.
+    ended = run(
+        folder,
+        replace(1) + replace(2),
+        preexec_fn=lambda: resource.setrlimit(resource.RLIMIT_FSIZE, (len(held), len(held))),
+        restore_signals=False,
+    )
+    check_end(ended, 5, replies(tuples_reply(1, tuple_of(1))))
+    expect_bytes("the journal", held, (folder / "DIR" / journal_name(0)).read_bytes())
+    expect("keys found", [1], keys_found(folder, 2))
 
 
 def journals_are_read_from_offset_to_offset():
@@ -332,7 +393,7 @@ def journals_are_read_from_offset_to_offset():
     at = 0
     for call in reads:
         expect("call that reads a journal", "pread64", call.name)
-        expect("offset of a read", at, call.offset)
+        expect("offset of a read", at, call.last)
         at += call.result
     expect("bytes that were read", journal.stat().st_size, at)
     assert len(reads) > 1, "all of the journal was read in one call"
@@ -359,13 +420,14 @@ def each_call_that_fails_is_told():
     commit(base, [1])
     # What a run left that was killed while it began a journal: this is removed.
     (base / "DIR" / (journal_name(1) + ".inprogress")).write_bytes(b"XLOG\n")
-    given = replace(2) + replace(3)
-    _, calls = traced(copy_of(base), given)
-    due = replies(*(tuples_reply(key, tuple_of(key)) for key in (2, 3)))
-    failing = [at for at, call in enumerate(calls) if is_outside(call)]
-    expect("calls of a run", True, len(failing) > 20)
-    for at in failing:
-        check_fault(copy_of(base), given, calls, at, due)
+    for units in (((2,), (3,)), ((2, 3), (4, 5, 6))):
+        given = b"".join(map(replace_all, units))
+        _, calls = traced(copy_of(base), given)
+        due = replies(*(b"".join(tuples_reply(key, tuple_of(key)) for key in keys) for keys in units))
+        failing = [at for at, call in enumerate(calls) if is_outside(call)]
+        expect("calls of a run", True, len(failing) > 20)
+        for at in failing:
+            check_fault(copy_of(base), given, calls, at, due, units)
 
 
 def copy_of(base):
@@ -375,8 +437,8 @@ def copy_of(base):
     return folder
 
 
-def check_fault(folder, given, calls, at, due):
-    """Checks a run in which the call of this place fails, and what a further run finds then."""
+def check_fault(folder, given, calls, at, due, units):
+    """Checks a run on these units in which the call of this place fails, and what a further run finds then."""
     call = calls[at]
     sent = [one for one in calls[:at] if one.writes_reply()]
     try:
@@ -386,10 +448,11 @@ def check_fault(folder, given, calls, at, due):
         if status_of(call) == 5:
             later = [one.name for one in made[at + 1 :] if is_outside(one)]
             expect("calls after the one that failed", [], later)
-        found = keys_found(folder, 4)
-        least = 1 + len(sent)
+        found = keys_found(folder, units[-1][-1] + 1)
+        # Each unit's commits are found or none of them is, and those of the answered units are.
+        ends = [1, *(keys[-1] for keys in units)][len(sent) :]
         assert found == list(range(1, len(found) + 1)), f"keys found: {found}"
-        assert least <= len(found) <= 3, f"keys found: expected {least} to 3, saw {len(found)}"
+        assert len(found) in ends, f"keys found: expected one of {ends}, saw {len(found)}"
     except AssertionError as error:
         where = call.arguments.replace(str(call.folder), "")
         raise AssertionError(f"where call {call.number} of {call.name}({where}) fails: {error}") from error
@@ -426,13 +489,15 @@ def refused_starts_make_no_folder():
         expect(f"files left by {arguments} with the seed {seed!r}", ["input"], os.listdir(folder))
 
 
-PLAIN = (files_are_read_in_name_order, refused_starts_make_no_folder)
+PLAIN = (append_that_ends_at_a_limit_is_told, files_are_read_in_name_order, refused_starts_make_no_folder)
 TRACED = (
     new_directory_is_durable_before_a_reply,
     each_commit_is_durable_before_its_reply,
     transaction_is_appended_at_its_commit,
+    commits_of_a_unit_are_appended_and_synced_once,
     journals_that_are_read_are_durable_before_a_reply,
     files_are_appended_to,
+    append_that_is_cut_short_goes_on,
     journals_are_read_from_offset_to_offset,
     each_call_that_fails_is_told,
 )
