@@ -10,10 +10,9 @@ use Rattle.mx_serial.specs.Replies.{told_on}
 use Rattle.mx_model.proofs.HistoryLaws.{history_of_asks}
 use Rattle.mx_serial.proofs.ToldLaws.{asks_of_order, told_on-asking}
 use Rattle.mx_node.specs.Inputs.{InputUnit, connection_of}
-use Rattle.mx_node.specs.Order.{order_by, order_from, order_of}
 use Rattle.mx_node.specs.Starts.{Start}
 use Rattle.mx_node.specs.Outputs.{AnswersAll, AnswersFrom, output_for}
-use Rattle.mx_node.proofs.OrderLaws.{none_made, order_in-append, split_order}
+use Rattle.mx_node.proofs.OrderLaws.{order_by, order_from, order_of, none_made, order_in-append, split_order}
 use Rattle.mx_node.proofs.OutputLaws.{output_for-same}
 
 -- ---- one unit more

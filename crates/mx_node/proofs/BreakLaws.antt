@@ -1,93 +1,60 @@
 -- What is left where a unit can't be answered whole, or the end of the input.
-use Rattle.std.proofs.Common.{◌≡◌, ℕ, Bool, true, false, List, [], ◌++◌, refl, sym, ap, ◌∙◌, subst}
-use Rattle.std.specs.Prelude.{Option, if◌then◌else◌}
-use Rattle.std.proofs.lemmas.List.{append_assoc}
+use Rattle.std.proofs.Common.{◌≡◌, ℕ, Bool, List, [], ◌∷◌, ◌++◌, refl, ap, ◌∙◌, subst}
+use Rattle.std.specs.Prelude.{Option}
 use mathlib.Core.List.{IsPrefix}
 use Rattle.mx_outside.specs.Disks.{Disk}
-use Rattle.mx_frame.specs.Packets.{rest_of}
-use Rattle.mx_session.specs.declared.job.Job.{Job}
-use Rattle.mx_session.specs.Jobs.{ends, jobs_of}
-use Rattle.mx_session.specs.Sessions.{SessionState}
 use Rattle.mx_model.specs.Histories.{History, IsLegal}
 use Rattle.mx_serial.specs.Order.{Step, order_in}
-use Rattle.mx_engine.specs.declared.engine.Engine.{Engine}
-use Rattle.mx_journal.specs.declared.journal.Journal.{Journal}
+use Rattle.mx_node.specs.declared.out_units.OutUnit.{OutUnit}
 use Rattle.mx_node.specs.declared.single.Single.{Single}
+use Rattle.mx_node.specs.Answering.{AnswersAlone}
 use Rattle.mx_node.specs.Inputs.{InputUnit, Bytes}
-use Rattle.mx_node.specs.Connections.{came_on}
-use Rattle.mx_node.specs.Order.{departure_where, departures_of, order_by, order_of, whole_order_of, written_out}
+use Rattle.mx_node.specs.Order.{AreStepsOf, AreWholeSteps, departure_where, departures_of}
 use Rattle.mx_node.specs.Starts.{Start}
 use Rattle.mx_node.specs.Serving.{Serves}
 use Rattle.mx_node.specs.Interrupted.{IsInterrupted}
 use Rattle.mx_directory.specs.Survival.{Lasts}
 use Rattle.mx_store.specs.Stores.{StepsSurvive}
 use Rattle.mx_store.proofs.StoreLaws.{keep_on}
-use Rattle.mx_node.proofs.OrderLaws.{order_by-open}
+use Rattle.mx_node.proofs.OrderLaws.{are_order, order_are-push, order_by, whole_order_are, whole_order_of}
 use Rattle.mx_node.proofs.KeepLaws.{ready_keeps}
-use Rattle.mx_node.proofs.LastingLaws.{breaks_none, breaks_now, breaks_among}
-use Rattle.mx_node.proofs.ServerLaws.{Did, Meets}
+use Rattle.mx_node.proofs.LastingLaws.{breaks_as, breaks_none, breaks_now}
+
+-- the steps for one unit more
+pub unit_steps : (start : Start) (server : Single) (units : List InputUnit) (history : History) (unit : InputUnit) (states : Option (List Disk))
+    → Serves start server units history states → AreStepsOf (units ++ unit ∷ []) (order_in history ++ order_by units unit)
+unit_steps start server units history unit states serves =
+    order_are-push units unit (order_in history ++ order_by units unit)
+    (ap (λ (l : List Step). l ++ order_by units unit) (are_order units (order_in history) serves.order))
 
 -- nothing of the unit was done
-pub unit_untouched : (start : Start) (server : Single) (units : List InputUnit) (history : History) (order : List Step)
-    (states : Option (List Disk)) → Serves start server units history states → IsInterrupted start.base history (order_of units ++ order) states states
-unit_untouched start server units history order states serves =
-    subst (λ l. IsInterrupted start.base history (l ++ order) states states) serves.order
-    (breaks_none start.base history order states serves.ready.behind.stands.legal
+pub unit_untouched : (start : Start) (server : Single) (units : List InputUnit) (history : History) (unit : InputUnit)
+    (states : Option (List Disk)) → Serves start server units history states → IsInterrupted start.base history (AreStepsOf (units ++ unit ∷ [])) states states
+unit_untouched start server units history unit states serves =
+    breaks_as start.base history (order_in history ++ order_by units unit) (AreStepsOf (units ++ unit ∷ [])) states states
+    (unit_steps start server units history unit states serves)
+    (breaks_none start.base history (order_by units unit) states serves.ready.behind.stands.legal
     (ready_keeps start.base history server.engine server.journal states serves.ready))
 
--- the steps for bytes, unless the connection ended before
-abbrev steps_with : SessionState → (bytes : List ℕ) → Bool → List Step
-steps_with session bytes ended = written_out (if ended then [] else jobs_of session.connection (session.rest ++ bytes))
-
-module _ (start : Start) (server : Single) (units : List InputUnit) (history : History) (on : ℕ) (bytes : List ℕ) (old new : Option (List Disk))
-    (serves : Serves start server units history old) where
-  steps_begin : (session : SessionState) → Meets start on (came_on on units) bytes session
-      → IsPrefix (steps_with session bytes session.ended) (order_by units (Bytes on bytes))
-  steps_begin session met = by_end session.ended refl
-    where
-      by_end : (b : Bool) → session.ended ≡ b → IsPrefix (steps_with session bytes b) (order_by units (Bytes on bytes))
-      by_end true over = (order_by units (Bytes on bytes), refl)
-      by_end false goes_on =
-          let came = came_on on units in
-          let jobs : jobs_of session.connection (session.rest ++ bytes) ≡ jobs_of on (rest_of came ++ bytes) =
-          ap (λ (n : ℕ). jobs_of n (session.rest ++ bytes)) met.whose ∙ ap (λ (l : List ℕ). jobs_of on (l ++ bytes)) (met.rest goes_on) in (
-            departure_where on (ends on (rest_of came ++ bytes)),
-            ap (λ (l : List Job). written_out l ++ departure_where on (ends on (rest_of came ++ bytes))) jobs
-                ∙ sym (order_by-open units on came bytes refl (sym met.ended ∙ goes_on)),
-          )
-
-  -- one of the jobs failed
-  pub broken_in : (session : SessionState) → Meets start on (came_on on units) bytes session
-      → IsInterrupted start.base history (order_in history ++ steps_with session bytes session.ended) old new
-      → IsInterrupted start.base history (order_of units ++ order_by units (Bytes on bytes)) old new
-  broken_in session met breaks =
-      let steps = steps_with session bytes session.ended in
-      let (rest, is) = steps_begin session met in
-      breaks_among start.base history (order_in history ++ steps) (order_of units ++ order_by units (Bytes on bytes)) old new (
-        rest,
-        append_assoc (order_in history) steps rest ∙ ap (λ (l : List Step). order_in history ++ l) is
-            ∙ ap (λ (l : List Step). l ++ order_by units (Bytes on bytes)) serves.order,
-      )
-      breaks
-
-  -- all jobs were answered
-  pub broken_behind : (engine : Engine) (journal : Journal) (later : SessionState) (ended : Bool)
-      → Did start units history on bytes engine journal old new later ended
-      → IsInterrupted start.base history (order_of units ++ order_by units (Bytes on bytes)) old new
-  broken_behind engine journal later ended done =
-      let order = order_of units ++ order_by units (Bytes on bytes) in
-      let since = done.since in
-      breaks_now start.base since.0 history order old new
-      (subst (λ h. IsLegal start.base h) since.1 done.ready.behind.stands.legal)
-      (subst (λ h. IsPrefix (order_in h) order) since.1
-      (departure_where on ended, done.order ∙ ap (λ (l : List Step). l ++ order_by units (Bytes on bytes)) serves.order))
-      (subst (λ h. Lasts start.base h old new) since.1 done.lasts)
-      (subst (λ h. StepsSurvive start.base h h new) since.1 (ready_keeps start.base done.history engine journal new done.ready))
+-- all of it was done, but its connection didn't leave
+pub broken_behind : (start : Start) (old new : Single) (units : List InputUnit) (history : History) (on : ℕ) (bytes : List ℕ)
+    (before after : Option (List Disk)) (output : List OutUnit) (ended : Bool) → AnswersAlone start units history on bytes old new before after output ended
+    → IsInterrupted start.base history (AreStepsOf (units ++ Bytes on bytes ∷ [])) before after
+broken_behind start old new units history on bytes before after output ended done =
+    let order = order_in done.history ++ departure_where on ended in
+    let since = done.since in
+    breaks_as start.base history order (AreStepsOf (units ++ Bytes on bytes ∷ [])) before after done.order
+    (breaks_now start.base since.0 history order before after
+    (subst (λ h. IsLegal start.base h) since.1 done.ready.behind.stands.legal)
+    (subst (λ h. IsPrefix (order_in h) order) since.1 (departure_where on ended, refl))
+    (subst (λ h. Lasts start.base h before after) since.1 done.lasts)
+    (subst (λ h. StepsSurvive start.base h h after) since.1 (ready_keeps start.base done.history new.engine new.journal after done.ready)))
 
 -- all units were answered
 pub end_broken : (start : Start) (server : Single) (units : List InputUnit) (history : History) (old new : Option (List Disk))
-    → Serves start server units history old → Lasts start.base history old new → IsInterrupted start.base history (whole_order_of units) old new
+    → Serves start server units history old → Lasts start.base history old new → IsInterrupted start.base history (AreWholeSteps units) old new
 end_broken start server units history old new serves lasts =
-    breaks_now start.base [] history (whole_order_of units) old new serves.ready.behind.stands.legal
-    (departures_of units, ap (λ (l : List Step). l ++ departures_of units) serves.order) lasts
-    (keep_on start.base history history old new (ready_keeps start.base history server.engine server.journal old serves.ready) lasts)
+    breaks_as start.base history (whole_order_of units) (AreWholeSteps units) old new (whole_order_are units (whole_order_of units) refl)
+    (breaks_now start.base [] history (whole_order_of units) old new serves.ready.behind.stands.legal
+    (departures_of units, ap (λ (l : List Step). l ++ departures_of units) (are_order units (order_in history) serves.order)) lasts
+    (keep_on start.base history history old new (ready_keeps start.base history server.engine server.journal old serves.ready) lasts))

@@ -1,6 +1,6 @@
 -- What the jobs of a unit make of a history, which goes on by their requests alone, and of their session.
-use Rattle.std.proofs.Common.{◌≡◌, ◌≢◌, ℕ, ◌+◌, ◌≤◌, true, false, cond, List, [], ◌∷◌, ◌++◌, length, map, refl, sym, ap, ◌∙◌, subst, arith}
-use Rattle.std.specs.Prelude.{Option, Some, None, is_some}
+use Rattle.std.proofs.Common.{◌≡◌, ◌≢◌, ℕ, ◌+◌, ◌≤◌, Bool, true, false, List, [], ◌∷◌, ◌++◌, length, map, refl, sym, ap, ◌∙◌, subst, arith}
+use Rattle.std.specs.Prelude.{Option, Some, None, is_some, if◌then◌else◌}
 use mathlib.Core.Bool.{true≢false}
 use Rattle.std.specs.List.{AllByRecursion}
 use Rattle.std.proofs.lemmas.List.{append-nil, append_assoc, length-map}
@@ -26,12 +26,13 @@ use Rattle.mx_store.proofs.StoreLaws.{durable_within, has_still, lasts_longer, l
 use Rattle.mx_link.specs.Asks.{sync_of}
 use Rattle.mx_link.specs.Links.{Answer, HasLink, IsNoJob, answer_packet, answer_packets, answer_step, waiting_of}
 use Rattle.mx_link.specs.Answers.{AnswersMore, AreMade}
-use Rattle.mx_link.proofs.LinkLaws.{AllAnswered, all_leave, fronts_within, link_begins, link_feeds, none_left}
+use Rattle.mx_link.proofs.LinkLaws.{AllAnswered, all_leave, fronts_within, link_feeds, none_left}
 use Rattle.mx_node.specs.Connections.{AreOf}
 use Rattle.mx_node.specs.Interrupted.{IsInterrupted}
 use Rattle.mx_node.specs.Order.{requests_of, written_out}
 use Rattle.mx_node.specs.Ready.{AnswersJobs, Behind, Ready, TakenAll}
-use Rattle.mx_node.proofs.LastingLaws.{breaks_in}
+use Rattle.mx_node.specs.Answering.{AnswersBytes, let_leave}
+use Rattle.mx_node.proofs.LastingLaws.{Only, breaks_in}
 use Rattle.mx_node.proofs.OrderLaws.{order_in-append}
 
 -- nobody else made a step
@@ -116,23 +117,34 @@ pub record Came (base : Base) (earlier : History) (engine : Engine) (jobs : List
   pub held : after.waiting ≡ map waiting_of answers
   pub sends : after.out ≡ before.out
 
--- a session that got these bytes more
-pub fed_link : (base : Base) (earlier : History) (session fed : SessionState) (bytes : List ℕ) → session.ended ≡ false → session.waiting ≡ []
-    → fed ≡ record session { rest = cond session.ended session.rest (session.rest ++ bytes) }
-    → HasLink base earlier [] session.out (session.rest ++ bytes) [] fed
-fed_link base earlier session fed bytes goes_on idle feeds =
-    link_feeds base earlier [] session.out session.rest [] session (link_begins base earlier session goes_on idle) bytes fed feeds
+-- what came after the end of a connection
+pub over_link : (base : Base) (history : History) (answers : List Answer) (greeting came gone : List ℕ) (session : SessionState) (bytes : List ℕ)
+    → session.ended ≡ true → HasLink base history answers greeting came gone session → HasLink base history answers greeting (came ++ bytes) gone session
+over_link base history answers greeting came gone session bytes over link =
+    link_feeds base history answers greeting came gone session link bytes session
+    (λ i. record session { rest = ap (λ (b : Bool). if b then session.rest else session.rest ++ bytes) (sym over) i })
 
--- and of whose jobs none is left
-module _ (base : Base) (earlier : History) (engine : Engine) (session fed later : SessionState) (bytes : List ℕ) (goes_on : session.ended ≡ false)
-    (idle : session.waiting ≡ []) (feeds : fed ≡ record session { rest = cond session.ended session.rest (session.rest ++ bytes) })
-    (answered : AnswersMore (λ (b : Base) (h : History) (mine : List ℕ). EngineStandsFor engine b h) NoOthers base earlier [] [] session.out (session.rest ++ bytes) [] fed later)
+-- the answers of a session that got more bytes first
+pub fed_answers : (base : Base) (history : History) (answers : List Answer) (greeting came gone : List ℕ) (engine : Engine)
+    (session fed later : SessionState) (bytes : List ℕ) → fed ≡ record session { rest = if session.ended then session.rest else session.rest ++ bytes }
+    → AnswersBytes engine base history answers greeting came gone fed later → AnswersBytes engine base history answers greeting came gone session later
+fed_answers base history answers greeting came gone engine session fed later bytes feeds answered = record {
+  made = answered.made;
+  more = answered.more;
+  are = answered.are;
+  at = answered.at;
+  link = answered.link;
+  whose = answered.whose ∙ ap (λ (s : SessionState). s.connection) feeds;
+  held = answered.held ∙ ap (λ (s : SessionState). s.waiting ++ map waiting_of answered.made) feeds;
+  sends = answered.sends ∙ ap (λ (s : SessionState). s.out) feeds;
+}
+
+-- where no job is left of what came
+module _ (base : Base) (earlier : History) (engine : Engine) (session later : SessionState) (bytes : List ℕ) (goes_on : session.ended ≡ false)
+    (idle : session.waiting ≡ []) (answered : AnswersBytes engine base earlier [] session.out (session.rest ++ bytes) [] session later)
     (none : IsNoJob (next_of later)) where
   left : AllAnswered answered.made (session.rest ++ bytes) later
   left = none_left base (answered.more ++ earlier) answered.made session.out (session.rest ++ bytes) [] later answered.link none
-
-  same : later.connection ≡ session.connection
-  same = answered.whose ∙ ap (λ (s : SessionState). s.connection) feeds
 
   pub came : Came base earlier engine (jobs_of session.connection (session.rest ++ bytes)) session later
   came = record {
@@ -140,20 +152,31 @@ module _ (base : Base) (earlier : History) (engine : Engine) (session fed later 
     more = answered.more;
     are = answered.are;
     stands = answered.at;
-    asked = left.jobs ∙ ap (λ (n : ℕ). jobs_of n (session.rest ++ bytes)) same;
-    held = answered.held ∙ ap (λ (l : List Waiting). l ++ map waiting_of answered.made) (ap (λ (s : SessionState). s.waiting) feeds ∙ idle);
-    sends = answered.sends ∙ ap (λ (s : SessionState). s.out) feeds;
+    asked = left.jobs ∙ ap (λ (n : ℕ). jobs_of n (session.rest ++ bytes)) answered.whose;
+    held = answered.held ∙ ap (λ (l : List Waiting). l ++ map waiting_of answered.made) idle;
+    sends = answered.sends;
   }
 
+  pub ended_so : later.ended ≡ ends session.connection (session.rest ++ bytes)
+  ended_so = left.ended ∙ ap (λ (n : ℕ). ends n (session.rest ++ bytes)) answered.whose
+
   -- the session then, whatever may leave
-  pub all_taken : (last : SessionState) (waiting : List Waiting) (out : List ℕ) → last ≡ record later { waiting = waiting; out = out } → waiting ≡ []
-      → TakenAll (record session { rest = session.rest ++ bytes }) last
-  all_taken last waiting out is nothing = record {
-    whose = ap (λ (s : SessionState). s.connection) is ∙ same;
-    idle = ap (λ (s : SessionState). s.waiting) is ∙ nothing;
-    ended = ap (λ (s : SessionState). s.ended) is ∙ left.ended ∙ ap (λ (n : ℕ). ends n (session.rest ++ bytes)) same;
-    rest = λ on. ap (λ (s : SessionState). s.rest) is ∙ left.rest (sym (ap (λ (s : SessionState). s.ended) is) ∙ on);
+  pub all_taken : (durable : ℕ) → (let_leave durable later).waiting ≡ [] → TakenAll (record session { rest = session.rest ++ bytes }) (let_leave durable later)
+  all_taken durable nothing = record {
+    whose = answered.whose;
+    idle = nothing;
+    ended = ended_so;
+    rest = λ on. left.rest on;
   }
+
+-- nothing is let go where nothing waits
+pub quiet_session : (session : SessionState) (durable : ℕ) → session.waiting ≡ [] → let_leave durable session ≡ session
+quiet_session session durable none =
+    let held : released durable session.waiting ≡ ([], []) = ap (released durable) none in
+    λ i. record session {
+      waiting = (ap (λ (x : List ℕ × List Waiting). x.1) held ∙ sym none) i;
+      out = (ap (λ (x : List ℕ × List Waiting). session.out ++ x.0) held ∙ append-nil session.out) i;
+    }
 
 none_there : (front : Option ℕ) → is_some front ≡ false → front ≡ None
 none_there None none = refl
@@ -191,7 +214,7 @@ module _ (base : Base) (earlier : History) (engine : Engine) (jobs : List Job) (
 
   -- what they committed couldn't be written out
   pub came_breaks : (old new : Option (List Disk)) → IsLegal base earlier → StepsSurvive base earlier earlier old → Lasts base (c.more ++ earlier) old new
-      → IsInterrupted base earlier (order_in earlier ++ written_out jobs) old new
+      → IsInterrupted base earlier (Only (order_in earlier ++ written_out jobs)) old new
   came_breaks old new legal keep lasts =
       let (rest, is) = requests_first jobs in
       breaks_in base c.more earlier (order_in earlier ++ written_out jobs) old new c.stands.legal (
@@ -223,6 +246,10 @@ module _ (base : Base) (earlier : History) (engine : Engine) (jobs : List Job) (
       gate = ready.gate;
     }
 
+    -- so nothing is let go
+    pub none_leaves : (durable : ℕ) → let_leave durable after ≡ after
+    none_leaves durable = quiet_session after durable nothing_waits
+
     pub answered_nothing : (old : Engine) (journal : Journal) (states : Option (List Disk)) → Ready base earlier old journal states
         → AnswersJobs base earlier engine journal states states jobs before.out after.out
     answered_nothing old journal states ready = record {
@@ -238,11 +265,10 @@ module _ (base : Base) (earlier : History) (engine : Engine) (jobs : List Job) (
     }
 
   -- what they committed was written out, and their replies left
-  module _ (written : Engine) (journal : Journal) (old new : Option (List Disk)) (txs : List Tx) (upto durable : ℕ) (last : SessionState)
+  module _ (written : Engine) (journal : Journal) (old new : Option (List Disk)) (txs : List Tx) (upto durable : ℕ)
       (some : is_some (first_front after.waiting) ≡ true)
       (ready : Ready base (Confirmed upto ∷ Took txs upto ∷ (c.more ++ earlier)) written journal new) (lasts : Lasts base (c.more ++ earlier) old new)
-      (is : durable ≡ (ledger_of base (Confirmed upto ∷ Took txs upto ∷ (c.more ++ earlier))).durable)
-      (leave : last ≡ record after { waiting = (released durable after.waiting).1; out = after.out ++ (released durable after.waiting).0 }) where
+      (is : durable ≡ (ledger_of base (Confirmed upto ∷ Took txs upto ∷ (c.more ++ earlier))).durable) where
     abbrev whole : History
     whole = Confirmed upto ∷ Took txs upto ∷ (c.more ++ earlier)
 
@@ -268,7 +294,7 @@ module _ (base : Base) (earlier : History) (engine : Engine) (jobs : List Job) (
     pub nothing_held : (released durable after.waiting).1 ≡ []
     nothing_held = ap (λ (x : List ℕ × List Waiting). x.1) all_left
 
-    pub answered_all : AnswersJobs base earlier written journal old new jobs before.out last.out
+    pub answered_all : AnswersJobs base earlier written journal old new jobs before.out (let_leave durable after).out
     answered_all =
         let replies = map told_of c.answers in record {
           history = whole;
@@ -282,8 +308,7 @@ module _ (base : Base) (earlier : History) (engine : Engine) (jobs : List Job) (
               ∙ ap (λ (l : List Step). order_in earlier ++ l) (sym (some_written_out jobs some_jobs));
           told = λ connection are. answers_told base connection earlier c.answers c.more c.are (subst (AreOf connection) (sym c.asked) are);
           each = length-map c.answers told_of ∙ sym (length-map c.answers job_of) ∙ ap length c.asked;
-          output = ap (λ (s : SessionState). s.out) leave
-              ∙ ap (λ (l : List ℕ). l ++ (released durable after.waiting).0) c.sends
+          output = ap (λ (l : List ℕ). l ++ (released durable after.waiting).0) c.sends
               ∙ ap (λ (x : List ℕ × List Waiting). before.out ++ x.0) all_left
               ∙ ap (λ (l : List ℕ). before.out ++ l) (packets_told c.answers)
               ∙ ap (λ (l : List Job). before.out ++ packets_of_replies (map sync_of l) replies) c.asked;

@@ -11,10 +11,11 @@ use Rattle.mx_images.proofs.ToldLaws.{told_weaker, told_both, told_now}
 use Rattle.mx_node.specs.declared.single.Single.{Single}
 use Rattle.mx_node.specs.Inputs.{InputUnit}
 use Rattle.mx_node.specs.Connections.{came_on}
-use Rattle.mx_node.specs.Order.{order_of, departures_from}
+use Rattle.mx_node.specs.Order.{departures_from}
 use Rattle.mx_node.specs.Starts.{Start}
 use Rattle.mx_directory.specs.Survival.{Lasts}
-use Rattle.mx_node.specs.Serving.{DirectoryHolds, EndedNode, HasSession, Serves, left_from, session_at}
+use Rattle.mx_node.specs.Serving.{DirectoryHolds, EndedNode, HasSession, Serves, left_from}
+use Rattle.mx_node.specs.Tables.{session_at}
 use Rattle.mx_node.proofs.TableLaws.{left_from-journal, left_from-order, left_from-state, left_from-clock, left_from-told, left_from-since}
 use Rattle.mx_msgpack.proofs.Options.{same_some}
 use Rattle.mx_xlog.specs.Headers.{header_of}
@@ -42,6 +43,7 @@ use Rattle.mx_store.proofs.StoreLaws.{lasts_longer}
 use Rattle.mx_store.proofs.TakingLaws.{IsOnDisk, no_draft_still}
 use Rattle.mx_node.specs.Ready.{Ready}
 use Rattle.std.specs.FinMap as finite
+use Rattle.mx_node.proofs.OrderLaws.{are_order, order_of, whole_order_are}
 
 -- ---- what is left once the open connections left and the journal was ended
 
@@ -72,7 +74,7 @@ module _ (start : Start) (server : Single) (units : List InputUnit) (history : H
       let same : place ≡ number = omega (arith, is) in
       subst (λ (n : ℕ). HasSession number (came_on number units) (session_at sessions n)) (sym same)
       (serves.sessions number (omega (arith, is, within, serves.table))))
-      ∙ ap (λ (l : List Step). l ++ departures_from 0 (length sessions) units) serves.order
+      ∙ ap (λ (l : List Step). l ++ departures_from 0 (length sessions) units) (are_order units (order_in history) serves.order)
 
   pub closed : IsLegal start.base (left_from 0 server.sessions.items history) → Lasts start.base history old new
       → IfKnown new (λ disk past. DirectoryHolds start.base history disk) → EndedNode start units history old new
@@ -84,7 +86,8 @@ module _ (start : Start) (server : Single) (units : List InputUnit) (history : H
         history = all;
         since = since;
         legal = legal;
-        order = order_at_the_end ∙ ap (λ (n : ℕ). order_of units ++ departures_from 0 n units) serves.table;
+        order = whole_order_are units (order_in all)
+            (order_at_the_end ∙ ap (λ (n : ℕ). order_of units ++ departures_from 0 n units) serves.table);
         told = left_from-told start.base 0 sessions history;
         lasts = subst (λ (h : History). Lasts start.base h old new) (sym since.1) (lasts_longer start.base since.0 history old new lasts);
         keeps = told_weaker new

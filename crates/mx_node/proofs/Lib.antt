@@ -1,4 +1,6 @@
 pub mod CameLaws
+pub mod BytesLaws
+pub mod LinkedLaws
 pub mod TableLaws
 pub mod ServerLaws
 pub mod BreakLaws

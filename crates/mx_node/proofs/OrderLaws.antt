@@ -1,16 +1,56 @@
 -- In which order the steps for one unit more come.
-use Rattle.std.proofs.Common.{◌≡◌, ℕ, Bool, true, false, not, List, [], ◌∷◌, ◌++◌, length, drop, refl, sym, ap, ◌∙◌, ◌⊎◌, inl, inr, arith, length-append}
+use Rattle.std.proofs.Common.{◌≡◌, ℕ, Bool, true, false, not, List, [], ◌∷◌, ◌++◌, length, drop, refl, sym, ap, ◌∙◌, subst, ◌⊎◌, inl, inr, arith, length-append}
 use Rattle.std.proofs.lemmas.List.{append-nil, append_assoc, drop_at, same_from_push}
 use Rattle.mx_frame.specs.Packets.{rest_of}
 use Rattle.mx_session.specs.declared.job.Job.{Job}
 use Rattle.mx_session.specs.Jobs.{jobs_of, ends}
 use Rattle.mx_model.specs.Histories.{Entry, Asked, Left, Took, Confirmed, Looked, History}
 use Rattle.mx_serial.specs.Order.{Step, DepartureStep, order_in, step_in}
-use Rattle.mx_node.specs.Inputs.{InputUnit, Bytes}
-use Rattle.mx_node.specs.Connections.{came_on, is_ended_by}
-use Rattle.mx_node.specs.Order.{written_out, departure_where, order_by, order_from, order_of}
+use Rattle.mx_node.specs.Inputs.{InputUnit, Bytes, connection_of}
+use Rattle.mx_node.specs.Connections.{came_on, is_ended_by, jobs_by}
+use Rattle.mx_node.specs.Order.{AreStepsFrom, AreStepsOf, AreWholeSteps, departure_where, departures_of, written_out}
 use Rattle.mx_node.proofs.TableLaws.{left_by}
 use Rattle.mx_node.proofs.ConnectionLaws.{jobs_by-open, jobs_by-ended, jobs_by-nothing, is_ended_by-open, is_ended_by-ended, is_ended_by-nothing}
+
+-- ---- the steps for units as one list
+
+abbrev pub order_by : List InputUnit → InputUnit → List Step
+order_by earlier unit = written_out (jobs_by earlier unit) ++ departure_where (connection_of unit) (is_ended_by earlier unit)
+
+abbrev pub order_from : List InputUnit → List InputUnit → List Step
+order_from earlier [] = []
+order_from earlier (unit ∷ units) = order_by earlier unit ++ order_from (earlier ++ unit ∷ []) units
+
+abbrev pub order_of : List InputUnit → List Step
+order_of units = order_from [] units
+
+abbrev pub whole_order_of : List InputUnit → List Step
+whole_order_of units = order_of units ++ departures_of units
+
+are_from : (earlier units : List InputUnit) (steps : List Step) → AreStepsFrom earlier units steps → steps ≡ order_from earlier units
+are_from earlier [] steps are = are
+are_from earlier (unit ∷ units) steps (first, others, is, one, rest) =
+    is ∙ ap (λ (l : List Step). l ++ others) one
+    ∙ ap (λ (l : List Step). order_by earlier unit ++ l) (are_from (earlier ++ unit ∷ []) units others rest)
+
+from_order : (earlier units : List InputUnit) → AreStepsFrom earlier units (order_from earlier units)
+from_order earlier [] = refl
+from_order earlier (unit ∷ units) =
+    let later = earlier ++ unit ∷ [] in (order_by earlier unit, order_from later units, refl, refl, from_order later units)
+
+pub are_order : (units : List InputUnit) (steps : List Step) → AreStepsOf units steps → steps ≡ order_of units
+are_order units steps are = are_from [] units steps are
+
+pub order_are : (units : List InputUnit) (steps : List Step) → steps ≡ order_of units → AreStepsOf units steps
+order_are units steps is = subst (AreStepsOf units) (sym is) (from_order [] units)
+
+pub are_whole_order : (units : List InputUnit) (steps : List Step) → AreWholeSteps units steps → steps ≡ whole_order_of units
+are_whole_order units steps (first, are, is) = is ∙ ap (λ (l : List Step). l ++ departures_of units) (are_order units first are)
+
+pub whole_order_are : (units : List InputUnit) (steps : List Step) → steps ≡ whole_order_of units → AreWholeSteps units steps
+whole_order_are units steps is = (order_of units, from_order [] units, is)
+
+-- ---- the steps of a history
 
 -- the steps of a history that goes on
 pub order_in-append : (more earlier : History) → order_in (more ++ earlier) ≡ order_in earlier ++ order_in more
@@ -109,6 +149,11 @@ order_from-append earlier (unit ∷ units) more =
 pub order_of-push : (units : List InputUnit) (unit : InputUnit) → order_of (units ++ unit ∷ []) ≡ order_of units ++ order_by units unit
 order_of-push units unit =
     order_from-append [] units (unit ∷ []) ∙ ap (λ (l : List Step). order_of units ++ l) (append-nil (order_by units unit))
+
+-- with one unit more
+pub order_are-push : (units : List InputUnit) (unit : InputUnit) (steps : List Step) → steps ≡ order_of units ++ order_by units unit
+    → AreStepsOf (units ++ unit ∷ []) steps
+order_are-push units unit steps is = order_are (units ++ unit ∷ []) steps (is ∙ sym (order_of-push units unit))
 
 module _ (earlier : List InputUnit) (on : ℕ) (came bytes : List ℕ) (same : came ≡ came_on on earlier) where
   abbrev steps_for : List Job → Bool → List Step

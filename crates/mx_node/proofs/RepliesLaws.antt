@@ -14,10 +14,10 @@ use Rattle.mx_serial.specs.Order.{Step, RequestStep, DepartureStep, TakeStep, Co
 use Rattle.mx_serial.proofs.ToldLaws.{AreElsewhere, told_now-asked, told_now-elsewhere, told_now-left}
 use Rattle.mx_node.specs.Inputs.{InputUnit, Bytes, Close, connection_of}
 use Rattle.mx_node.specs.Connections.{came_after, came_on, is_open, is_ended_by, jobs_by, AreOf}
-use Rattle.mx_node.specs.Order.{departure_where, order_by, order_from, order_of, requests_of, written_out}
+use Rattle.mx_node.specs.Order.{departure_where, requests_of, written_out}
 use Rattle.mx_link.proofs.PieceLaws.{ends-nothing, ends-piece, ends-stays, jobs_of-nothing}
 use Rattle.mx_node.proofs.ConnectionLaws.{came_elsewhere, came_here, came_on-push, none_came}
-use Rattle.mx_node.proofs.OrderLaws.{departed, none_made, order_by-ended, order_by-open, split_order}
+use Rattle.mx_node.proofs.OrderLaws.{order_by, order_from, order_of, departed, none_made, order_by-ended, order_by-open, split_order}
 use Rattle.mx_node.proofs.TableLaws.{left_by}
 
 -- ---- whose jobs these are

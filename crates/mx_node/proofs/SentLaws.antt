@@ -11,11 +11,10 @@ use Rattle.mx_serial.specs.Replies.{told_on}
 use Rattle.mx_serial.proofs.ToldLaws.{told_on-elsewhere}
 use Rattle.mx_node.specs.Inputs.{InputUnit, Bytes, Close, connection_of}
 use Rattle.mx_node.specs.Connections.{came_after, came_on, is_ended_by}
-use Rattle.mx_node.specs.Order.{order_by}
 use Rattle.mx_node.specs.Starts.{Start}
 use Rattle.mx_node.specs.Outputs.{AnswersAll, AnswersFrom, bytes_on, closed_on, closing, output_for, sent_for, sent_on, sent_to}
 use Rattle.mx_node.proofs.ConnectionLaws.{came_elsewhere, came_here, came_on-push, none_came}
-use Rattle.mx_node.proofs.OrderLaws.{none_made, order_by-ended}
+use Rattle.mx_node.proofs.OrderLaws.{order_by, none_made, order_by-ended}
 use Rattle.mx_node.proofs.OutputLaws.{gained_after, sent_more, sent_no_more, sent_to-same, told_on-left}
 use Rattle.mx_node.proofs.RepliesLaws.{HasReplies, answered_open, jobs_now-open, replies_by, replies-none, steps_elsewhere}
 

@@ -20,18 +20,20 @@ use Rattle.mx_journal.specs.declared.journal.Journal.{Journal}
 use Rattle.mx_node.specs.declared.single.Single.{Single}
 use Rattle.mx_node.specs.Inputs.{InputUnit, Bytes, Close, connection_of, max_connection}
 use Rattle.mx_node.specs.Connections.{came_after, came_on, is_open, AreOf}
-use Rattle.mx_node.specs.Order.{departure_where, order_by, written_out}
+use Rattle.mx_node.specs.Order.{departure_where, written_out}
 use Rattle.mx_link.specs.Asks.{sync_of}
 use Rattle.mx_node.specs.Starts.{Start, start_greeting}
 use Rattle.mx_node.specs.Outputs.{sent_on, closed_on, output_for}
 use Rattle.mx_node.specs.declared.out_units.OutUnit.{OutUnit}
-use Rattle.mx_node.specs.Ready.{Ready, IsReady, AnswersJobs, TakenAll}
+use Rattle.mx_node.specs.Ready.{Ready, AnswersJobs, TakenAll}
+use Rattle.mx_node.specs.Answering.{AnswersAlone, OnlyEngine, all_sent, closed_where}
 use Rattle.mx_directory.specs.Survival.{Lasts}
-use Rattle.mx_node.specs.Serving.{Attends, CanServe, HasSession, IsIdle, IsTable, Serves, AnswersUnit, goes_on, opened, session_at}
+use Rattle.mx_node.specs.Serving.{Attends, CanServe, HasSession, Serves, AnswersUnit}
+use Rattle.mx_node.specs.Tables.{IsTable, goes_on, opened, session_at}
 use Rattle.mx_link.proofs.PieceLaws.{ends-nothing, ends-piece, ends-stays, rest_of-nothing}
 use Rattle.mx_node.proofs.ConnectionLaws.{came_elsewhere, came_here, none_came, came_on-push}
 use Rattle.mx_store.proofs.StoreLaws.{has_still, lasts_longer, lasts_none}
-use Rattle.mx_node.proofs.OrderLaws.{order_by-ended, order_by-nothing, order_by-open, order_of_more, order_of-push}
+use Rattle.mx_node.proofs.OrderLaws.{are_order, order_are-push, order_by, order_of, order_by-ended, order_by-nothing, order_by-open, order_of_more, order_of-push}
 use Rattle.mx_node.proofs.OutputLaws.{opening, opening-ended, output_for-ended, output_for-left, output_for-nothing, output_for-open}
 use Rattle.mx_node.proofs.RepliesLaws.{HasReplies, jobs_now-open, jobs_of-whose, replies_of_order, same_twice}
 use Rattle.mx_node.proofs.TableLaws.{left_by, left_by-order, left_by-since, there_where}
@@ -53,44 +55,6 @@ each_session P sessions on slot within new number others = by_test (number == on
     by_test false is =
         let other : number ≢ on = eqb-false number on is in
         subst (P number) (sym (get_or-set_other sessions on number slot None other)) (others other)
-
--- ---- what a server can be asked
-
-is_idle : (connection : ℕ) (came : List ℕ) (slot : Option SessionState) → HasSession connection came slot → IfSome slot IsIdle
-is_idle connection came None has = tt
-is_idle connection [] (Some session) has = absurd cc
-is_idle connection (byte ∷ came) (Some session) has = has.idle
-
--- a server that serves can be asked
-pub can_serve : (start : Start) (server : Single) (units : List InputUnit) (history : History) (states : Option (List Disk))
-    → Serves start server units history states → CanServe server states
-can_serve start server units history states serves = record {
-  ready = (start.base, history, serves.ready);
-  table = serves.table;
-  idle = λ connection. by_place connection (cases_lt connection (length server.sessions.items));
-}
-  where
-    by_place : (connection : ℕ) → (connection < length server.sessions.items) ⊎ (length server.sessions.items ≤ connection)
-        → IfSome (session_at server.sessions.items connection) IsIdle
-    by_place connection (inl within) =
-        is_idle connection (came_on connection units) (session_at server.sessions.items connection)
-        (serves.sessions connection (omega (arith, within, serves.table)))
-    by_place connection (inr past) =
-        subst (λ (slot : Option SessionState). IfSome slot IsIdle) (sym (get_or_past server.sessions.items connection None past)) tt
-
--- it can still be asked where one place changed
-pub can_still_serve : (old new : Single) (before after : Option (List Disk)) (on : ℕ) (slot : Option SessionState) → CanServe old before → on ≤ max_connection
-    → IsReady new.engine new.journal after → new.sessions.items ≡ set old.sessions.items on slot → IfSome slot IsIdle → CanServe new after
-can_still_serve old new before after on slot serves known ready table idle =
-    let sessions = old.sessions.items in
-    let within : on < length sessions = omega (arith, known, serves.table) in
-    record {
-      ready = ready;
-      table = ap length table ∙ table_same sessions on slot serves.table;
-      idle = λ connection.
-          subst (λ (l : List (Option SessionState)). IfSome (session_at l connection) IsIdle) (sym table)
-          (each_session (λ _ found. IfSome found IsIdle) sessions on slot within idle connection (λ _. serves.idle connection));
-    }
 
 -- ---- a connection that leaves
 
@@ -115,17 +79,6 @@ ready_told base history old new journal states on false ready stands = record {
   taken = ready.taken;
   gate = ready.gate;
 }
-
-pub is_ready_told : (old new : Engine) (journal : Journal) (states : Option (List Disk)) (on : ℕ) (ended : Bool) → IsReady old journal states
-    → ((base : Base) (history : History) → EngineStandsFor old base history → EngineStandsFor new base (if ended then Left on ∷ history else history))
-    → IsReady new journal states
-is_ready_told old new journal states on ended (base, history, ready) told =
-    (base, left_by on (not ended) history, ready_told base history old new journal states on ended ready (told base history ready.behind.stands))
-
-pub is_ready_left : (old new : Engine) (journal : Journal) (states : Option (List Disk)) (on : ℕ) → IsReady old journal states
-    → ((base : Base) (history : History) → EngineStandsFor old base history → EngineStandsFor new base (Left on ∷ history)) → IsReady new journal states
-is_ready_left old new journal states on (base, history, ready) left =
-    (base, Left on ∷ history, ready_left base history old new journal states on ready (left base history ready.behind.stands))
 
 -- ---- one unit more
 
@@ -166,7 +119,8 @@ module _ (start : Start) (old new : Single) (units : List InputUnit) (earlier : 
   serves_now = record {
     greeting = gave.greeting ∙ serves.greeting;
     ready = gave.ready;
-    order = gave.order ∙ ap (λ (l : List Step). l ++ order_by units unit) serves.order ∙ sym (order_of-push units unit);
+    order = order_are-push units unit (order_in gave.history)
+        (gave.order ∙ ap (λ (l : List Step). l ++ order_by units unit) (are_order units (order_in earlier) serves.order));
     table = ap length gave.table ∙ table_same old.sessions.items (connection_of unit) gave.slot serves.table;
     sessions = session_now;
   }
@@ -294,9 +248,6 @@ pub record Answered (base : Base) (earlier : History) (was now : Engine) (old ne
       → AnswersJobs base earlier now new before after (jobs_of session.connection (session.rest ++ bytes)) session.out later.out
   pub taken : session.ended ≡ false → TakenAll (record session { rest = session.rest ++ bytes }) later
 
-abbrev closing_for : ℕ → Bool → List OutUnit
-closing_for on ended = if ended then closed_on on ∷ [] else []
-
 -- what was done for bytes, but for the end of their connection
 pub record Did (start : Start) (units : List InputUnit) (earlier : History) (on : ℕ) (bytes : List ℕ) (engine : Engine) (journal : Journal)
     (before after : Option (List Disk)) (later : SessionState) (ended : Bool) : Type 0 where
@@ -305,7 +256,7 @@ pub record Did (start : Start) (units : List InputUnit) (earlier : History) (on 
   pub lasts : Lasts start.base history before after
   pub ready : Ready start.base history engine journal after
   pub order : order_in history ++ departure_where on ended ≡ order_in earlier ++ order_by units (Bytes on bytes)
-  pub writes : sent_on on later.out ++ closing_for on ended ≡ output_for start units earlier (Bytes on bytes) history
+  pub writes : sent_on on later.out ++ closed_where on ended ≡ output_for start units earlier (Bytes on bytes) history
   pub attends : Attends on (came_on on units ++ bytes) (record later { out = [] })
 
 module _ (start : Start) (units : List InputUnit) (earlier : History) (on : ℕ) (bytes : List ℕ) (was now : Engine) (old new : Journal)
@@ -327,7 +278,7 @@ module _ (start : Start) (units : List InputUnit) (earlier : History) (on : ℕ)
             (subst (λ (j : Journal). Ready start.base earlier was j after) (sym same_journal) (subst (Ready start.base earlier was old) (sym same_states) ready));
         order = ap (λ (b : Bool). order_in earlier ++ departure_where on b) goes_on
             ∙ ap (λ (l : List Step). order_in earlier ++ l) (sym (order_by-ended units on (came_on on units) bytes refl is_over));
-        writes = ap (λ (l : List ℕ). sent_on on l ++ closing_for on ended) nothing ∙ ap (closing_for on) goes_on
+        writes = ap (λ (l : List ℕ). sent_on on l ++ closed_where on ended) nothing ∙ ap (closed_where on) goes_on
             ∙ sym (output_for-ended start units on (came_on on units) bytes refl earlier is_over);
         attends = record {
           whose = ap (λ (s : SessionState). s.connection) same ∙ met.whose;
@@ -386,9 +337,9 @@ module _ (start : Start) (units : List InputUnit) (earlier : History) (on : ℕ)
             ∙ append_assoc (order_in earlier) (written_out jobs) (departure_where on ended)
             ∙ ap (λ (b : Bool). order_in earlier ++ (written_out jobs ++ departure_where on b)) same_end
             ∙ ap (λ (l : List Step). order_in earlier ++ l) (sym (order_by-open units on (came_on on units) bytes refl open_before));
-        writes = ap (λ (l : List ℕ). sent_on on l ++ closing_for on ended) output
+        writes = ap (λ (l : List ℕ). sent_on on l ++ closed_where on ended) output
             ∙ ap (λ (b : Bool). sent_on on (opening start (came_on on units) bytes ++ packets_of_replies (map sync_of jobs) answers.replies)
-            ++ closing_for on b) same_end
+            ++ closed_where on b) same_end
             ∙ sym (output_for-open start units on (came_on on units) bytes refl earlier answers.history answers.replies open_before so_far told each);
         attends = attends_on goes_on;
       }
@@ -413,81 +364,30 @@ lasts_since : (base : Base) (first all : History) (before after : Option (List D
 lasts_since base first all before after (more, is) lasts =
     subst (λ (h : History). Lasts base h before after) (sym is) (lasts_longer base more first before after lasts)
 
-module _ (start : Start) (old new : Single) (units : List InputUnit) (earlier : History) (on : ℕ) (bytes : List ℕ) (engine : Engine) (journal : Journal)
-    (before after : Option (List Disk)) (later : SessionState) (ended : Bool)
-    (done : Did start units earlier on bytes engine journal before after later ended) where
-  -- and the connection left, where it ended
-  pub gave_bytes : (output : List OutUnit) → 0 < length bytes → Ready start.base (left_by on (not ended) done.history) new.engine new.journal after
-      → output ≡ sent_on on later.out ++ closing_for on ended → new.greeting ≡ old.greeting
-      → new.sessions.items ≡ set old.sessions.items on (Some (record later { out = [] }))
-      → Gave start old new units earlier (Bytes on bytes) output before after
-  gave_bytes output some ready writes greeting table =
-      let came = came_on on units in
-      let session : SessionState = record later { out = [] } in
-      let all = left_by on (not ended) done.history in
-      let last = left_by-since on (not ended) done.history all ([], refl) in
-      let longer : 0 < length (came ++ bytes) = omega (arith, some, length-append came bytes) in
-      record {
-        history = all;
-        since = since_both done.history earlier all done.since last;
-        lasts = lasts_since start.base done.history all before after last done.lasts;
-        ready = ready;
-        order = left_by-order on (not ended) ended done.history (same_twice ended) ∙ done.order;
-        writes = writes ∙ done.writes ∙ sym (output_for-left start units earlier (Bytes on bytes) on (not ended) done.history);
-        greeting = greeting;
-        slot = Some session;
-        table = table;
-        has = subst (λ (l : List ℕ). HasSession on l (Some session)) (sym (came_here on came bytes)) (has_some on (came ++ bytes) session longer done.attends);
-      }
-
-module _ (start : Start) (server : Single) (units : List InputUnit) (history : History) (before : Option (List Disk)) (on : ℕ) (bytes : List ℕ)
-    (places : List (Option SessionState)) (session : SessionState) (serves : Serves start server units history before) (known : on ≤ max_connection)
-    (some : (length bytes == 0) ≡ false) (same : places ≡ server.sessions.items) (found : session ≡ unwrap_or (session_at places on) (opened on server.greeting)) where
-  pub meets_now : Meets start on (came_on on units) bytes session
-  meets_now =
-      let slot = session_at server.sessions.items on in
-      let is : session ≡ unwrap_or slot (opened on server.greeting) =
-      found ∙ ap (λ (l : List (Option SessionState)). unwrap_or (session_at l on) (opened on server.greeting)) same in
-      subst (Meets start on (came_on on units) bytes) (sym is)
-      (meets start on (came_on on units) bytes slot server.greeting (some_in bytes some) serves.greeting (serves.sessions on known))
-
-  pub did_now : (now : Engine) (new : Journal) (after : Option (List Disk)) (later : SessionState) (ended : Bool)
-      → Answered start.base history server.engine now server.journal new before after session later bytes ended
-      → Did start units history on bytes now new before after later ended
-  did_now now new after later ended answered =
-      did start units history on bytes server.engine now server.journal new before after session later ended serves.ready (replies_of_order start.base units history serves.order on) meets_now answered
-
--- no reply waits once bytes are answered
-pub still_idle : (server : Single) (states : Option (List Disk)) (on : ℕ) (places : List (Option SessionState)) (session later sent : SessionState)
-    → CanServe server states → places ≡ server.sessions.items → session ≡ unwrap_or (session_at places on) (opened on server.greeting)
-    → (session.ended ≡ true → later ≡ session) → (session.ended ≡ false → later.waiting ≡ []) → sent ≡ record later { out = [] } → IfSome (Some sent) IsIdle
-still_idle server states on places session later sent serves same found after_end before_end is =
-    ap (λ (s : SessionState). s.waiting) is ∙ by_end session.ended refl
-  where
-    by_slot : (slot : Option SessionState) → IfSome slot IsIdle → (unwrap_or slot (opened on server.greeting)).waiting ≡ []
-    by_slot None idle = refl
-    by_slot (Some one) idle = idle
-
-    was_idle : session.waiting ≡ []
-    was_idle =
-        ap (λ (s : SessionState). s.waiting)
-        (found ∙ ap (λ (l : List (Option SessionState)). unwrap_or (session_at l on) (opened on server.greeting)) same)
-        ∙ by_slot (session_at server.sessions.items on) (serves.idle on)
-
-    by_end : (b : Bool) → session.ended ≡ b → later.waiting ≡ []
-    by_end true over = ap (λ (s : SessionState). s.waiting) (after_end over) ∙ was_idle
-    by_end false goes_on = before_end goes_on
-
--- bytes were taken: the connection's session is in its place again, and the connection left, where they ended it
-pub took_bytes : (start : Start) (old new : Single) (units : List InputUnit) (earlier : History) (on : ℕ) (bytes : List ℕ) (output : List OutUnit)
-    (before after : Option (List Disk)) (engine : Engine) (later sent : SessionState) (ended : Bool) → Serves start old units earlier before → on ≤ max_connection
-    → (length bytes == 0) ≡ false → (done : Did start units earlier on bytes engine new.journal before after later ended)
-    → EngineStandsFor new.engine start.base (if ended then Left on ∷ done.history else done.history)
-    → output ≡ sent_on on later.out ++ (if ended then closed_on on ∷ [] else []) → sent ≡ record later { out = [] }
-    → new.greeting ≡ old.greeting → new.sessions.items ≡ set old.sessions.items on (Some sent)
-    → AnswersUnit start new units earlier (Bytes on bytes) output before after
-took_bytes start old new units earlier on bytes output before after engine later sent ended serves known some done stands writes is greeting table =
-    took start old new units earlier (Bytes on bytes) output before after serves known
-    (gave_bytes start old new units earlier on bytes engine new.journal before after later ended done output (some_in bytes some)
-    (ready_told start.base done.history engine new.engine new.journal after on ended done.ready stands) writes greeting
-    (table ∙ ap (λ (s : SessionState). set old.sessions.items on (Some s)) is))
+-- what bytes brought was answered, and the connection left, where they ended it
+pub took_bytes : (start : Start) (old new last : Single) (units : List InputUnit) (earlier : History) (on : ℕ) (bytes : List ℕ) (first output : List OutUnit)
+    (before after : Option (List Disk)) (ended : Bool) → Serves start old units earlier before → on ≤ max_connection → 0 < length bytes
+    → (done : AnswersAlone start units earlier on bytes old new before after first ended)
+    → EngineStandsFor last.engine start.base (if ended then Left on ∷ done.history else done.history)
+    → output ≡ first ++ closed_where on ended → OnlyEngine new last → AnswersUnit start last units earlier (Bytes on bytes) output before after
+took_bytes start old new last units earlier on bytes first output before after ended serves known some done stands writes only =
+    let came = came_on on units in
+    let all = left_by on (not ended) done.history in
+    let since = left_by-since on (not ended) done.history all ([], refl) in
+    let longer : 0 < length (came ++ bytes) = omega (arith, some, length-append came bytes) in
+    let steps : order_in done.history ++ departure_where on ended ≡ order_of units ++ order_by units (Bytes on bytes) =
+    are_order (units ++ Bytes on bytes ∷ []) (order_in done.history ++ departure_where on ended) done.order ∙ order_of-push units (Bytes on bytes) in
+    took start old last units earlier (Bytes on bytes) output before after serves known (record {
+      history = all;
+      since = since_both done.history earlier all done.since since;
+      lasts = lasts_since start.base done.history all before after since done.lasts;
+      ready = subst (λ (j : Journal). Ready start.base all last.engine j after) (sym only.journal)
+          (ready_told start.base done.history new.engine last.engine new.journal after on ended done.ready stands);
+      order = left_by-order on (not ended) ended done.history (same_twice ended) ∙ steps
+          ∙ ap (λ (l : List Step). l ++ order_by units (Bytes on bytes)) (sym (are_order units (order_in earlier) serves.order));
+      writes = writes ∙ done.writes ∙ sym (output_for-left start units earlier (Bytes on bytes) on (not ended) done.history);
+      greeting = only.greeting ∙ done.greeting;
+      slot = Some done.session;
+      table = only.sessions ∙ done.table;
+      has = subst (λ (l : List ℕ). HasSession on l (Some done.session)) (sym (came_here on came bytes)) (has_some on (came ++ bytes) done.session longer done.attends);
+    })

@@ -11,12 +11,19 @@ use Rattle.mx_serial.specs.Order.{Step, order_in}
 use Rattle.mx_node.specs.Inputs.{InputUnit}
 use Rattle.mx_node.specs.Connections.{came_on, is_open}
 use Rattle.mx_node.specs.Order.{departure_where, departures_from}
-use Rattle.mx_node.specs.Serving.{HasSession, goes_on, left_from, session_at}
+use Rattle.mx_node.specs.Serving.{HasSession, left_from}
+use Rattle.mx_node.specs.Tables.{goes_on, session_at}
 
 pub none_at : (count connection : ℕ) → session_at (replicate count None) connection ≡ None
 none_at zero connection = refl
 none_at (suc count) zero = refl
 none_at (suc count) (suc connection) = none_at count connection
+
+-- a place that is there is the same whatever stands for others
+pub place_there : {X : Type 0} (places : List X) (place : ℕ) (slot other : X) → place < length places → slot ≡ get_or places place slot → slot ≡ get_or places place other
+place_there [] place slot other within is = absurd (omega (arith, within))
+place_there (first ∷ places) zero slot other within is = is
+place_there (first ∷ places) (suc place) slot other within is = place_there places place slot other (omega (arith, within)) is
 
 -- ---- places that change
 

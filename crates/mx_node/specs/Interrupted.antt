@@ -9,12 +9,14 @@ use Rattle.mx_serial.specs.Gate.{confirmed_part}
 use Rattle.mx_directory.specs.Survival.{Lasts}
 use Rattle.mx_store.specs.Stores.{StepsSurvive}
 
--- A call stopped after this history, and made perhaps some steps more, all of them a prefix of this order. What the history
--- committed is durable, and so is all that is confirmed.
-pub record IsInterrupted (base : Base) (history : History) (order : List Step) (old new : Option (List Disk)) : Type 0 where
+-- A call stopped after this history, and made perhaps some steps more: with those before, a prefix of what the steps may be. What
+-- the history committed is durable, and so is all that is confirmed.
+pub record IsInterrupted (base : Base) (history : History) (AreSteps : List Step → Type 0) (old new : Option (List Disk)) : Type 0 where
   pub later : History
   pub legal : IsLegal base (later ++ history)
-  pub ordered : IsPrefix (order_in (later ++ history)) order
+  pub steps : List Step
+  pub are : AreSteps steps
+  pub ordered : IsPrefix (order_in (later ++ history)) steps
   pub lasts : Lasts base (later ++ history) old new
   pub keep : StepsSurvive base (later ++ history) history new
   pub confirmed : StepsSurvive base (later ++ history) (confirmed_part base (later ++ history)) new

@@ -4,6 +4,8 @@ pub mod Order
 pub mod Starts
 pub mod Outputs
 pub mod Ready
+pub mod Tables
+pub mod Answering
 pub mod Interrupted
 pub mod Serving
 pub mod Views

@@ -1,5 +1,5 @@
 -- In which order the steps for the units of an input come.
-use Rattle.std.specs.Prelude.{ℕ, zero, suc, Bool, List, [], ◌∷◌, ◌++◌, if◌then◌else◌}
+use Rattle.std.specs.Prelude.{◌≡◌, ℕ, zero, suc, Bool, List, [], ◌∷◌, ◌++◌, if◌then◌else◌}
 use Rattle.mx_session.specs.declared.job.Job.{Job}
 use Rattle.mx_serial.specs.Order.{Step, RequestStep, DepartureStep, TakeStep, ConfirmStep}
 use Rattle.mx_node.specs.Inputs.{InputUnit, connection_of, max_connection}
@@ -20,17 +20,18 @@ written_out (job ∷ jobs) = requests_of (job ∷ jobs) ++ TakeStep ∷ ConfirmS
 abbrev pub departure_where : (connection : ℕ) → Bool → List Step
 departure_where connection departs = if departs then DepartureStep connection ∷ [] else []
 
--- the steps for a unit, after earlier ones: those for its jobs, and its connection's departure, where it ends it
-abbrev pub order_by : List InputUnit → InputUnit → List Step
-order_by earlier unit = written_out (jobs_by earlier unit) ++ departure_where (connection_of unit) (is_ended_by earlier unit)
+-- These are the steps for a unit, after earlier ones: those for its jobs, and its connection's departure, where it ends it.
+abbrev pub AreStepsFor : (earlier : List InputUnit) → InputUnit → List Step → Type 0
+AreStepsFor earlier unit steps = steps ≡ written_out (jobs_by earlier unit) ++ departure_where (connection_of unit) (is_ended_by earlier unit)
 
-abbrev pub order_from : List InputUnit → List InputUnit → List Step
-order_from earlier [] = []
-order_from earlier (unit ∷ units) = order_by earlier unit ++ order_from (earlier ++ unit ∷ []) units
+abbrev pub AreStepsFrom : (earlier : List InputUnit) → List InputUnit → List Step → Type 0
+AreStepsFrom earlier [] steps = steps ≡ []
+AreStepsFrom earlier (unit ∷ units) steps =
+    (first others : List Step) × (steps ≡ first ++ others) × AreStepsFor earlier unit first × AreStepsFrom (earlier ++ unit ∷ []) units others
 
--- the steps for these units, in their order
-abbrev pub order_of : List InputUnit → List Step
-order_of units = order_from [] units
+-- these are the steps for the units, one unit after the other
+abbrev pub AreStepsOf : List InputUnit → List Step → Type 0
+AreStepsOf units steps = AreStepsFrom [] units steps
 
 -- so many connections from this one on depart, in ascending order, where they are open
 abbrev pub departures_from : (connection count : ℕ) → List InputUnit → List Step
@@ -42,6 +43,6 @@ departures_from connection (suc count) units =
 abbrev pub departures_of : List InputUnit → List Step
 departures_of units = departures_from 0 (suc max_connection) units
 
--- the steps for an input that ends after these units
-abbrev pub whole_order_of : List InputUnit → List Step
-whole_order_of units = order_of units ++ departures_of units
+-- these are the steps for an input that ends after the units: those for the units, and then the departures
+abbrev pub AreWholeSteps : List InputUnit → List Step → Type 0
+AreWholeSteps units steps = (first : List Step) × AreStepsOf units first × (steps ≡ first ++ departures_of units)

@@ -8,7 +8,7 @@ use Rattle.mx_model.specs.Histories.{History}
 use Rattle.mx_serial.specs.Order.{order_in}
 use Rattle.mx_node.specs.Inputs.{InputUnit, Bytes, Close, connection_of}
 use Rattle.mx_node.specs.Connections.{came_on, gained, is_ended_by}
-use Rattle.mx_node.specs.Order.{order_by}
+use Rattle.mx_node.specs.Order.{AreStepsFor}
 use Rattle.mx_link.specs.Asks.{sync_of}
 use Rattle.mx_node.specs.Starts.{Start, start_greeting}
 
@@ -53,7 +53,7 @@ output_for start earlier before unit after = sent_on (connection_of unit) (sent_
 abbrev pub AnswersFrom : (start : Start) (earlier : List InputUnit) (before : History) → List InputUnit → (history : History) → List OutUnit → Type 0
 AnswersFrom start earlier before [] history sent = (history ≡ before) × (sent ≡ [])
 AnswersFrom start earlier before (unit ∷ units) history sent =
-    (more : History) × (others : List OutUnit) × (order_in more ≡ order_by earlier unit)
+    (more : History) × (others : List OutUnit) × AreStepsFor earlier unit (order_in more)
     × (sent ≡ output_for start earlier before unit (more ++ before) ++ others)
     × AnswersFrom start (earlier ++ unit ∷ []) (more ++ before) units history others
 

@@ -35,9 +35,6 @@ pub record Ready (base : Base) (history : History) (engine : Engine) (journal : 
 abbrev pub IsBehind : Engine → Journal → Option (List Disk) → Type 0
 IsBehind engine journal states = (base : Base) × (history : History) × Behind base history engine journal states
 
-abbrev pub IsReady : Engine → Journal → Option (List Disk) → Type 0
-IsReady engine journal states = (base : Base) × (history : History) × Ready base history engine journal states
-
 -- These jobs were answered, in order, what they committed is durable, and their replies may leave, behind the output `before`.
 pub record AnswersJobs (base : Base) (earlier : History) (engine : Engine) (journal : Journal) (old states : Option (List Disk)) (jobs : List Job) (before after : List ℕ) : Type 0 where
   pub history : History

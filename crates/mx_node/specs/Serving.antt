@@ -15,11 +15,13 @@ use Rattle.mx_serial.specs.Order.{order_in}
 use Rattle.mx_node.specs.declared.single.Single.{Single}
 use Rattle.mx_node.specs.Inputs.{InputUnit, max_connection}
 use Rattle.mx_node.specs.Connections.{came_on}
-use Rattle.mx_node.specs.Order.{order_by, order_of, whole_order_of}
+use Rattle.mx_node.specs.Order.{AreStepsFor, AreStepsOf, AreWholeSteps}
 use Rattle.mx_node.specs.Starts.{Start, start_greeting}
 use Rattle.mx_node.specs.Outputs.{output_for}
 use Rattle.mx_node.specs.declared.out_units.OutUnit.{OutUnit}
-use Rattle.mx_node.specs.Ready.{Ready, IsReady}
+use Rattle.mx_link.specs.Links.{Answer, HasLink}
+use Rattle.mx_node.specs.Ready.{Behind, Ready}
+use Rattle.mx_node.specs.Tables.{IsTable, session_at}
 use Rattle.mx_directory.specs.Survival.{Lasts}
 use Rattle.mx_directory.specs.Directories.{Reached, IsDirectoryState}
 use Rattle.mx_images.specs.Fair.{AllDurable}
@@ -64,32 +66,18 @@ abbrev pub HasSession : (connection : ℕ) → (came : List ℕ) → Option Sess
 HasSession connection [] found = found ≡ None
 HasSession connection (byte ∷ bytes) found = IsSome connection (byte ∷ bytes) found
 
--- the session of a connection in a table by their numbers
-abbrev pub session_at : List (Option SessionState) → ℕ → Option SessionState
-session_at sessions connection = slice_index_or sessions connection None
+-- something came on the session's connection, and was answered so far
+abbrev pub IsLinked : Base → History → SessionState → Type 0
+IsLinked base history session = (answers : List Answer) × (greeting : List ℕ) × (came : List ℕ) × (gone : List ℕ)
+    × HasLink base history answers greeting came gone session
 
--- the session's connection is there
-abbrev pub goes_on : Option SessionState → Bool
-goes_on None = false
-goes_on (Some session) = not session.ended
-
--- the table has a place for each connection
-abbrev pub IsTable : List (Option SessionState) → Type 0
-IsTable sessions = length sessions ≡ suc max_connection
-
--- no reply of a session waits
-abbrev pub IsIdle : SessionState → Type 0
-IsIdle session = session.waiting ≡ []
-
--- engine, journal and directory agree, each connection has its place, and no reply waits
+-- engine, journal and directory agree after some history, each connection has its place, and each session agrees with the history
 pub record CanServe (server : Single) (states : Option (List Disk)) : Type 0 where
-  pub ready : IsReady server.engine server.journal states
+  pub base : Base
+  pub history : History
+  pub behind : Behind base history server.engine server.journal states
   pub table : IsTable server.sessions.items
-  pub idle : (connection : ℕ) → IfSome (session_at server.sessions.items connection) IsIdle
-
--- the session of a connection that opens, to which this greeting is sent
-abbrev pub opened : (connection : ℕ) → (greeting : List ℕ) → SessionState
-opened connection greeting = record { connection = connection; rest = []; ended = false; waiting = []; out = greeting }
+  pub links : (connection : ℕ) → IfSome (session_at server.sessions.items connection) (IsLinked base history)
 
 -- The open connections of a table leave, the first place being this connection's: what the history comes to.
 abbrev pub left_from : (connection : ℕ) → List (Option SessionState) → History → History
@@ -102,7 +90,7 @@ left_from connection (Some session ∷ others) history =
 pub record Serves (start : Start) (server : Single) (units : List InputUnit) (history : History) (states : Option (List Disk)) : Type 0 where
   pub greeting : server.greeting ≡ start_greeting start
   pub ready : Ready start.base history server.engine server.journal states
-  pub order : order_in history ≡ order_of units
+  pub order : AreStepsOf units (order_in history)
   pub table : IsTable server.sessions.items
   pub sessions : (connection : ℕ) → connection ≤ max_connection → HasSession connection (came_on connection units) (session_at server.sessions.items connection)
 
@@ -111,7 +99,7 @@ pub record AnswersUnit (start : Start) (server : Single) (units : List InputUnit
   pub more : History
   pub history : History
   pub since : history ≡ more ++ earlier
-  pub order : order_in more ≡ order_by units unit
+  pub order : AreStepsFor units unit (order_in more)
   pub lasts : Lasts start.base history old states
   pub serves : Serves start server (units ++ unit ∷ []) history states
   pub is : sent ≡ output_for start units earlier unit history
@@ -121,7 +109,7 @@ pub record EndedNode (start : Start) (units : List InputUnit) (earlier : History
   pub history : History
   pub since : (more : History) × (history ≡ more ++ earlier)
   pub legal : IsLegal start.base history
-  pub order : order_in history ≡ whole_order_of units
+  pub order : AreWholeSteps units (order_in history)
   pub told : told_in start.base history ≡ told_in start.base earlier
   pub lasts : Lasts start.base history old states
   pub keeps : IfKnown states (λ disk past. DirectoryHolds start.base history disk)

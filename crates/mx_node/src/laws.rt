@@ -5,7 +5,7 @@ ghost use Rattle.mx_node.specs.declared.out_units.OutUnit.{OutUnit};
 ghost use Rattle.mx_model.specs.Histories.{History, HasMemory, IsLegal};
 ghost use Rattle.mx_serial.specs.Order.{order_in};
 ghost use Rattle.mx_node.specs.Inputs.{InputUnit};
-ghost use Rattle.mx_node.specs.Order.{order_of};
+ghost use Rattle.mx_node.specs.Order.{AreStepsOf};
 ghost use Rattle.mx_node.specs.Connections.{came_on};
 ghost use Rattle.mx_node.specs.Outputs.{AnswersAll, bytes_on, sent_to};
 ghost use Rattle.mx_node.specs.Starts.{Start};
@@ -14,8 +14,8 @@ ghost use Rattle.mx_node.specs.Starts.{Start};
 /// steps, in their order.
 pub fn answers_have_the_order_of_units()
     ensures order { (start : Start) (units : List InputUnit) (history : History) (sent : List OutUnit) → AnswersAll start units history sent
-        → order_in history ≡ order_of units }
-    ensures answers { (start : Start) (units : List InputUnit) (history : History) → order_in history ≡ order_of units
+        → AreStepsOf units (order_in history) }
+    ensures answers { (start : Start) (units : List InputUnit) (history : History) → AreStepsOf units (order_in history)
         → (sent : List OutUnit) × AnswersAll start units history sent }
 {}
 

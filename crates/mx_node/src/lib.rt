@@ -9,6 +9,7 @@ mod sessions;
 mod single;
 mod unit;
 
+pub use jobs::Arrival;
 pub use laws::{
     answers_have_the_order_of_units, what_is_sent_ends_with_what_is_due, what_is_sent_is_determined,
 };

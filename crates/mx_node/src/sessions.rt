@@ -1,11 +1,14 @@
 //! The sessions of a node's connections, by the numbers of the connections.
 
-ghost use Rattle.std.specs.Prelude.{◌≡◌, ◌<◌, ℕ, ◌∷◌, ◌++◌, [], length, None, Some, OnOk, IfOk, slice_set, unwrap_or, if◌then◌else◌};
+ghost use Rattle.std.specs.Prelude.{◌≡◌, ◌<◌, ℕ, ◌∷◌, ◌++◌, [], length, None, Some, OnOk, IfOk, slice_set, unwrap_or};
+ghost use Rattle.mx_session.specs.Sessions.{SessionState};
 ghost use Rattle.mx_model.specs.Bases.{Base};
 ghost use Rattle.mx_model.specs.Histories.{History, Left};
 ghost use Rattle.mx_engine.specs.Standing.{EngineStandsFor};
-ghost use Rattle.mx_node.specs.Outputs.{sent_on, closed_on};
-ghost use Rattle.mx_node.specs.Serving.{IsTable, goes_on, left_from, opened, session_at};
+ghost use Rattle.mx_node.specs.Answering.{all_sent, let_leave};
+ghost use Rattle.mx_node.specs.Outputs.{closed_on, sent_on};
+ghost use Rattle.mx_node.specs.Serving.{left_from};
+ghost use Rattle.mx_node.specs.Tables.{IsTable, goes_on, opened, session_at};
 
 use crate::commits::leave;
 use crate::out_units::{OutUnit, OutUnits};
@@ -69,30 +72,24 @@ pub(crate) fn drop_session(sessions: &mut [Option<Session>], connection: ConnId)
     }
 }
 
-/// Adds what may leave on a connection to `out`. Where the connection has ended, says so after it,
-/// and takes its departure.
-pub(crate) fn send_and_end(
+/// Lets go the replies of a session that depend on no more than so many steps, and adds all that it may
+/// be sent to `out`.
+pub(crate) fn release_session(
     alloc: Global,
-    engine: &mut Engine,
-    session: &mut Session,
+    durable: u64,
+    place: &mut Option<Session>,
     connection: ConnId,
-    ended: bool,
     out: &mut OutUnits,
 ) -> Result<(), AllocError>
-    ensures out { OnOk result (out.new ≡ out.old ++ (sent_on connection.0 session.old.out ++ (if ended then closed_on connection.0 ∷ [] else []))) }
-    ensures session { OnOk result (session.new ≡ record session.old { out = [] }) }
-    ensures left { (base : Base) (history : History) → EngineStandsFor engine.old base history
-        → OnOk result (EngineStandsFor engine.new base (if ended then Left connection.0 ∷ history else history)) }
+    ensures sent { (session : SessionState) → place.old ≡ Some session
+        → OnOk result ((out.new ≡ out.old ++ sent_on connection.0 (let_leave durable session).out) × (place.new ≡ Some (all_sent (let_leave durable session)))) }
+    ensures none { place.old ≡ None → OnOk result ((out.new ≡ out.old) × (place.new ≡ None)) }
 {
-    send(alloc, session, connection, out)?;
-    if !ended {
+    let Some(session) = place else {
         return Ok(());
-    }
-    out.push(OutUnit {
-        conn: connection,
-        bytes: Bytes::new(alloc),
-    })?;
-    leave(engine, connection)?;
+    };
+    session.release(durable);
+    send(alloc, session, connection, out)?;
     Ok(())
 }
 
@@ -116,6 +113,21 @@ fn send(
         bytes,
     })?;
     session.sent(count);
+    Ok(())
+}
+
+/// Says after what a connection is sent that the server has closed it.
+pub(crate) fn say_closed(
+    alloc: Global,
+    connection: ConnId,
+    out: &mut OutUnits,
+) -> Result<(), AllocError>
+    ensures { OnOk result (out.new ≡ out.old ++ closed_on connection.0 ∷ []) }
+{
+    out.push(OutUnit {
+        conn: connection,
+        bytes: Bytes::new(alloc),
+    })?;
     Ok(())
 }
 

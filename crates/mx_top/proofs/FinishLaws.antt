@@ -10,7 +10,6 @@ use Rattle.mx_serial.specs.Order.{order_in}
 use Rattle.mx_directory.specs.Survival.{Lasts}
 use Rattle.mx_node.specs.declared.single.Single.{Single}
 use Rattle.mx_node.specs.Inputs.{InputUnit}
-use Rattle.mx_node.specs.Order.{whole_order_of}
 use Rattle.mx_node.specs.Outputs.{AnswersAll}
 use Rattle.mx_node.specs.Starts.{Start}
 use Rattle.mx_node.specs.Interrupted.{IsInterrupted}
@@ -18,6 +17,7 @@ use Rattle.mx_node.specs.Serving.{DirectoryHolds, Serves, EndedNode}
 use Rattle.mx_node.proofs.AnsweringLaws.{determined, memory_before}
 use Rattle.mx_node.proofs.KeepLaws.{ready_keeps, keep_unreplied}
 use Rattle.mx_store.proofs.StoreLaws.{lasts_on}
+use Rattle.mx_node.specs.Order.{AreWholeSteps}
 use Rattle.mx_node.proofs.LastingLaws.{breaks_after}
 use Rattle.mx_top.specs.Units.{units_of}
 use Rattle.mx_top.specs.Stops.{IsDiskStop, are_in_order}
@@ -29,6 +29,7 @@ use Rattle.mx_top.specs.declared.stop.Stop.{Stop}
 use Rattle.mx_top.specs.declared.stop.Stop.TheVariants.{BadInput, ReadFault, WriteFault, DiskFault, NoMemory}
 use Rattle.mx_top.specs.Progress.{EndSeen, UnitsSeen, Wrote, WroteAll, status_of}
 use Rattle.mx_top.proofs.ProgressLaws.{IsWhole, stopped_after, disk_fault, no_memory, answers_read_at}
+use Rattle.mx_node.proofs.OrderLaws.{are_whole_order, whole_order_are, whole_order_of}
 
 -- a server that served these units closes so, where it doesn't fail
 abbrev pub Closes : (ended : Result (Unit {0}) Stop) (server : Single) (states now : Option (List Disk)) → Type 0
@@ -38,7 +39,7 @@ Closes ended server states now = (start : Start) (units : List InputUnit) (histo
 -- and stops so, where it fails
 abbrev pub Breaks : (ended : Result (Unit {0}) Stop) (server : Single) (states now : Option (List Disk)) → Type 0
 Breaks ended server states now = (start : Start) (units : List InputUnit) (history : History) → Serves start server units history states
-    → OnErr ended (IsInterrupted start.base history (whole_order_of units) states now)
+    → OnErr ended (IsInterrupted start.base history (AreWholeSteps units) states now)
 
 -- at a status that is a completion all of it is said, and all of the output is there
 pub record IsComplete (status : Status) : Type 1 where
@@ -71,10 +72,10 @@ completed status is start input left server output output_now first states now c
     let more = closed.since.0 in
     let whole : closed.history ≡ more ++ answered = closed.since.1 in
     let legal = subst (λ (h : History). IsLegal base h) whole closed.legal in
-    let order : order_in (more ++ answered) ≡ whole_order_of units = ap order_in (sym whole) ∙ closed.order in
+    let order : order_in (more ++ answered) ≡ whole_order_of units = ap order_in (sym whole) ∙ are_whole_order units (order_in closed.history) closed.order in
     let lasts : Lasts base (more ++ answered) states now = subst (λ (h : History). Lasts base h states now) whole closed.lasts in
     let told : told_in start.base (more ++ answered) ≡ told_in start.base answered = ap (told_in start.base) (sym whole) ∙ closed.told in
-    let (stopped, same_steps) = breaks_after base more answered (whole_order_of units) first now legal
+    let (stopped, same_steps) = breaks_after base more answered (whole_order_of units) (AreWholeSteps units) first now (whole_order_are units (whole_order_of units) refl) legal
     ([], append-nil (order_in (more ++ answered)) ∙ order) (lasts_on base more answered first states now wrote.lasts lasts)
     (keep_unreplied base more answered states now told (ready_keeps base answered server.engine server.journal states wrote.serves.ready) lasts) in
     record {
@@ -87,7 +88,10 @@ completed status is start input left server output output_now first states now c
       answers = wrote.answers;
       gate = wrote.serves.ready.gate;
       stopped = stopped;
-      complete = is.late _ (refl, ap (λ (h : History). order_in (h ++ answered)) same_steps ∙ order);
+      complete = is.late _ (
+        refl,
+        whole_order_are units (order_in (stopped.later ++ answered)) (ap (λ (h : History). order_in (h ++ answered)) same_steps ∙ order),
+      );
       holds = is.late _ (subst (λ (h : History). IfKnown now (λ disk past. DirectoryHolds base h disk))
           (whole ∙ ap (λ (h : History). h ++ answered) (sym same_steps)) closed.keeps);
       written = λ before was.
@@ -105,7 +109,7 @@ pub unfinished : (status : Status) → IsWhole status → (start : Start) (input
     (output output_now : Held) (first states now : Option (List Disk))
     → ((rest : List ℕ) → left ≡ Some rest → AnswersRead status (units_of input).0 input rest)
     → (wrote : Wrote start server (units_of input).0 output output_now first states)
-    → IsInterrupted start.base wrote.history (whole_order_of (units_of input).0) states now
+    → IsInterrupted start.base wrote.history (AreWholeSteps (units_of input).0) states now
     → UnitsSeen status start input left output output_now first now
 unfinished status is start input left server output output_now first states now consumed wrote stops =
     let units = (units_of input).0 in

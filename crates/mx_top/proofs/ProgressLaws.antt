@@ -5,15 +5,16 @@ use Rattle.std.proofs.lemmas.List.{append-nil, length-drop, nil_from_length}
 use Rattle.mx_msgpack.specs.Readers.{all_from}
 use Rattle.mx_outside.specs.Passed.{IsAllOf, PassesOn}
 use Rattle.mx_msgpack.proofs.Options.{same_some}
-use Rattle.mx_top.specs.Runs.{PassedAtLeast, place_before, AtCompletion, AtReadFault, AnswersRead, Held, IsOutput, OutputSeen, order_until}
+use Rattle.mx_top.specs.Runs.{PassedAtLeast, place_before, AtCompletion, AtReadFault, AnswersRead, Held, IsOutput, OutputSeen, AreStepsUntil}
 use mathlib.Core.List.{IsPrefix}
 use Rattle.mx_outside.specs.Disks.{Disk}
 use Rattle.mx_node.specs.declared.out_units.OutUnit.{OutUnit}
 use Rattle.mx_model.specs.Histories.{History}
+use Rattle.mx_serial.specs.Order.{Step, order_in}
 use Rattle.mx_node.specs.declared.single.Single.{Single}
 use Rattle.mx_top.specs.Units.{UnitHead, content_at, unit_at, unit_by, units_of}
 use Rattle.mx_node.specs.Inputs.{InputUnit}
-use Rattle.mx_node.specs.Order.{departures_of, order_by, order_of}
+use Rattle.mx_node.specs.Order.{AreStepsOf, departures_of}
 use Rattle.mx_node.specs.Starts.{Start}
 use Rattle.mx_top.specs.Stops.{IsDiskStop}
 use Rattle.mx_top.specs.TraceOutput.{units_text}
@@ -26,13 +27,14 @@ use Rattle.mx_node.specs.Interrupted.{IsInterrupted}
 use Rattle.mx_directory.specs.Survival.{Lasts}
 use Rattle.mx_node.proofs.KeepLaws.{ready_keeps}
 use Rattle.mx_store.proofs.StoreLaws.{lasts_none, lasts_on}
-use Rattle.mx_node.proofs.LastingLaws.{breaks_now, breaks_on}
+use Rattle.mx_node.proofs.LastingLaws.{breaks_as, breaks_now, breaks_on}
 use Rattle.mx_node.specs.Outputs.{AnswersAll}
 use Rattle.mx_node.proofs.AnsweringLaws.{answers-push}
 use Rattle.mx_top.proofs.UnitLaws.{Read, units_text-append, unit_some, unit_none, unit_at-nil, units_of-none, units_of-some, units_of-begun}
 use Rattle.mx_top.proofs.HeadLaws.{content_at-IsStable}
 use Rattle.mx_top.proofs.ConsumedLaws.{consumed_all, consumed_on}
 use Rattle.mx_top.specs.declared.status.Status.TheVariants as status
+use Rattle.mx_node.proofs.OrderLaws.{are_order, order_are-push, order_by, order_of, whole_order_are, whole_order_of}
 
 -- ---- what is passed on in two calls, one after the other
 
@@ -107,17 +109,20 @@ answers_read_at ended quiet units input left consumed rest is =
 
 -- ---- where the run stops
 
-order_until-begins : (units others : List InputUnit) → IsPrefix (order_of units) (order_until units others)
-order_until-begins units [] = (departures_of units, refl)
-order_until-begins units (unit ∷ others) = (order_by units unit, refl)
+until_begins : (units others : List InputUnit) → (steps : List Step) × AreStepsUntil units others steps × IsPrefix (order_of units) steps
+until_begins units [] = (whole_order_of units, whole_order_are units (whole_order_of units) refl, (departures_of units, refl))
+until_begins units (unit ∷ others) =
+    let steps = order_of units ++ order_by units unit in (steps, order_are-push units unit steps refl, (order_by units unit, refl))
 
 -- nothing was done with the next unit
 pub untouched : (start : Start) (server : Single) (units others : List InputUnit) (history : History) (states : Option (List Disk))
-    → Serves start server units history states → IsInterrupted start.base history (order_until units others) states states
+    → Serves start server units history states → IsInterrupted start.base history (AreStepsUntil units others) states states
 untouched start server units others history states serves =
-    breaks_now start.base [] history (order_until units others) states states serves.ready.behind.stands.legal
-    (subst (λ l. IsPrefix l (order_until units others)) (sym serves.order) (order_until-begins units others))
-    (lasts_none start.base history states) (ready_keeps start.base history server.engine server.journal states serves.ready)
+    let (steps, are, begins) = until_begins units others in
+    breaks_as start.base history steps (AreStepsUntil units others) states states are
+    (breaks_now start.base [] history steps states states serves.ready.behind.stands.legal
+    (subst (λ (l : List Step). IsPrefix l steps) (sym (are_order units (order_in history) serves.order)) begins)
+    (lasts_none start.base history states) (ready_keeps start.base history server.engine server.journal states serves.ready))
 
 -- at a status that is no completion nothing is said of one, and where the output didn't fail all of it is there
 pub record IsWhole (status : Status) : Type 1 where
@@ -129,10 +134,10 @@ pub record IsWhole (status : Status) : Type 1 where
 pub stopped_after : (status : Status) → IsWhole status → (start : Start) (input : List ℕ) (left : Option (List ℕ)) (server : Single)
     (units others : List InputUnit) (output old : Held) (first states now : Option (List Disk)) → units ++ others ≡ (units_of input).0
     → ((rest : List ℕ) → left ≡ Some rest → AnswersRead status units input rest)
-    → (wrote : Wrote start server units output old first states) → IsInterrupted start.base wrote.history (order_until units others) states now
+    → (wrote : Wrote start server units output old first states) → IsInterrupted start.base wrote.history (AreStepsUntil units others) states now
     → UnitsSeen status start input left output old first now
 stopped_after status is start input left server units others output old first states now all consumed wrote stops =
-    let stopped = breaks_on start.base [] wrote.history (order_until units others) first states now wrote.lasts stops in
+    let stopped = breaks_on start.base [] wrote.history (AreStepsUntil units others) first states now wrote.lasts stops in
     record {
       units = units;
       others = others;
@@ -263,7 +268,7 @@ pub ends_unanswered : (input waiting more behind : List ℕ) (unit : InputUnit) 
     (old : Held) (states now : Option (List Disk))
     (stop : Stop) → Consumed input waiting more place units → content_at place waiting ≡ Some (unit, behind) → IsDiskStop stop
     → ((start : Start) (history : History) → Serves start server units history states
-    → IsInterrupted start.base history (order_of units ++ order_by units unit) states now)
+    → IsInterrupted start.base history (AreStepsOf (units ++ unit ∷ [])) states now)
     → LastStep (Err stop) input (Some more) server after units old old states now
 ends_unanswered input waiting more behind unit place server after units old states now stop consumed found stops breaks = by_stop stop stops
   where
@@ -316,7 +321,7 @@ ends_unwritten input waiting more behind out unit place server after units old n
       let done = units ++ unit ∷ [] in
       let read : Read consumed.bytes behind done = units_of-some consumed.bytes waiting behind units unit consumed.read.all
       (unit_some consumed.bytes waiting behind unit place consumed.read.at found) in
-      let stopped = breaks_on start.base [] answered.history (order_until done others) first now now
+      let stopped = breaks_on start.base [] answered.history (AreStepsUntil done others) first now now
       (lasts_took start wrote.history first states now out wrote.lasts step) (untouched start after done others answered.history now answered.serves) in
       let was_sent = units_text wrote.sent in
       let text : units_text (wrote.sent ++ step.sent) ≡ was_sent ++ out =

@@ -219,6 +219,8 @@ served status start seed input left output now old middle new begins alike opens
       legal = stopped.legal;
       serializable = is_serializable start.base history stopped.legal;
       answers = seen.answers;
+      steps = stopped.steps;
+      are_steps = stopped.are;
       order_later = stopped.ordered;
       gate = seen.gate;
       complete = seen.complete;

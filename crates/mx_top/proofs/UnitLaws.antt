@@ -14,13 +14,12 @@ use Rattle.mx_directory.specs.Survival.{Lasts}
 use Rattle.mx_node.specs.Inputs.{InputUnit, connection_of, max_connection}
 use Rattle.mx_node.specs.declared.single.Single.{Single}
 use Rattle.mx_node.specs.Starts.{Start}
-use Rattle.mx_node.specs.Order.{order_by, order_of}
 use Rattle.mx_store.specs.Stores.{StepsSurvive}
 use Rattle.mx_node.specs.Interrupted.{IsInterrupted}
 use Rattle.mx_node.specs.Serving.{AnswersUnit}
-use Rattle.mx_node.proofs.OrderLaws.{order_of-push}
+use Rattle.mx_node.specs.Order.{AreStepsOf}
 use Rattle.mx_node.proofs.KeepLaws.{ready_keeps}
-use Rattle.mx_node.proofs.LastingLaws.{breaks_now}
+use Rattle.mx_node.proofs.LastingLaws.{breaks_as, breaks_now}
 use Rattle.mx_top.specs.TraceOutput.{unit_text, units_text}
 use Rattle.mx_top.specs.Units.{UnitHead, unit_by, max_unit_size, max_offset, is_unit_kind, is_within, unit_head_at, content_at, unit_at, units_of}
 use Rattle.mx_top.specs.Progress.{WritesUnit}
@@ -65,16 +64,17 @@ module _ (start : Start) (node : Single) (units : List InputUnit) (earlier : His
   }
 
   -- a unit that was answered and whose output couldn't be written
-  pub took_breaks : IsInterrupted start.base earlier (order_of units ++ order_by units unit) old states
+  pub took_breaks : IsInterrupted start.base earlier (AreStepsOf (units ++ unit ∷ [])) old states
   took_breaks =
-      let order = order_of units ++ order_by units unit in
-      breaks_now start.base took.more earlier order old states
+      let order = order_in took.history in
+      breaks_as start.base earlier order (AreStepsOf (units ++ unit ∷ [])) old states took.serves.order
+      (breaks_now start.base took.more earlier order old states
       (subst (λ h. IsLegal start.base h) took.since took.serves.ready.behind.stands.legal)
       (subst (λ h. IsPrefix (order_in h) order) took.since
-      (subst (λ l. IsPrefix l order) (sym (took.serves.order ∙ order_of-push units unit)) ([], append-nil order)))
+      ([], append-nil order))
       (subst (λ h. Lasts start.base h old states) took.since took.lasts)
       (subst (λ h. StepsSurvive start.base h h states) took.since
-      (ready_keeps start.base took.history node.engine node.journal states took.serves.ready))
+      (ready_keeps start.base took.history node.engine node.journal states took.serves.ready)))
 
 -- ---- the bytes of a buffer that wait, those of `start..end`, as some go and others come
 

@@ -14,14 +14,14 @@ use Rattle.mx_top.specs.declared.stop.Stop.{Stop}
 use Rattle.mx_top.specs.declared.stop.Stop.TheVariants.{BadInput, ReadFault, WriteFault, DiskFault, NoMemory}
 use Rattle.mx_top.specs.Units.{content_at, unit_at, units_of}
 use Rattle.mx_node.specs.Inputs.{InputUnit}
-use Rattle.mx_node.specs.Order.{whole_order_of}
+use Rattle.mx_node.specs.Order.{AreWholeSteps}
 use Rattle.mx_node.specs.Outputs.{AnswersAll}
 use Rattle.mx_top.specs.TraceOutput.{units_text}
 use Rattle.mx_node.specs.Serving.{AnswersUnit, Serves, DirectoryHolds}
 use Rattle.mx_node.specs.Starts.{Start}
 use Rattle.mx_node.specs.Interrupted.{IsInterrupted}
 use Rattle.mx_directory.specs.Survival.{Lasts}
-use Rattle.mx_top.specs.Runs.{AtCompletion, AnswersRead, Held, OutputSeen, PlaceSeen, StillPassedOn, order_until}
+use Rattle.mx_top.specs.Runs.{AtCompletion, AnswersRead, AreStepsUntil, Held, OutputSeen, PlaceSeen, StillPassedOn}
 
 -- What stops a run that awaits the unit at this place, where these bytes of it wait and more are left. Where they could not be
 -- read, no whole unit waits.
@@ -86,8 +86,8 @@ pub record UnitsSeen (status : Status) (start : Start) (input : List ℕ) (left 
   pub sent : List OutUnit
   pub answers : AnswersAll start units answered sent
   pub gate : RepliesMayLeave start.base answered
-  pub stopped : IsInterrupted start.base answered (order_until units others) first states
-  pub complete : AtCompletion status ((others ≡ []) × (order_in (stopped.later ++ answered) ≡ whole_order_of units))
+  pub stopped : IsInterrupted start.base answered (AreStepsUntil units others) first states
+  pub complete : AtCompletion status ((others ≡ []) × AreWholeSteps units (order_in (stopped.later ++ answered)))
   pub holds : AtCompletion status (IfKnown states (λ disk past. DirectoryHolds start.base (stopped.later ++ answered) disk))
   pub written : (before : List ℕ) → output.contents ≡ Some before
       → IsSomeAnd now.contents (λ after. OutputSeen status start units answered (stopped.later ++ answered) sent before after output.passed now.passed)

@@ -15,7 +15,7 @@ use Rattle.mx_serial.specs.Gate.{RepliesMayLeave, confirmed_part}
 use Rattle.mx_serial.specs.Serializability.{IsSerializable}
 use Rattle.mx_directory.specs.Survival.{IsOfNode, ReadsAll, Recovers, Survive, NoFewerSurvive, ReadsMost}
 use Rattle.mx_node.specs.Inputs.{InputUnit}
-use Rattle.mx_node.specs.Order.{order_by, order_of, whole_order_of}
+use Rattle.mx_node.specs.Order.{AreStepsOf, AreWholeSteps}
 use Rattle.mx_node.specs.Outputs.{AnswersAll, output_for}
 use Rattle.mx_node.specs.Serving.{DirectoryHolds}
 use Rattle.mx_node.specs.Starts.{Start}
@@ -68,10 +68,10 @@ AtCompletion status.Ok P = P
 AtCompletion (status.BadInput at) P = P
 AtCompletion _ P = ⊤
 
--- the order of the steps for these units, and for the next one; after the last one all connections depart
-abbrev pub order_until : (units others : List InputUnit) → List Step
-order_until units [] = whole_order_of units
-order_until units (unit ∷ others) = order_of units ++ order_by units unit
+-- these are the steps for the units, and for the next one; after the last one all connections depart
+abbrev pub AreStepsUntil : (units others : List InputUnit) → List Step → Type 0
+AreStepsUntil units [] = AreWholeSteps units
+AreStepsUntil units (unit ∷ others) = AreStepsOf (units ++ unit ∷ [])
 
 -- ---- the output
 
@@ -183,9 +183,11 @@ pub record Served (status : Status) (seed input : List ℕ) (left : Option (List
   pub legal : IsLegal start.base history
   pub serializable : IsSerializable start.base history
   pub answers : AnswersAll start units answered sent
-  pub order_later : IsPrefix (order_in history) (order_until units others)
+  pub steps : List Step
+  pub are_steps : AreStepsUntil units others steps
+  pub order_later : IsPrefix (order_in history) steps
   pub gate : RepliesMayLeave start.base answered
-  pub complete : AtCompletion status ((others ≡ []) × (order_in history ≡ whole_order_of units))
+  pub complete : AtCompletion status ((others ≡ []) × AreWholeSteps units (order_in history))
   pub output : (before : List ℕ) → output_old.contents ≡ Some before
       → IsSomeAnd output_new.contents (λ after. OutputSeen status start units answered history sent before after output_old.passed output_new.passed)
   pub holds : AtCompletion status (IfKnown new (λ disk past. DirectoryHolds start.base history disk))

@@ -1,6 +1,6 @@
 //! The command `trace`: opens the directory, reads units, answers them, and writes output units.
 
-ghost use Rattle.std.specs.Prelude.{◌≡◌, ◌⊎◌, ◌<◌, ◌≤◌, ◌++◌, ℕ, List, [], Some, Ok, Err, IfOk, IfSome, MatchOption, MatchResult, OnOk, OnErr, IfErr};
+ghost use Rattle.std.specs.Prelude.{◌∷◌, ◌≡◌, ◌⊎◌, ◌<◌, ◌≤◌, ◌++◌, ℕ, List, [], Some, Ok, Err, IfOk, IfSome, MatchOption, MatchResult, OnOk, OnErr, IfErr};
 ghost use Rattle.mx_outside.specs.Causes.{HasCauseOf};
 ghost use Rattle.mx_top.specs.declared.stop.Stop.TheVariants.{ReadFault, WriteFault, DiskFault};
 ghost use Rattle.mx_top.specs.declared.status.Status.TheVariants as status;
@@ -10,7 +10,7 @@ ghost use Rattle.mx_top.specs.Units.{max_offset, unit_by};
 ghost use Rattle.mx_top.specs.UnitViews.{head_view};
 ghost use Rattle.mx_model.specs.Histories.{History};
 ghost use Rattle.mx_node.specs.Inputs.{InputUnit, max_connection};
-ghost use Rattle.mx_node.specs.Order.{order_by, order_of, whole_order_of};
+ghost use Rattle.mx_node.specs.Order.{AreStepsOf, AreWholeSteps};
 ghost use Rattle.mx_node.specs.Interrupted.{IsInterrupted};
 ghost use Rattle.mx_node.specs.Starts.{Start};
 ghost use Rattle.mx_node.specs.Serving.{CanServe, EndedNode, Serves};
@@ -98,7 +98,7 @@ fn end_node<D: Dir>(node: Single, dir: &mut D) -> Result<(), Stop>
     ensures closed { (start : Start) (units : List InputUnit) (history : History) → Serves start node units history (D.states dir.old)
         → OnOk result (EndedNode start units history (D.states dir.old) (D.states dir.new)) }
     ensures breaks { (start : Start) (units : List InputUnit) (history : History) → Serves start node units history (D.states dir.old)
-        → OnErr result (IsInterrupted start.base history (whole_order_of units) (D.states dir.old) (D.states dir.new)) }
+        → OnErr result (IsInterrupted start.base history (AreWholeSteps units) (D.states dir.old) (D.states dir.new)) }
     ensures others { OthersKept (D.states dir.old) (D.states dir.new) }
     ensures cause { HasCauseOf DiskFault (D.faults dir.old) (D.faults dir.new) result }
     ensures stops { IfErr result IsDiskStop }
@@ -189,7 +189,7 @@ fn answer_unit<D: Dir>(
     ensures took { (start : Start) (units : List InputUnit) (history : History) → Serves start node.old units history (D.states dir.old)
         → OnOk result (WritesUnit start node.new units history (unit_by (head_view head) content.now) out.new.items (D.states dir.old) (D.states dir.new)) }
     ensures breaks { (start : Start) (units : List InputUnit) (history : History) → Serves start node.old units history (D.states dir.old)
-        → OnErr result (IsInterrupted start.base history (order_of units ++ order_by units (unit_by (head_view head) content.now)) (D.states dir.old) (D.states dir.new)) }
+        → OnErr result (IsInterrupted start.base history (AreStepsOf (units ++ unit_by (head_view head) content.now ∷ [])) (D.states dir.old) (D.states dir.new)) }
     ensures serves { OnOk result (CanServe node.new (D.states dir.new)) }
     ensures others { OthersKept (D.states dir.old) (D.states dir.new) }
     ensures cause { HasCauseOf DiskFault (D.faults dir.old) (D.faults dir.new) result }

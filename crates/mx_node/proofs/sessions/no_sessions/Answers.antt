@@ -1,6 +1,6 @@
 use Rattle.std.proofs.Common.{◌≡◌, None, length, ap, ◌∙◌, arith}
 use Rattle.std.proofs.lemmas.List.{length-replicate}
-use Rattle.mx_node.specs.Serving.{session_at}
+use Rattle.mx_node.specs.Tables.{session_at}
 use Rattle.mx_node.proofs.TableLaws.{none_at}
 use Rattle.mx_node.proofs.sessions.no_sessions.Goals as goal
 

@@ -1,5 +1,5 @@
-use Rattle.std.proofs.Common.{◌++◌, ap, ◌∙◌, subst}
-use Rattle.mx_node.specs.Order.{order_by, order_of}
+use Rattle.std.proofs.Common.{[], ◌∷◌, ◌++◌, ap, ◌∙◌, subst}
+use Rattle.mx_node.specs.Order.{AreStepsOf}
 use Rattle.mx_node.specs.Interrupted.{IsInterrupted}
 use Rattle.mx_node.specs.Serving.{AnswersUnit}
 use Rattle.mx_top.specs.TraceOutput.{units_text}
@@ -16,7 +16,7 @@ unit-requires-clause-connection g c =
 pub returns-in_err-sent-clause-breaks : goal.returns-in_err-sent-clause-breaks
 returns-in_err-sent-clause-breaks g c = λ start units history serves.
     where_err c.from_residual.result
-    (subst (λ u. IsInterrupted start.base history (order_of units ++ order_by units u) (g.D.Dir.states c.args.dir.now) (g.D.Dir.states c.unit.new.dir)) c.unit_of.ensures
+    (subst (λ u. IsInterrupted start.base history (AreStepsOf (units ++ u ∷ [])) (g.D.Dir.states c.args.dir.now) (g.D.Dir.states c.unit.new.dir)) c.unit_of.ensures
     (c.in_err-sent.ensures.breaks start units history serves))
 
 pub returns-in_err-write_units-clause-breaks : goal.returns-in_err-write_units-clause-breaks

@@ -2,7 +2,7 @@ use Rattle.std.proofs.Common.{[], Err, ap, ◌∙◌, subst, inl, inr}
 use Rattle.mx_images.specs.Changes.{KeepsOthers}
 use Rattle.mx_images.proofs.MomentLaws.{steps_then}
 use Rattle.mx_node.specs.Starts.{IsStart}
-use Rattle.mx_node.proofs.ServerLaws.{can_serve}
+use Rattle.mx_node.proofs.LinkedLaws.{can_serve}
 use Rattle.mx_top.specs.Runs.{held}
 use Rattle.mx_top.proofs.RunLaws.{served_seen, not_opened, left_alone, opened_is_of, opened_survive, passed_by}
 use Rattle.mx_top.proofs.trace.trace.Goals as goal
@@ -10,7 +10,7 @@ use Rattle.mx_top.proofs.trace.trace.Goals as goal
 pub run_units-requires : goal.run_units-requires
 run_units-requires g c =
     let (start, begins, serves) = c.in-Ok.ensures.serves in
-    can_serve start c.in-Ok.node [] [] (g.D.Dir.states c.start.new.dir) serves
+    can_serve start c.in-Ok.node [] (g.D.Dir.states c.start.new.dir) serves
 
 pub returns-in-Ok-clause-history : goal.returns-in-Ok-clause-history
 returns-in-Ok-clause-history g c = λ bytes told.

@@ -1,5 +1,6 @@
 use Rattle.std.proofs.Common.{None, true, false, refl, sym, ◌∙◌}
-use Rattle.mx_node.proofs.ServerLaws.{can_still_serve, is_ready_left, ready_left, took_close}
+use Rattle.mx_node.proofs.LinkedLaws.{serves_closed, serves_forgotten}
+use Rattle.mx_node.proofs.ServerLaws.{ready_left, took_close}
 use Rattle.mx_node.proofs.TableLaws.{one_place}
 use Rattle.mx_node.proofs.single.Single.close.Goals as goal
 
@@ -27,6 +28,12 @@ pub returns-clause-serves : goal.returns-clause-serves
 returns-clause-serves c = λ states serves.
     let old = c.args.self.now in
     let on = c.args.connection.0 in
-    can_still_serve old _ states states on None serves c.requires.connection
-    (is_ready_left old.engine c.leave.new.engine old.journal states on serves.ready (λ base history stands. c.in_ok-leave.ensures base history stands))
-    (one_place old.sessions c.as_mut_slice.result.now c.drop_session.new.sessions on None c.as_mut_slice.ensures.value c.drop_session.ensures.place) tt
+    serves_closed old _ states on c.requires.connection (λ base history stands. c.in_ok-leave.ensures base history stands) refl
+    (one_place old.sessions c.as_mut_slice.result.now c.drop_session.new.sessions on None c.as_mut_slice.ensures.value c.drop_session.ensures.place) serves
+
+pub returns-then-not-drop_session-clause-serves : goal.returns-then-not-drop_session-clause-serves
+returns-then-not-drop_session-clause-serves c = λ states serves.
+    let old = c.args.self.now in
+    let on = c.args.connection.0 in
+    serves_forgotten old _ states on c.requires.connection refl refl
+    (one_place old.sessions c.as_mut_slice.result.now c.drop_session.new.sessions on None c.as_mut_slice.ensures.value c.drop_session.ensures.place) serves

@@ -14,11 +14,11 @@ use Rattle.mx_node.proofs.single.Single.end.Goals as goal
 
 pub end-requires-clause-written : goal.end-requires-clause-written
 end-requires-clause-written g c =
-    let (base, history, ready) = c.requires.ready in
-    told_weaker (g.D.Dir.states c.args.dir.now) (λ disk past was. (taken_of base history, was.0)) ready.behind.has.written
+    let serves = c.requires in
+    told_weaker (g.D.Dir.states c.args.dir.now) (λ disk past was. (taken_of serves.base serves.history, was.0)) serves.behind.has.written
 
 pub end-requires-clause-none : goal.end-requires-clause-none
-end-requires-clause-none g c = none_waits c.args.self.journal c.requires.ready.2.behind.has.waits
+end-requires-clause-none g c = none_waits c.args.self.journal c.requires.behind.has.waits
 
 pub returns-in_err-leave_all-clause-breaks : goal.returns-in_err-leave_all-clause-breaks
 returns-in_err-leave_all-clause-breaks g c = λ start units history serves.
