@@ -1,3 +1,5 @@
 mod SumLaws
 mod HistoryLaws
 mod RuleLaws
+mod StepLaws
+mod CallLaws
