@@ -8,9 +8,9 @@ use lib.ListN.{get_elem?}
 use Rattle.atomic_table.specs.Table.{State}
 use Rattle.atomic_table.proofs.Lists.{at_set, set_here, set_else, set_again}
 use Rattle.mx_turn.specs.declared.view.View.{View}
-use Rattle.mx_turn.specs.declared.rule.Kept.{Kept}
-use Rattle.mx_turn.specs.Views.{AreSame, Continues, all_places, places, times}
-use Rattle.mx_turn.specs.Rule.{Fits, IsTurn, max_count}
+use Rattle.mx_turn.specs.declared.rule.SlotValue.{SlotValue}
+use Rattle.mx_turn.specs.Views.{AreSame, Extends, all_places, places, times}
+use Rattle.mx_turn.specs.Rule.{Agrees, IsTurn, max_count}
 use Rattle.mx_turn.proofs.SumLaws.{nothing_else, sum_alone, sum_set}
 
 pub length_at : {A : Type 0} (l : List A) (i : ℕ) (a : A) → get_elem? l i ≡ some a → i < length l
@@ -20,16 +20,16 @@ length_at (x ∷ xs) (suc i) a e = let r = length_at xs i a e in omega arith
 
 module _ {B E T : Type 0} (N : Type 0) (Stands : T → List E → Type 0) (is_alone is_call : E → Bool) (start : B) (all : ℕ) where
   abbrev pub St : Type 0
-  St = State (Option (Kept T N)) (View B E)
+  St = State (Option (SlotValue T N)) (View B E)
 
   abbrev pub Homes : Type 0
-  Homes = List (maybe.Option (Option (Kept T N)))
+  Homes = List (maybe.Option (Option (SlotValue T N)))
 
   abbrev pub Rule : St → Type 0
   Rule = IsTurn Stands is_alone is_call start all
 
-  abbrev pub FitsIn : List E → Bool → ℕ → ℕ → View B E → Type 0
-  FitsIn = Fits is_alone start all
+  abbrev pub AgreesIn : List E → Bool → ℕ → ℕ → View B E → Type 0
+  AgreesIn = Agrees is_alone start all
 
   -- a view is the holder's only where it says so
   pub not_holder : (s : St) (r : Rule s) (id : ℕ) (v : View B E) → get_elem? s.views id ≡ some v → v.holds ≡ false → r.out ≡ true → r.who ≢ id
@@ -40,7 +40,7 @@ module _ {B E T : Type 0} (N : Type 0) (Stands : T → List E → Type 0) (is_al
   -- one seat with all parts leaves none to the others
   pub others_spent : (s : St) (r : Rule s) (id : ℕ) (v : View B E) → get_elem? s.views id ≡ some v → 0 < v.parts → v.parts ≡ v.seats
       → (j : ℕ) (u : View B E) → j ≢ id → get_elem? s.views j ≡ some u → u.parts ≡ 0
-  others_spent s r id v at live have j u other at' = let known = (r.fits id v at).live live in
+  others_spent s r id v at live have j u other at' = let known = (r.agrees id v at).live live in
       nothing_else (λ (w : View B E). w.parts) s.views id v at (r.parts ∙ sym known.1 ∙ sym have) j u other at'
 
   -- and its places are all
@@ -48,9 +48,9 @@ module _ {B E T : Type 0} (N : Type 0) (Stands : T → List E → Type 0) (is_al
       → AreSame v.mine (places is_call r.log) × AreSame v.own (all_places r.log)
   whole s r id v at live have = let spent = others_spent s r id v at live have in (
     (λ x. sym (sum_alone (λ (w : View B E). times x w.mine) s.views id v at
-        (λ j u other at'. ap (times x) ((r.fits j u at').spent (spent j u other at')).2)) ∙ r.calls x),
+        (λ j u other at'. ap (times x) ((r.agrees j u at').spent (spent j u other at')).2)) ∙ r.calls x),
     (λ x. sym (sum_alone (λ (w : View B E). times x w.own) s.views id v at
-        (λ j u other at'. ap (times x) ((r.fits j u at').spent (spent j u other at')).3)) ∙ r.entries x),
+        (λ j u other at'. ap (times x) ((r.agrees j u at').spent (spent j u other at')).3)) ∙ r.entries x),
   )
 
   -- each view of a list in which one changed
@@ -72,9 +72,9 @@ module _ {B E T : Type 0} (N : Type 0) (Stands : T → List E → Type 0) (is_al
     pub out_always : held ≡ 1 → length log < max_count → out ≡ true
     pub away : out ≡ true → get_elem? homes 0 ≡ some none
     pub holding : out ≡ true → ((who ≡ id) × (w.holds ≡ true)) ⊎ ((who ≢ id) × ((u : View B E) × (get_elem? s.views who ≡ some u) × (u.holds ≡ true)))
-    pub home : out ≡ false → (kept : Kept T N) × (get_elem? homes 0 ≡ some (some (Some kept))) × Stands kept.value log
-    pub mine : FitsIn log out who id w
-    pub others : (j : ℕ) (u : View B E) → j ≢ id → get_elem? s.views j ≡ some u → FitsIn log out who j u
+    pub home : out ≡ false → (kept : SlotValue T N) × (get_elem? homes 0 ≡ some (some (Some kept))) × Stands kept.value log
+    pub mine : AgreesIn log out who id w
+    pub others : (j : ℕ) (u : View B E) → j ≢ id → get_elem? s.views j ≡ some u → AgreesIn log out who j u
     pub parts : w.parts ≡ v.parts
     pub calls : (x : ℕ) → times x w.mine + times x (places is_call r.log) ≡ times x v.mine + times x (places is_call log)
     pub entries : (x : ℕ) → times x w.own + times x (all_places r.log) ≡ times x v.own + times x (all_places log)
@@ -95,7 +95,7 @@ module _ {B E T : Type 0} (N : Type 0) (Stands : T → List E → Type 0) (is_al
     holding = λ o. ⊎_elim (λ (t : (c.who ≡ id) × (w.holds ≡ true)). (w, ap (get_elem? (set s.views id w)) t.0 ∙ set_here s.views id w (length_at s.views id v c.at), t.1))
         (λ (t : (c.who ≢ id) × ((u : View B E) × (get_elem? s.views c.who ≡ some u) × (u.holds ≡ true))). (t.1.0, set_else s.views id c.who w t.0 ∙ t.1.1, t.1.2)) (c.holding o);
     home = c.home;
-    fits = each_view (FitsIn c.log c.out c.who) s.views id w c.mine c.others;
+    agrees = each_view (AgreesIn c.log c.out c.who) s.views id w c.mine c.others;
     parts = let t = sum_set (λ (u : View B E). u.parts) s.views id v w c.at in let e = c.parts in let p = r.parts in omega arith;
     calls = λ x. let t = sum_set (λ (u : View B E). times x u.mine) s.views id v w c.at in let e = c.calls x in let p = r.calls x in omega arith;
     entries = λ x. let t = sum_set (λ (u : View B E). times x u.own) s.views id v w c.at in let e = c.entries x in let p = r.entries x in omega arith;

@@ -14,13 +14,13 @@ use lib.ListN.{get_elem?}
 use Rattle.atomic_table.specs.Table.{Act, Allows, Joins, Me, Seen, Splits, State, Step, Valid, carried_after, gives, keeps, opening, step, stepped, takes}
 use Rattle.atomic_table.proofs.Lists.{at_longer, at_set, at_snoc, set_again, set_else, set_here}
 use Rattle.mx_turn.specs.declared.view.View.{View}
-use Rattle.mx_turn.specs.declared.rule.Kept.{Kept}
-use Rattle.mx_turn.specs.Views.{AreSame, Continues, IsWhole, all_places, first_view, gave, longer, part_of, parted, places, saw, settled, shorter, spent_view, times, told_of, took}
-use Rattle.mx_turn.specs.Rule.{Fits, IsTurn, max_count}
+use Rattle.mx_turn.specs.declared.rule.SlotValue.{SlotValue}
+use Rattle.mx_turn.specs.Views.{AreSame, Extends, IsWhole, all_places, first_view, after_give, longer, part_view, after_split, places, after_look, after_compare, shorter, spent_view, times, with_told, after_take}
+use Rattle.mx_turn.specs.Rule.{Agrees, IsTurn, max_count}
 use Rattle.mx_turn.specs.Steps.{Compares, Gives, Looks, Takes}
 use Rattle.mx_turn.proofs.SumLaws.{sum_more, sum_set}
-use Rattle.mx_turn.proofs.HistoryLaws.{continues_length, continues_more, continues_self, longer_counts, longer_earlier, one_history, times_append}
-use Rattle.mx_turn.proofs.RuleLaws.{Change, FitsIn, Homes, Rule, St, each_view, length_at, not_holder, others_spent, rule_step, whole}
+use Rattle.mx_turn.proofs.HistoryLaws.{extends_length, extends_more, extends_self, longer_counts, extends_longer, one_history, times_append}
+use Rattle.mx_turn.proofs.RuleLaws.{Change, AgreesIn, Homes, Rule, St, each_view, length_at, not_holder, others_spent, rule_step, whole}
 
 -- the bit for held is the lowest
 or_one : (n : ℕ) → bit_or n 1 + n % 2 ≡ n + 1
@@ -46,17 +46,17 @@ module _ {B E T : Type 0} (N : Type 0) (Over : B → T → List E → Type 0) (i
   abbrev R : S → Type 0
   R = Rule N (Over start) is_alone is_call start all
 
-  abbrev FitsAt : List E → Bool → ℕ → ℕ → View B E → Type 0
-  FitsAt = FitsIn N (Over start) is_alone is_call start all
+  abbrev AgreesAt : List E → Bool → ℕ → ℕ → View B E → Type 0
+  AgreesAt = AgreesIn N (Over start) is_alone is_call start all
 
   abbrev M : Type 0
-  M = Me (Option (Kept T N)) (View B E)
+  M = Me (Option (SlotValue T N)) (View B E)
 
   -- a seat that holds nothing sees more of the history
   sees : (s : S) (r : R s) (id : ℕ) (v : View B E) (seen told : List E) → get_elem? s.views id ≡ some v → v.holds ≡ false → 0 < v.parts
-      → Continues r.log seen → Continues r.log told → (v.first ≡ true → count_by is_alone r.log ≡ count_by is_alone seen)
+      → Extends r.log seen → Extends r.log told → (v.first ≡ true → count_by is_alone r.log ≡ count_by is_alone seen)
       → R record { words = set s.words 0 (get_or s.words 0 0); homes = s.homes; views = set s.views id (record v { seen = seen; told = told }) }
-  sees s r id v seen told at idle live earlier told_earlier counts = let f = r.fits id v at in
+  sees s r id v seen told at idle live earlier told_earlier counts = let f = r.agrees id v at in
       rule_step N (Over start) is_alone is_call start all s r id v (record v { seen = seen; told = told }) (get_or s.words 0 0) s.homes record {
         log = r.log;
         held = r.held;
@@ -78,15 +78,15 @@ module _ {B E T : Type 0} (N : Type 0) (Over : B → T → List E → Type 0) (i
           holder = λ h. absurd (true≢false (sym h ∙ idle));
           first = λ h. ((f.first h).0, counts h);
         };
-        others = λ j u _ e. r.fits j u e;
+        others = λ j u _ e. r.agrees j u e;
         parts = refl;
         calls = λ x. refl;
         entries = λ x. refl;
       }
 
   pub looks : (slots id : ℕ) (me : M) → me.0.holds ≡ false → 0 < me.0.parts → Allows R slots id me 0 (λ n. n) (Looks is_call me)
-  looks slots id me idle live s r _ at _ = let v = me.0 in let f = r.fits id v at in let n = get_or s.words 0 0 in (
-    saw f.seen.0 v,
+  looks slots id me idle live s r _ at _ = let v = me.0 in let f = r.agrees id v at in let n = get_or s.words 0 0 in (
+    after_look f.seen.0 v,
     keeps,
     tt,
     sees s r id v (f.seen.0 ++ v.seen) v.told at idle live ([], f.seen.1) f.told (λ _. ap (count_by is_alone) f.seen.1),
@@ -99,21 +99,21 @@ module _ {B E T : Type 0} (N : Type 0) (Over : B → T → List E → Type 0) (i
   )
 
   pub compares : (slots id : ℕ) (me : M) → me.0.holds ≡ false → 0 < me.0.parts → Allows R slots id me 0 (λ n. n) (λ _. Compares me)
-  compares slots id me idle live s r _ at _ = let v = me.0 in let f = r.fits id v at in (
-    settled v,
+  compares slots id me idle live s r _ at _ = let v = me.0 in let f = r.agrees id v at in (
+    after_compare v,
     keeps,
     tt,
-    sees s r id v (longer v.seen v.told) [] at idle live (longer_earlier r.log v.seen v.told f.seen f.told) (r.log, sym (append-nil r.log))
+    sees s r id v (longer v.seen v.told) [] at idle live (extends_longer r.log v.seen v.told f.seen f.told) (r.log, sym (append-nil r.log))
         (λ h. longer_counts is_alone r.log v.seen v.told f.seen f.told (f.first h).1),
     record { after = refl; one = one_history r.log v.seen v.told f.seen f.told },
   )
 
   -- where the turn is free, the seat has the value
   takes_free : (slots id : ℕ) (me : M) (s : S) (r : R s) → get_elem? s.views id ≡ some me.0 → me.0.holds ≡ false → 0 < me.0.parts → r.held ≡ 0 → length r.log < max_count
-      → (w : View B E) × (a : Act (Option (Kept T N))) × Valid s.homes me.1 a × R (stepped s 0 (bit_or (get_or s.words 0 0) 1) id me.1 w a) × Takes Over is_call me (get_or s.words 0 0) (w, carried_after me.1 a)
-  takes_free slots id me s r at idle live free room = let v = me.0 in let f = r.fits id v at in let n = get_or s.words 0 0 in let c = r.counted in let base = f.live live in
+      → (w : View B E) × (a : Act (Option (SlotValue T N))) × Valid s.homes me.1 a × R (stepped s 0 (bit_or (get_or s.words 0 0) 1) id me.1 w a) × Takes Over is_call me (get_or s.words 0 0) (w, carried_after me.1 a)
+  takes_free slots id me s r at idle live free room = let v = me.0 in let f = r.agrees id v at in let n = get_or s.words 0 0 in let c = r.counted in let base = f.live live in
       let inside : r.out ≡ false = ⊎_elim (λ (o : r.out ≡ true). let h = r.out_only o in absurd (omega arith)) (λ (o : r.out ≡ false). o) (true_or_false r.out) in
-      let home = r.home inside in let w : View B E = took f.seen.0 v in let l = ap length f.seen.1 in (
+      let home = r.home inside in let w : View B E = after_take f.seen.0 v in let l = ap length f.seen.1 in (
         w,
         takes 0 (Some home.0),
         home.1,
@@ -138,7 +138,7 @@ module _ {B E T : Type 0} (N : Type 0) (Over : B → T → List E → Type 0) (i
             holder = λ _. (refl, refl, sym f.seen.1);
             first = λ h. ((f.first h).0, ap (count_by is_alone) f.seen.1);
           };
-          others = λ j u _ e. let g = r.fits j u e in record {
+          others = λ j u _ e. let g = r.agrees j u e in record {
             seen = g.seen;
             told = g.told;
             live = g.live;
@@ -165,8 +165,8 @@ module _ {B E T : Type 0} (N : Type 0) (Over : B → T → List E → Type 0) (i
 
   -- where it is held, or counts as held, the seat stays as it is
   takes_nothing : (slots id : ℕ) (me : M) (s : S) (r : R s) → get_elem? s.views id ≡ some me.0 → get_or s.words 0 0 < 18446744073709551616 → me.0.holds ≡ false → ((r.held ≡ 1) ⊎ (max_count ≤ length r.log))
-      → (w : View B E) × (a : Act (Option (Kept T N))) × Valid s.homes me.1 a × R (stepped s 0 (bit_or (get_or s.words 0 0) 1) id me.1 w a) × Takes Over is_call me (get_or s.words 0 0) (w, carried_after me.1 a)
-  takes_nothing slots id me s r at small idle is = let v = me.0 in let f = r.fits id v at in let n = get_or s.words 0 0 in let c = r.counted in let b = r.bit in (
+      → (w : View B E) × (a : Act (Option (SlotValue T N))) × Valid s.homes me.1 a × R (stepped s 0 (bit_or (get_or s.words 0 0) 1) id me.1 w a) × Takes Over is_call me (get_or s.words 0 0) (w, carried_after me.1 a)
+  takes_nothing slots id me s r at small idle is = let v = me.0 in let f = r.agrees id v at in let n = get_or s.words 0 0 in let c = r.counted in let b = r.bit in (
     v,
     keeps,
     tt,
@@ -184,27 +184,27 @@ module _ {B E T : Type 0} (N : Type 0) (Over : B → T → List E → Type 0) (i
       holding = λ o. inr (not_holder N (Over start) is_alone is_call start all s r id v at idle o, r.holding o);
       home = r.home;
       mine = f;
-      others = λ j u _ e. r.fits j u e;
+      others = λ j u _ e. r.agrees j u e;
       parts = refl;
       calls = λ x. refl;
       entries = λ x. refl;
     },
     record {
       free = λ even room. absurd (⊎_elim (λ (h : r.held ≡ 1). omega arith) (λ (h : max_count ≤ length r.log). omega arith) is);
-      busy = λ _. (refl, (let l = continues_length r.log v.seen f.seen in omega arith), omega arith);
+      busy = λ _. (refl, (let l = extends_length r.log v.seen f.seen in omega arith), omega arith);
     },
   )
 
   pub takes_turn : (slots id : ℕ) (me : M) → me.0.holds ≡ false → 0 < me.0.parts → Allows R slots id me 0 (λ n. bit_or n 1) (Takes Over is_call me)
   takes_turn slots id me idle live s r _ at small = let b = r.bit in dite (ℕ_discrete r.held 0)
       (λ free. ⊎_elim (λ (room : length r.log < max_count). takes_free slots id me s r at idle live free room)
-          (λ (full : max_count ≤ length r.log). takes_nothing slots id me s r at small idle (inr full)) (cases_lt (length r.log) max_count))
+      (λ (full : max_count ≤ length r.log). takes_nothing slots id me s r at small idle (inr full)) (cases_lt (length r.log) max_count))
       (λ not. let is : r.held ≡ 1 = omega arith in takes_nothing slots id me s r at small idle (inl is))
 
-  pub gives_back : (entry_of : N → E) (slots id : ℕ) (v : View B E) (kept : Kept T N) (note : Snapshot N) → v.holds ≡ true → 0 < v.parts → kept.note ≡ Some note
+  pub gives_back : (entry_of : N → E) (slots id : ℕ) (v : View B E) (kept : SlotValue T N) (note : Snapshot N) → v.holds ≡ true → 0 < v.parts → kept.note ≡ Some note
       → Over v.base kept.value (entry_of note.value ∷ v.seen) → (is_alone (entry_of note.value) ≡ true → v.first ≡ true)
       → Allows R slots id (v, (0, Some kept) ∷ []) 0 (λ n. (n + 1) % 2 ^ 64) (Gives is_call entry_of (v, (0, Some kept) ∷ []))
-  gives_back entry_of slots id v kept note holds live is stands alone s r _ at _ = let e = entry_of note.value in let w : View B E = gave is_call e v in let f = r.fits id v at in
+  gives_back entry_of slots id v kept note holds live is stands alone s r _ at _ = let e = entry_of note.value in let w : View B E = after_give is_call e v in let f = r.agrees id v at in
       let n = get_or s.words 0 0 in let c = r.counted in let h = f.holder holds in let o = r.out_only h.0 in let held = o.0 in let room = o.1 in let base = f.live live in
       let added : (x : ℕ) → times x (cond (is_call e) (length v.seen ∷ []) []) ≡ times x (cond (is_call e) (length r.log ∷ []) []) = λ x. ap (λ (l : List E). times x (cond (is_call e) (length l ∷ []) [])) h.2 in
       let own : (x : ℕ) → times x (length v.seen ∷ []) ≡ times x (length r.log ∷ []) = λ x. ap (λ (l : List E). times x (length l ∷ [])) h.2 in (
@@ -226,15 +226,15 @@ module _ {B E T : Type 0} (N : Type 0) (Over : B → T → List E → Type 0) (i
           home = λ _. (kept, set_here s.homes 0 (some (Some kept)) (length_at s.homes 0 none (r.away h.0)), subst (λ (x : B × List E). Over x.0 kept.value (e ∷ x.1)) (λ i. (base.0 i, h.2 i)) stands);
           mine = record {
             seen = ([], ap (λ (l : List E). e ∷ l) (sym h.2));
-            told = continues_more r.log v.told e f.told;
+            told = extends_more r.log v.told e f.told;
             live = f.live;
             spent = λ none. absurd (omega arith);
             holder = λ b. absurd (true≢false (sym b));
             first = λ b. ((f.first b).0, ap (λ (l : List E). count_by is_alone (e ∷ l)) (sym h.2));
           };
-          others = λ j u other at'. let g = r.fits j u at' in record {
-            seen = continues_more r.log u.seen e g.seen;
-            told = continues_more r.log u.told e g.told;
+          others = λ j u other at'. let g = r.agrees j u at' in record {
+            seen = extends_more r.log u.seen e g.seen;
+            told = extends_more r.log u.told e g.told;
             live = g.live;
             spent = g.spent;
             holder = λ b. absurd (other ((g.holder b).1 ∙ sym h.1));
@@ -247,12 +247,12 @@ module _ {B E T : Type 0} (N : Type 0) (Over : B → T → List E → Type 0) (i
         },
         record {
           count = let l = ap length h.2 in omega arith;
-          after = λ kept' note' same same'. let taken : Some kept ≡ Some kept' = ap (top None) same in let k : kept ≡ kept' = (cc) in let noted : Some note ≡ Some note' = sym is ∙ ap (λ (z : Kept T N). z.note) k ∙ same' in let one : note ≡ note' = (cc) in ap (λ (z : Snapshot N). (gave is_call (entry_of z.value) v, [])) one;
+          after = λ kept' note' same same'. let taken : Some kept ≡ Some kept' = ap (top None) same in let k : kept ≡ kept' = (cc) in let noted : Some note ≡ Some note' = sym is ∙ ap (λ (z : SlotValue T N). z.note) k ∙ same' in let one : note ≡ note' = (cc) in ap (λ (z : Snapshot N). (after_give is_call (entry_of z.value) v, [])) one;
         },
       )
 
-  pub splits : (id : ℕ) (v : View B E) → v.holds ≡ false → 1 < v.parts → Splits R id v (parted v) (part_of v)
-  splits id v idle more s r at = let f = r.fits id v at in record {
+  pub splits : (id : ℕ) (v : View B E) → v.holds ≡ false → 1 < v.parts → Splits R id v (after_split v) (part_view v)
+  splits id v idle more s r at = let f = r.agrees id v at in record {
     log = r.log;
     held = r.held;
     out = r.out;
@@ -264,20 +264,20 @@ module _ {B E T : Type 0} (N : Type 0) (Over : B → T → List E → Type 0) (i
     out_always = r.out_always;
     away = r.away;
     holding = λ o. let h = r.holding o in
-        (h.0, at_longer (set s.views id (parted v)) (part_of v ∷ []) r.who h.0 (set_else s.views id r.who (parted v) (not_holder N (Over start) is_alone is_call start all s r id v at idle o) ∙ h.1), h.2);
+        (h.0, at_longer (set s.views id (after_split v)) (part_view v ∷ []) r.who h.0 (set_else s.views id r.who (after_split v) (not_holder N (Over start) is_alone is_call start all s r id v at idle o) ∙ h.1), h.2);
     home = r.home;
-    fits = λ j u e. ⊎_elim
-        (λ (e' : get_elem? (set s.views id (parted v)) j ≡ some u). each_view N (Over start) is_alone is_call start all (FitsAt r.log r.out r.who) s.views id (parted v)
-            record {
-              seen = f.seen;
-              told = f.told;
-              live = λ _. f.live (omega arith);
-              spent = λ none. absurd (omega arith);
-              holder = λ h. absurd (true≢false (sym h ∙ idle));
-              first = f.first;
-            }
-            (λ k x _ e''. r.fits k x e'') j u e')
-        (λ (is : part_of v ≡ u). subst (FitsAt r.log r.out r.who j) is record {
+    agrees = λ j u e. ⊎_elim
+        (λ (e' : get_elem? (set s.views id (after_split v)) j ≡ some u). each_view N (Over start) is_alone is_call start all (AgreesAt r.log r.out r.who) s.views id (after_split v)
+        record {
+          seen = f.seen;
+          told = f.told;
+          live = λ _. f.live (omega arith);
+          spent = λ none. absurd (omega arith);
+          holder = λ h. absurd (true≢false (sym h ∙ idle));
+          first = f.first;
+        }
+        (λ k x _ e''. r.agrees k x e'') j u e')
+        (λ (is : part_view v ≡ u). subst (AgreesAt r.log r.out r.who j) is record {
           seen = f.seen;
           told = (r.log, sym (append-nil r.log));
           live = λ _. f.live (omega arith);
@@ -285,17 +285,17 @@ module _ {B E T : Type 0} (N : Type 0) (Over : B → T → List E → Type 0) (i
           holder = λ h. absurd (true≢false (sym h));
           first = λ h. absurd (true≢false (sym h));
         })
-        (at_snoc (set s.views id (parted v)) (part_of v) u j e);
-    parts = let a = sum_set (λ (u : View B E). u.parts) s.views id v (parted v) at in let b = sum_more (λ (u : View B E). u.parts) (set s.views id (parted v)) (part_of v) in let p = r.parts in omega arith;
-    calls = λ x. let a = sum_set (λ (u : View B E). times x u.mine) s.views id v (parted v) at in let b = sum_more (λ (u : View B E). times x u.mine) (set s.views id (parted v)) (part_of v) in
+        (at_snoc (set s.views id (after_split v)) (part_view v) u j e);
+    parts = let a = sum_set (λ (u : View B E). u.parts) s.views id v (after_split v) at in let b = sum_more (λ (u : View B E). u.parts) (set s.views id (after_split v)) (part_view v) in let p = r.parts in omega arith;
+    calls = λ x. let a = sum_set (λ (u : View B E). times x u.mine) s.views id v (after_split v) at in let b = sum_more (λ (u : View B E). times x u.mine) (set s.views id (after_split v)) (part_view v) in
         let p = r.calls x in omega arith;
-    entries = λ x. let a = sum_set (λ (u : View B E). times x u.own) s.views id v (parted v) at in let b = sum_more (λ (u : View B E). times x u.own) (set s.views id (parted v)) (part_of v) in
+    entries = λ x. let a = sum_set (λ (u : View B E). times x u.own) s.views id v (after_split v) at in let b = sum_more (λ (u : View B E). times x u.own) (set s.views id (after_split v)) (part_view v) in
         let p = r.entries x in omega arith;
   }
 
-  pub joins : (nowhere : B) (id : ℕ) (v : View B E) (other : ℕ) (u : View B E) → v.holds ≡ false → u.holds ≡ false → 0 < v.parts → 0 < u.parts → Joins R id v other u (told_of v u) (spent_view nowhere)
-  joins nowhere id v other u idle idle' live live' s r at apart at' = let both = told_of v u in let spent : View B E = spent_view nowhere in let f = r.fits id v at in let views = set s.views id both in
-      let was : get_elem? s.views other ≡ some u = sym (set_else s.views id other both apart) ∙ at' in let g = r.fits other u was in record {
+  pub joins : (nowhere : B) (id : ℕ) (v : View B E) (other : ℕ) (u : View B E) → v.holds ≡ false → u.holds ≡ false → 0 < v.parts → 0 < u.parts → Joins R id v other u (with_told v u) (spent_view nowhere)
+  joins nowhere id v other u idle idle' live live' s r at apart at' = let both = with_told v u in let spent : View B E = spent_view nowhere in let f = r.agrees id v at in let views = set s.views id both in
+      let was : get_elem? s.views other ≡ some u = sym (set_else s.views id other both apart) ∙ at' in let g = r.agrees other u was in record {
         log = r.log;
         held = r.held;
         out = r.out;
@@ -309,7 +309,7 @@ module _ {B E T : Type 0} (N : Type 0) (Over : B → T → List E → Type 0) (i
         holding = λ o. let h = r.holding o in
             (h.0, set_else views other r.who spent (not_holder N (Over start) is_alone is_call start all s r other u was idle' o) ∙ set_else s.views id r.who both (not_holder N (Over start) is_alone is_call start all s r id v at idle o) ∙ h.1, h.2);
         home = r.home;
-        fits = each_view N (Over start) is_alone is_call start all (FitsAt r.log r.out r.who) views other spent
+        agrees = each_view N (Over start) is_alone is_call start all (AgreesAt r.log r.out r.who) views other spent
             record {
               seen = (r.log, sym (append-nil r.log));
               told = (r.log, sym (append-nil r.log));
@@ -318,16 +318,16 @@ module _ {B E T : Type 0} (N : Type 0) (Over : B → T → List E → Type 0) (i
               holder = λ h. absurd (true≢false (sym h));
               first = λ h. absurd (true≢false (sym h));
             }
-            (λ j x _ e. each_view N (Over start) is_alone is_call start all (FitsAt r.log r.out r.who) s.views id both
-                record {
-                  seen = f.seen;
-                  told = g.seen;
-                  live = λ _. f.live live;
-                  spent = λ none. absurd (omega arith);
-                  holder = λ h. absurd (true≢false (sym h ∙ idle));
-                  first = f.first;
-                }
-                (λ k y _ e'. r.fits k y e') j x e);
+            (λ j x _ e. each_view N (Over start) is_alone is_call start all (AgreesAt r.log r.out r.who) s.views id both
+            record {
+              seen = f.seen;
+              told = g.seen;
+              live = λ _. f.live live;
+              spent = λ none. absurd (omega arith);
+              holder = λ h. absurd (true≢false (sym h ∙ idle));
+              first = f.first;
+            }
+            (λ k y _ e'. r.agrees k y e') j x e);
         parts = let a = sum_set (λ (y : View B E). y.parts) s.views id v both at in let b = sum_set (λ (y : View B E). y.parts) views other u spent at' in let p = r.parts in omega arith;
         calls = λ x. let a = sum_set (λ (y : View B E). times x y.mine) s.views id v both at in let b = sum_set (λ (y : View B E). times x y.mine) views other u spent at' in
             let d = times_append x v.mine u.mine in let p = r.calls x in omega arith;
@@ -337,15 +337,15 @@ module _ {B E T : Type 0} (N : Type 0) (Over : B → T → List E → Type 0) (i
 
   -- once one seat has all parts and holds nothing, the value is at home
   pub closes : (s : S) (r : R s) (id : ℕ) (v : View B E) → get_elem? s.views id ≡ some v → v.holds ≡ false → 0 < v.parts → v.parts ≡ v.seats
-      → (kept : Kept T N) × (get_elem? s.homes 0 ≡ some (some (Some kept))) × Over v.base kept.value r.log
-  closes s r id v at idle live have = let f = r.fits id v at in
+      → (kept : SlotValue T N) × (get_elem? s.homes 0 ≡ some (some (Some kept))) × Over v.base kept.value r.log
+  closes s r id v at idle live have = let f = r.agrees id v at in
       let inside : r.out ≡ false = ⊎_elim (λ (o : r.out ≡ true). let h = r.holding o in
-          let none = others_spent N (Over start) is_alone is_call start all s r id v at live have r.who h.0 (not_holder N (Over start) is_alone is_call start all s r id v at idle o) h.1 in
-          absurd (true≢false (sym h.2 ∙ ((r.fits r.who h.0 h.1).spent none).4)))
-          (λ (o : r.out ≡ false). o) (true_or_false r.out) in
+      let none = others_spent N (Over start) is_alone is_call start all s r id v at live have r.who h.0 (not_holder N (Over start) is_alone is_call start all s r id v at idle o) h.1 in
+      absurd (true≢false (sym h.2 ∙ ((r.agrees r.who h.0 h.1).spent none).4)))
+      (λ (o : r.out ≡ false). o) (true_or_false r.out) in
       let home = r.home inside in (home.0, home.1, subst (λ (b : B). Over b home.0.value r.log) (sym (f.live live).0) home.2)
 
-  pub starts : (kept : Kept T N) → 0 < all → Over start kept.value [] → R (opening (0 ∷ []) (Some kept ∷ []) (first_view start all))
+  pub starts : (kept : SlotValue T N) → 0 < all → Over start kept.value [] → R (opening (0 ∷ []) (Some kept ∷ []) (first_view start all))
   starts kept some_part stands = record {
     log = [];
     held = 0;
@@ -359,7 +359,7 @@ module _ {B E T : Type 0} (N : Type 0) (Over : B → T → List E → Type 0) (i
     away = λ b. absurd (true≢false (sym b));
     holding = λ b. absurd (true≢false (sym b));
     home = λ _. (kept, refl, stands);
-    fits = λ j u e. each_view N (Over start) is_alone is_call start all (FitsAt [] false 0) (first_view start all ∷ []) 0 (first_view start all)
+    agrees = λ j u e. each_view N (Over start) is_alone is_call start all (AgreesAt [] false 0) (first_view start all ∷ []) 0 (first_view start all)
         record {
           seen = ([], refl);
           told = ([], refl);

@@ -20,8 +20,8 @@ abbrev pub AreSame : List ℕ → List ℕ → Type 0
 AreSame xs ys = (x : ℕ) → times x xs ≡ times x ys
 
 -- one history is another with some entries since
-abbrev pub Continues : {E : Type 0} → List E → List E → Type 0
-Continues {E} log earlier = (since : List E) × (log ≡ since ++ earlier)
+abbrev pub Extends : {E : Type 0} → List E → List E → Type 0
+Extends {E} log earlier = (since : List E) × (log ≡ since ++ earlier)
 
 -- the longer of two histories, and the other
 abbrev pub longer : {E : Type 0} → List E → List E → List E
@@ -35,41 +35,41 @@ module _ {B E : Type 0} where
   abbrev pub first_view : B → ℕ → View B E
   first_view base seats = record { base = base; seats = seats; first = true; parts = seats; seen = []; told = []; mine = []; own = []; holds = false }
 
-  -- the view of a seat that was joined to another
+  -- the view of a seat that was after_join to another
   abbrev pub spent_view : B → View B E
   spent_view base = record { base = base; seats = 0; first = false; parts = 0; seen = []; told = []; mine = []; own = []; holds = false }
 
-  -- the view after it saw the entries that came since
-  abbrev pub saw : List E → View B E → View B E
-  saw since v = record v { seen = since ++ v.seen }
+  -- the view after it after_look the entries that came since
+  abbrev pub after_look : List E → View B E → View B E
+  after_look since v = record v { seen = since ++ v.seen }
 
   -- the same, and the seat holds the turn
-  abbrev pub took : List E → View B E → View B E
-  took since v = record v { seen = since ++ v.seen; holds = true }
+  abbrev pub after_take : List E → View B E → View B E
+  after_take since v = record v { seen = since ++ v.seen; holds = true }
 
-  -- the view after the seat added an entry and gave the turn back
-  abbrev pub gave : (E → Bool) → E → View B E → View B E
-  gave is_call e v = record v { seen = e ∷ v.seen; mine = v.mine ++ (if is_call e then length v.seen ∷ [] else []); own = v.own ++ length v.seen ∷ []; holds = false }
+  -- the view after the seat added an entry and after_give the turn back
+  abbrev pub after_give : (E → Bool) → E → View B E → View B E
+  after_give is_call e v = record v { seen = e ∷ v.seen; mine = v.mine ++ (if is_call e then length v.seen ∷ [] else []); own = v.own ++ length v.seen ∷ []; holds = false }
 
   -- the view after a part was split off
-  abbrev pub parted : View B E → View B E
-  parted v = record v { parts = v.parts - 1 }
+  abbrev pub after_split : View B E → View B E
+  after_split v = record v { parts = v.parts - 1 }
 
   -- the view of the seat that was split off
-  abbrev pub part_of : View B E → View B E
-  part_of v = record { base = v.base; seats = v.seats; first = false; parts = 1; seen = v.seen; told = []; mine = []; own = []; holds = false }
+  abbrev pub part_view : View B E → View B E
+  part_view v = record { base = v.base; seats = v.seats; first = false; parts = 1; seen = v.seen; told = []; mine = []; own = []; holds = false }
 
   -- the view with another's parts, places and history beside its own
-  abbrev pub told_of : View B E → View B E → View B E
-  told_of v w = record v { parts = v.parts + w.parts; told = w.seen; mine = v.mine ++ w.mine; own = v.own ++ w.own }
+  abbrev pub with_told : View B E → View B E → View B E
+  with_told v w = record v { parts = v.parts + w.parts; told = w.seen; mine = v.mine ++ w.mine; own = v.own ++ w.own }
 
   -- the longer of the two histories alone
-  abbrev pub settled : View B E → View B E
-  settled v = record v { seen = longer v.seen v.told; told = [] }
+  abbrev pub after_compare : View B E → View B E
+  after_compare v = record v { seen = longer v.seen v.told; told = [] }
 
-  -- the view after another was joined to it
-  abbrev pub joined : View B E → View B E → View B E
-  joined v w = record v { parts = v.parts + w.parts; seen = longer v.seen w.seen; told = []; mine = v.mine ++ w.mine; own = v.own ++ w.own }
+  -- the view after another was after_join to it
+  abbrev pub after_join : View B E → View B E → View B E
+  after_join v w = record v { parts = v.parts + w.parts; seen = longer v.seen w.seen; told = []; mine = v.mine ++ w.mine; own = v.own ++ w.own }
 
   -- a seat with all parts added each entry that it has seen, and no other: its places are all, each once, and those of the calls are in `mine`
   abbrev pub IsWhole : (E → Bool) → View B E → Type 0

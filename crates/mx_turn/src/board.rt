@@ -2,17 +2,17 @@
 ghost use Rattle.std.specs.Prelude.{◌≡◌};
 
 use crate::logged::Logged;
-use crate::rule::{Kept, OneHistory, Opening};
+use crate::rule::{Beginning, OneHistory, SlotValue};
 use crate::view::View;
 use std::alloc::Global;
 use std::sync::atomic::AtomicU64;
 
-pub(crate) type Slot<T> = Option<Kept<T, <T as Logged>::Note>>;
+pub(crate) type SlotContent<T> = Option<SlotValue<T, <T as Logged>::Note>>;
 
 pub(crate) type Board<T> = atomic_table::Table<
-    Slot<T>,
+    SlotContent<T>,
     View<<T as Logged>::Base, <T as Logged>::Entry>,
-    Opening<T>,
+    Beginning<T>,
     OneHistory<T>,
     Global,
 >;
@@ -27,7 +27,10 @@ pub struct Turn<T: Logged> {
 }
 
 /// A thread's access to one turn, and what it knows of the history. It has no bytes.
-pub type Seat<T> = atomic_table::Seat<Slot<T>, View<<T as Logged>::Base, <T as Logged>::Entry>>;
+pub type Seat<T> = atomic_table::Seat<
+    SlotContent<T>,
+    View<<T as Logged>::Base, <T as Logged>::Entry>,
+>;
 
 /// The value, while a seat holds the turn. It isn't `Drop`: give it back by `Turn::give`.
 pub struct Held<T> {

@@ -1,7 +1,6 @@
 //! What a value behind a turn means.
 ghost use Rattle.std.specs.Prelude.{Bool, List};
 
-
 /// A value that stands for a list of entries, the newest first, over a base.
 pub trait Logged: Drop {
     /// What the history begins from.
@@ -16,7 +15,7 @@ pub trait Logged: Drop {
     /// The base that a value is now.
     ghost start: { Self → Self.Base };
 
-    /// The base of a seat that was joined to another.
+    /// The base of a seat that was after_join to another.
     ghost nowhere: { Self.Base };
 
     /// Over the base the value stands for the entries.

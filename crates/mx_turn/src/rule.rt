@@ -8,14 +8,14 @@ use std::snapshot::Snapshot;
 
 /// What the slot keeps: the value, and what its last holder told of its entry.
 #[derive(Drop)]
-pub struct Kept<T, N> {
+pub struct SlotValue<T, N> {
     pub(crate) value: T,
     pub(crate) note: Option<Snapshot<N>>,
 }
 
 /// What the table is told when it is made.
 #[derive(Drop)]
-pub struct Opening<T> {
+pub struct Beginning<T> {
     pub(crate) value: Snapshot<T>,
     pub(crate) seats: u32,
 }
@@ -25,7 +25,7 @@ pub struct OneHistory<T> {
     value: PhantomData<T>,
 }
 
-impl<T: Logged> TableRule<Option<Kept<T, T::Note>>, View<T::Base, T::Entry>, Opening<T>>
+impl<T: Logged> TableRule<Option<SlotValue<T, T::Note>>, View<T::Base, T::Entry>, Beginning<T>>
     for OneHistory<T> {
     ghost use Rattle.mx_turn.specs.Rule.{IsTurn};
     ghost use Rattle.mx_turn.specs.Views.{first_view};
@@ -38,7 +38,7 @@ impl<T: Logged> TableRule<Option<Kept<T, T::Note>>, View<T::Base, T::Entry>, Ope
 /// A load, which sees all entries.
 pub(crate) struct Look;
 
-impl<T: Logged> Play<Option<Kept<T, T::Note>>, View<T::Base, T::Entry>> for Look {
+impl<T: Logged> Play<Option<SlotValue<T, T::Note>>, View<T::Base, T::Entry>> for Look {
     ghost use Rattle.mx_turn.specs.Steps.{Looks};
 
     ghost then = { λ _. Looks T.is_call };
@@ -47,7 +47,7 @@ impl<T: Logged> Play<Option<Kept<T, T::Note>>, View<T::Base, T::Entry>> for Look
 /// The step that takes the turn where it is free.
 pub(crate) struct Take;
 
-impl<T: Logged> Play<Option<Kept<T, T::Note>>, View<T::Base, T::Entry>> for Take {
+impl<T: Logged> Play<Option<SlotValue<T, T::Note>>, View<T::Base, T::Entry>> for Take {
     ghost use Rattle.mx_turn.specs.Steps.{Takes};
 
     ghost then = { λ _. Takes T.stands T.is_call };
@@ -56,7 +56,7 @@ impl<T: Logged> Play<Option<Kept<T, T::Note>>, View<T::Base, T::Entry>> for Take
 /// The step that gives the turn back with one entry more.
 pub(crate) struct Give;
 
-impl<T: Logged> Play<Option<Kept<T, T::Note>>, View<T::Base, T::Entry>> for Give {
+impl<T: Logged> Play<Option<SlotValue<T, T::Note>>, View<T::Base, T::Entry>> for Give {
     ghost use Rattle.mx_turn.specs.Steps.{Gives};
 
     ghost then = { λ _. Gives T.is_call T.entry_of };
@@ -65,7 +65,7 @@ impl<T: Logged> Play<Option<Kept<T, T::Note>>, View<T::Base, T::Entry>> for Give
 /// A load that compares the two histories of a seat.
 pub(crate) struct Compare;
 
-impl<T: Logged> Play<Option<Kept<T, T::Note>>, View<T::Base, T::Entry>> for Compare {
+impl<T: Logged> Play<Option<SlotValue<T, T::Note>>, View<T::Base, T::Entry>> for Compare {
     ghost use Rattle.mx_turn.specs.Steps.{Compares};
 
     ghost then = { λ _ before _. Compares before };
@@ -75,11 +75,11 @@ impl<T: Logged> Play<Option<Kept<T, T::Note>>, View<T::Base, T::Entry>> for Comp
 pub(crate) struct Cut;
 
 impl<B, E> Split<View<B, E>> for Cut {
-    ghost use Rattle.mx_turn.specs.Views.{part_of, parted};
+    ghost use Rattle.mx_turn.specs.Views.{part_view, after_split};
 
-    ghost left = { parted };
+    ghost left = { after_split };
 
-    ghost right = { part_of };
+    ghost right = { part_view };
 }
 
 /// The parts of two seats in one.
@@ -88,9 +88,9 @@ pub(crate) struct Glue<T> {
 }
 
 impl<T: Logged> Join<View<T::Base, T::Entry>> for Glue<T> {
-    ghost use Rattle.mx_turn.specs.Views.{spent_view, told_of};
+    ghost use Rattle.mx_turn.specs.Views.{spent_view, with_told};
 
-    ghost both = { told_of };
+    ghost both = { with_told };
 
     ghost spent = { spent_view T.nowhere };
 }

@@ -1,12 +1,12 @@
 //! The calls of a turn.
 ghost use Rattle.std.specs.Prelude.{◌≡◌, ℕ, ◌+◌, ◌<◌, ◌≤◌, true, [], ◌∷◌, length, IfOk, MatchResult, suc};
 ghost use Rattle.mx_turn.specs.Rule.{max_count};
-ghost use Rattle.mx_turn.specs.Views.{Continues, first_view, gave, joined, longer, part_of, parted, shorter};
+ghost use Rattle.mx_turn.specs.Views.{Extends, first_view, after_give, after_join, longer, part_view, after_split, shorter};
 ghost use Rattle.mx_turn.specs.Seats.{HasSeen, HasTaken, IsBusy, IsClosed, IsHolding, IsIdle, IsOf};
 
 use crate::board::{Busy, Held, Seat, Turn};
 use crate::logged::Logged;
-use crate::rule::{Compare, Cut, Give, Glue, Kept, Look, Opening, Take};
+use crate::rule::{Beginning, Compare, Cut, Give, Glue, Look, SlotValue, Take};
 use atomic_table::Table;
 use std::alloc::{AllocError, Global};
 use std::hint;
@@ -23,23 +23,19 @@ const MAX_LOOKS: u32 = 100;
 
 impl<T: Logged> Turn<T> {
     /// A turn over this value with its first seat, which has all parts.
-    pub fn new(
-        alloc: Global,
-        value: T,
-        seats: u32,
-    ) -> Result<(Turn<T>, Seat<T>), AllocError>
+    pub fn new(alloc: Global, value: T, seats: u32) -> Result<(Turn<T>, Seat<T>), AllocError>
         requires seats { 0 < seats }
         requires empty { T.stands (T.start value) value [] }
         ensures of { IfOk result (λ made. IsOf made.0.board.shared.table_id made.1) }
         ensures first { IfOk result (λ made. made.1.me ≡ (first_view (T.start value) seats, [])) }
         ensures idle { IfOk result (λ made. IsIdle made.1.me) }
     {
-        let opening = Opening {
+        let opening = Beginning {
             value: Snapshot::of(&value),
             seats,
         };
         let mut slots = Vec::with_capacity(alloc, 1)?;
-        slots.push(Some(Kept { value, note: None }))?;
+        slots.push(Some(SlotValue { value, note: None }))?;
         let Ok((board, seat)) = Table::new(alloc, &[0], slots, &opening) else {
             return Err(AllocError);
         };
@@ -108,13 +104,15 @@ impl<T: Logged> Turn<T> {
         requires stands { T.stands seat.old.me.0.base held.value (T.entry_of note.now ∷ seat.old.me.0.seen) }
         requires alone { T.is_alone (T.entry_of note.now) ≡ true → seat.old.me.0.first ≡ true }
         ensures of { IsOf self.now.board.shared.table_id seat.new × (seat.new.id ≡ seat.old.id) }
-        ensures gave { seat.new.me ≡ (gave T.is_call (T.entry_of note.now) seat.old.me.0, []) }
+        ensures view { seat.new.me ≡ (after_give T.is_call (T.entry_of note.now) seat.old.me.0, []) }
         ensures idle { IsIdle seat.new.me }
         ensures count { result ≡ length seat.new.me.0.seen }
     {
         let Held { value, sealed: _ } = held;
         let note = Some(Snapshot::of(note));
-        self.board.shared.exchange(seat, 0, Some(Kept { value, note }));
+        self.board
+            .shared
+            .exchange(seat, 0, Some(SlotValue { value, note }));
         let word = self.board.shared.fetch_add::<Give>(seat, 0, 1);
         if self.parked.load(SeqCst) > 0 {
             self.board.shared.wake_one(0);
@@ -139,10 +137,10 @@ impl<T: Logged> Turn<T> {
         requires idle { IsIdle seat.old.me }
         requires parts { 1 < seat.old.me.0.parts }
         ensures of { IsOf self.now.board.shared.table_id seat.new × (seat.new.id ≡ seat.old.id) }
-        ensures kept { seat.new.me ≡ (parted seat.old.me.0, []) }
+        ensures view { seat.new.me ≡ (after_split seat.old.me.0, []) }
         ensures idle { IsIdle seat.new.me }
         ensures new_of { IsOf self.now.board.shared.table_id result }
-        ensures new { result.me ≡ (part_of seat.old.me.0, []) }
+        ensures new_view { result.me ≡ (part_view seat.old.me.0, []) }
         ensures new_idle { IsIdle result.me }
     {
         self.board.shared.split_seat::<Cut>(seat)
@@ -155,8 +153,8 @@ impl<T: Logged> Turn<T> {
         requires idle { IsIdle seat.old.me }
         requires other_idle { IsIdle other.me }
         ensures of { IsOf self.now.board.shared.table_id seat.new × (seat.new.id ≡ seat.old.id) }
-        ensures joined { seat.new.me ≡ (joined seat.old.me.0 other.me.0, []) }
-        ensures one { Continues (longer seat.old.me.0.seen other.me.0.seen) (shorter seat.old.me.0.seen other.me.0.seen) }
+        ensures view { seat.new.me ≡ (after_join seat.old.me.0 other.me.0, []) }
+        ensures one { Extends (longer seat.old.me.0.seen other.me.0.seen) (shorter seat.old.me.0.seen other.me.0.seen) }
         ensures idle { IsIdle seat.new.me }
     {
         self.board.shared.join_seat::<Glue<T>>(seat, other);
@@ -172,8 +170,8 @@ impl<T: Logged> Turn<T> {
     {
         let Turn { board, parked: _ } = self;
         let mut closed = board.close_with(seat);
-        let kept = closed.take(0).unwrap();
+        let content = closed.take(0).unwrap();
         closed.free();
-        kept.value
+        content.value
     }
 }
