@@ -6,9 +6,9 @@ use lib.ListN.{get_elem?}
 use Rattle.atomic_table.specs.Table.{Allows, Final, Me, Seen, opening, rest}
 use Rattle.mx_turn.specs.declared.view.View.{View}
 use Rattle.mx_turn.specs.declared.rule.SlotValue.{SlotValue}
-use Rattle.mx_turn.specs.Views.{AreSame, IsWhole, all_places, first_view, after_give, places}
-use Rattle.mx_turn.specs.Rule.{IsTurn, max_count}
-use Rattle.mx_turn.specs.Seats.{HasTaken, IsClosed, IsHolding, IsIdle}
+use Rattle.mx_turn.specs.Views.{AreSame, IsWhole, all_places, first_view, places}
+use Rattle.mx_turn.specs.Rule.{max_count}
+use Rattle.mx_turn.specs.Seats.{HasTaken, IsClosed, IsIdle}
 use Rattle.mx_turn.specs.Steps.{Gives, Takes}
 use Rattle.mx_turn.proofs.RuleLaws.{Rule, whole}
 use Rattle.mx_turn.proofs.StepLaws.{closes, gives_back, starts}

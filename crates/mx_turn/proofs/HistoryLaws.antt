@@ -1,5 +1,5 @@
 -- Places, and histories that continue another.
-use Rattle.std.proofs.Common.{◌≡◌, ℕ, zero, suc, ◌+◌, ◌<◌, ◌≤◌, eqb, Bool, true, false, cond, List, [], ◌∷◌, ◌++◌, length, count_by, sym, refl, ap, ◌∙◌, subst, ⊎_elim, inl, inr, ◌⊎◌, arith, length-append, append_assoc}
+use Rattle.std.proofs.Common.{◌≡◌, ℕ, ◌+◌, ◌<◌, ◌≤◌, eqb, Bool, cond, List, [], ◌∷◌, ◌++◌, length, count_by, sym, refl, ap, ◌∙◌, subst, inl, inr, arith, length-append}
 use Rattle.std.proofs.lemmas.List.Sums.{sum_by-append}
 use Rattle.std.proofs.lemmas.Bool.{cases_lt, lt-ltb, le-ltb}
 use Rattle.mx_turn.specs.Views.{Extends, longer, shorter, times}
@@ -26,7 +26,7 @@ module _ {E : Type 0} where
   ends (x ∷ xs) [] a b e le = let n = ap length e in absurd (omega (arith, n, length-append xs a))
   ends (x ∷ xs) (y ∷ ys) a b e le = ends xs ys a b (cc) le
 
-  picked : (P : List E → List E → Type 0) (a b : List E) → (length a < length b → P b a) → (length b ≤ length a → P a b) → P (longer a b) (shorter a b)
+  pub picked : (P : List E → List E → Type 0) (a b : List E) → (length a < length b → P b a) → (length b ≤ length a → P a b) → P (longer a b) (shorter a b)
   picked P a b less more = elim (cases_lt (length a) (length b)) [
     | inl h ↦ subst (λ (t : Bool). P (cond t b a) (cond t a b)) (sym (lt-ltb (length a) (length b) h)) (less h)
     | inr h ↦ subst (λ (t : Bool). P (cond t b a) (cond t a b)) (sym (le-ltb (length a) (length b) h)) (more h)

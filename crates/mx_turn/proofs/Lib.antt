@@ -3,3 +3,6 @@ mod HistoryLaws
 mod RuleLaws
 mod StepLaws
 mod CallLaws
+mod PlaceLaws
+mod CountingLaws
+mod Crossing

@@ -1,26 +1,24 @@
 -- Each step of a turn keeps the rule.
-use Rattle.std.proofs.Common.{◌≡◌, ◌≢◌, ℕ, zero, suc, ◌+◌, ◌-◌, ◌*◌, ◌/◌, ◌%◌, ◌^◌, ◌<◌, ◌≤◌, bit_and, bit_or, Bool, true, false, cond, List, [], ◌∷◌, ◌++◌, map, length, get_or, set, sym, refl, ap, ◌∙◌, subst, ⊎_elim, inl, inr, ◌⊎◌, arith, Option, Some, None, count_by, length-append, append-nil}
+use Rattle.std.proofs.Common.{◌≡◌, ℕ, zero, suc, ◌+◌, ◌/◌, ◌%◌, ◌^◌, ◌<◌, ◌≤◌, bit_and, bit_or, Bool, true, false, cond, List, [], ◌∷◌, ◌++◌, length, get_or, set, sym, refl, ap, ◌∙◌, subst, ⊎_elim, inl, inr, ◌⊎◌, arith, Option, Some, None, count_by, append-nil}
 use Rattle.std.specs.declared.snapshot.Snapshot.{Snapshot}
 use Rattle.std.proofs.lemmas.Bool.{cases_lt, true≢false}
 use Rattle.std.specs.Int.Bits.{or_add_and}
 use Rattle.std.proofs.lemmas.Nat.Bits.{shr_and_one}
-use Rattle.std.specs.List.{sum_by}
 use Rattle.std.proofs.lemmas.List.Sums.{sum_by-cons}
 use mathlib.Core.Logic.{dite}
-use mathlib.Core.Option.{none, some, some-injective, some-ne-none}
-use mathlib.Core.Option as maybe
+use mathlib.Core.Option.{none, some, some-ne-none}
 use native.Mathlib.Decide.{ℕ_discrete}
 use lib.ListN.{get_elem?}
-use Rattle.atomic_table.specs.Table.{Act, Allows, Joins, Me, Seen, Splits, State, Step, Valid, carried_after, gives, keeps, opening, step, stepped, takes}
-use Rattle.atomic_table.proofs.Lists.{at_longer, at_set, at_snoc, set_again, set_else, set_here}
+use Rattle.atomic_table.specs.Table.{Act, Allows, Joins, Me, Splits, Valid, carried_after, gives, keeps, opening, stepped, takes}
+use Rattle.atomic_table.proofs.Lists.{at_longer, at_snoc, set_else, set_here}
 use Rattle.mx_turn.specs.declared.view.View.{View}
 use Rattle.mx_turn.specs.declared.rule.SlotValue.{SlotValue}
-use Rattle.mx_turn.specs.Views.{AreSame, Extends, IsWhole, all_places, first_view, after_give, longer, part_view, after_split, places, after_look, after_compare, shorter, spent_view, times, with_told, after_take}
-use Rattle.mx_turn.specs.Rule.{Agrees, IsTurn, max_count}
+use Rattle.mx_turn.specs.Views.{AreSame, Extends, all_places, first_view, after_give, longer, part_view, after_split, places, after_look, after_compare, spent_view, times, with_told, after_take}
+use Rattle.mx_turn.specs.Rule.{max_count}
 use Rattle.mx_turn.specs.Steps.{Compares, Gives, Looks, Takes}
 use Rattle.mx_turn.proofs.SumLaws.{sum_more, sum_set}
-use Rattle.mx_turn.proofs.HistoryLaws.{extends_length, extends_more, extends_self, longer_counts, extends_longer, one_history, times_append}
-use Rattle.mx_turn.proofs.RuleLaws.{Change, AgreesIn, Homes, Rule, St, each_view, length_at, not_holder, others_spent, rule_step, whole}
+use Rattle.mx_turn.proofs.HistoryLaws.{extends_length, extends_more, longer_counts, extends_longer, one_history, times_append}
+use Rattle.mx_turn.proofs.RuleLaws.{AgreesIn, Rule, St, each_view, length_at, not_holder, others_spent, rule_step, whole}
 
 -- the bit for held is the lowest
 or_one : (n : ℕ) → bit_or n 1 + n % 2 ≡ n + 1

@@ -1,5 +1,5 @@
 -- What a seat knows of the one history, and what each call makes of it. The newest entry of a history stands first, and the place of an entry is the number of entries before it.
-use Rattle.std.specs.Prelude.{◌≡◌, ℕ, ◌+◌, ◌-◌, ◌<◌, ◌==◌, nat_lt, Bool, true, false, if◌then◌else◌, List, [], ◌∷◌, ◌++◌, length, count_by}
+use Rattle.std.specs.Prelude.{◌≡◌, ℕ, ◌+◌, ◌-◌, ◌==◌, nat_lt, Bool, true, false, if◌then◌else◌, List, [], ◌∷◌, ◌++◌, length, count_by}
 use Rattle.mx_turn.specs.declared.view.View.{View}
 
 -- the places of the entries that pass a test, in rising order

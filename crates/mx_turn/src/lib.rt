@@ -2,6 +2,7 @@
 #![tactic(auto)]
 
 mod board;
+pub mod counter;
 mod logged;
 mod rule;
 mod turn;

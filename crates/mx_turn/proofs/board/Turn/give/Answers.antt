@@ -1,4 +1,4 @@
-use Rattle.std.proofs.Common.{rules, ◌≡◌, true, Some, ◌∷◌, List, sym, refl, ap, ◌∙◌, subst}
+use Rattle.std.proofs.Common.{rules, ◌≡◌, true, Some, ◌∷◌, sym, refl, ap, ◌∙◌, subst}
 use Rattle.atomic_table.specs.Table.{rest}
 use Rattle.mx_turn.proofs.CallLaws.{gives_held}
 use Rattle.mx_turn.proofs.board.Turn.give.Goals as goal
