@@ -1,17 +1,17 @@
 -- What the calls make of what their steps tell.
-use Rattle.std.proofs.Common.{◌≡◌, ℕ, ◌+◌, ◌/◌, ◌%◌, ◌^◌, ◌<◌, Bool, true, List, [], ◌∷◌, length, sym, refl, ap, ◌∙◌, subst, arith, Option, Some, None}
+use Rattle.std.proofs.Common.{◌≡◌, ℕ, ◌+◌, ◌/◌, ◌%◌, ◌^◌, ◌<◌, Bool, true, false, List, [], ◌∷◌, length, sym, refl, ap, ◌∙◌, subst, arith, Option, Some, None}
 use Rattle.std.specs.declared.snapshot.Snapshot.{Snapshot}
 use mathlib.Core.Option.{some, some-injective}
 use lib.ListN.{get_elem?}
 use Rattle.atomic_table.specs.Table.{Allows, Final, Me, Seen, opening, rest}
 use Rattle.mx_turn.specs.declared.view.View.{View}
 use Rattle.mx_turn.specs.declared.rule.SlotValue.{SlotValue}
-use Rattle.mx_turn.specs.Views.{AreSame, IsWhole, all_places, first_view, places}
+use Rattle.mx_turn.specs.Views.{AreSame, IsWhole, all_places, first_view, places, with_told}
 use Rattle.mx_turn.specs.Rule.{max_count}
 use Rattle.mx_turn.specs.Seats.{HasTaken, IsClosed, IsIdle}
-use Rattle.mx_turn.specs.Steps.{Gives, Takes}
+use Rattle.mx_turn.specs.Steps.{Compares, Gives, Takes}
 use Rattle.mx_turn.proofs.RuleLaws.{Rule, whole}
-use Rattle.mx_turn.proofs.StepLaws.{closes, gives_back, starts}
+use Rattle.mx_turn.proofs.StepLaws.{closes, compares, gives_back, starts}
 
 module _ {B E T : Type 0} (N : Type 0) (Over : B → T → List E → Type 0) (is_alone is_call : E → Bool) where
   abbrev M : Type 0
@@ -51,6 +51,12 @@ module _ {B E T : Type 0} (N : Type 0) (Over : B → T → List E → Type 0) (i
   gives_held start all entry_of slots id v m kept note is holds live noted stands alone =
       subst (λ (x : M). Allows (Rule N (Over start) is_alone is_call start all) slots id x 0 (λ n. (n + 1) % 2 ^ 64) (Gives is_call entry_of x)) (sym is)
       (gives_back N Over is_alone is_call start all entry_of slots id v kept note holds live noted stands alone)
+
+  -- a seat that took in another compares what the two have seen
+  pub compares_joined : (start : B) (all slots id : ℕ) (v u : View B E) (m : M) → m ≡ (with_told v u, []) → v.holds ≡ false → 0 < v.parts
+      → Allows (Rule N (Over start) is_alone is_call start all) slots id m 0 (λ n. n) (λ _. Compares m)
+  compares_joined start all slots id v u m is idle live = compares N Over is_alone is_call start all slots id m (ap (λ (x : M). x.0.holds) is ∙ idle)
+      (let p = ap (λ (x : M). x.0.parts) is in omega arith)
 
   -- what `close` finds in the slot
   pub closed : (start : B) (all id : ℕ) (me : M) (words : List ℕ) (slots : List (Option (SlotValue T N))) (found : Option (SlotValue T N))

@@ -8,8 +8,8 @@ use native.Mathlib.Decide.{ℕ_discrete}
 use Rattle.mx_turn.specs.declared.view.View.{View}
 use Rattle.mx_turn.specs.declared.counter.Added.{Added}
 use Rattle.mx_turn.specs.declared.counter.Share.{Share}
-use Rattle.mx_turn.specs.Views.{AreSame, Extends, after_give, after_join, after_look, after_split, after_take, all_places, first_view, longer, part_view, shorter}
-use Rattle.mx_turn.specs.Counting.{HasAdded, HasAll, IsSum, amount_at, total, total_of}
+use Rattle.mx_turn.specs.Views.{AreSame, Extends, after_give, after_join, after_look, after_split, after_take, all_places, first_view, longer_history, part_view, shorter_history}
+use Rattle.mx_turn.specs.Counting.{HasCounted, HasAll, IsSum, amount_at, total, total_of}
 use Rattle.mx_turn.proofs.HistoryLaws.{picked}
 use Rattle.mx_turn.proofs.PlaceLaws.{same_count, weigh_alike, weigh_places, weigh_same}
 
@@ -45,7 +45,7 @@ extends_through : (a b c : List Added) → Extends a b → Extends b c → Exten
 extends_through a b c ab bc = (ab.0 ++ bc.0, ab.1 ∙ ap (λ (l : List Added). ab.0 ++ l) bc.1 ∙ sym (append_assoc ab.0 bc.0 c))
 
 -- a turn more
-pub adds_one : (amount often : ℕ) (old v : Seen) (since : List Added) (e : Added) → old.holds ≡ false → e.amount ≡ amount → HasAdded amount often old v → HasAdded amount (often + 1) old (after_give (λ _. true) e (after_take since v))
+pub adds_one : (amount often : ℕ) (old v : Seen) (since : List Added) (e : Added) → old.holds ≡ false → e.amount ≡ amount → HasCounted amount often old v → HasCounted amount (often + 1) old (after_give (λ _. true) e (after_take since v))
 adds_one amount often old v since e idle is h = let log = since ++ v.seen in let place = length log in record {
   more = h.more ++ place ∷ [];
   same = λ i. record {
@@ -79,20 +79,20 @@ known : (log : List Added) (amount : ℕ) (places : List ℕ) → AllByRecursion
 known log amount [] all = tt
 known log amount (x ∷ xs) all = (ap (λ (o : Option ℕ). unwrap_or o 0) all.0, known log amount xs all.1)
 
-longer_both : (a b : List Added) → Extends (longer a b) (shorter a b) → Extends (longer a b) a × Extends (longer a b) b
+longer_both : (a b : List Added) → Extends (longer_history a b) (shorter_history a b) → Extends (longer_history a b) a × Extends (longer_history a b) b
 longer_both a b one = picked (λ l s. Extends l s → Extends l a × Extends l b) a b (λ _ c. (c, ([], refl))) (λ _ c. (([], refl), c)) one
 
 -- Two threads' seats, joined
-pub has_all : (base : ℕ) (first second : Share) (v w : Seen) (since : List Added) → HasAdded first.amount first.times (after_split (first_view base 2)) v → HasAdded second.amount second.times (part_view (first_view base 2)) w
-    → Extends (longer v.seen w.seen) (shorter v.seen w.seen)
+pub has_all : (base : ℕ) (first second : Share) (v w : Seen) (since : List Added) → HasCounted first.amount first.times (after_split (first_view base 2)) v → HasCounted second.amount second.times (part_view (first_view base 2)) w
+    → Extends (longer_history v.seen w.seen) (shorter_history v.seen w.seen)
     → (let all : Seen = after_look since (after_join v w) in all.parts ≡ all.seats → AreSame all.mine (all_places all.seen) × AreSame all.own (all_places all.seen))
     → HasAll first second (after_look since (after_join v w))
 has_all base first second v w since a b one whole = let all : Seen = after_look since (after_join v w) in let both = longer_both v.seen w.seen one in
     let parts = ap (λ (x : Seen). x.parts) a.same in let parts' = ap (λ (x : Seen). x.parts) b.same in let seats = ap (λ (x : Seen). x.seats) a.same in
     let is : all.parts ≡ all.seats = omega arith in let same = whole is in
     let own : all.own ≡ a.more ++ b.more = λ i. (a.same i).own ++ (b.same i).own in
-    let left = known all.seen first.amount a.more (all_since all.seen v.seen first.amount a.more (extends_through all.seen (longer v.seen w.seen) v.seen (since, refl) both.0) a.amounts) in
-    let right = known all.seen second.amount b.more (all_since all.seen w.seen second.amount b.more (extends_through all.seen (longer v.seen w.seen) w.seen (since, refl) both.1) b.amounts) in record {
+    let left = known all.seen first.amount a.more (all_since all.seen v.seen first.amount a.more (extends_through all.seen (longer_history v.seen w.seen) v.seen (since, refl) both.0) a.amounts) in
+    let right = known all.seen second.amount b.more (all_since all.seen w.seen second.amount b.more (extends_through all.seen (longer_history v.seen w.seen) w.seen (since, refl) both.1) b.amounts) in record {
       entries = same.1;
       calls = same.0;
       count = let n = same_count all.own all.seen same.1 in let l = ap length own in let m = length-append a.more b.more in let c = a.count in let d = b.count in omega arith;

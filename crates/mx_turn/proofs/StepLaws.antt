@@ -13,7 +13,7 @@ use Rattle.atomic_table.specs.Table.{Act, Allows, Joins, Me, Splits, Valid, carr
 use Rattle.atomic_table.proofs.Lists.{at_longer, at_snoc, set_else, set_here}
 use Rattle.mx_turn.specs.declared.view.View.{View}
 use Rattle.mx_turn.specs.declared.rule.SlotValue.{SlotValue}
-use Rattle.mx_turn.specs.Views.{AreSame, Extends, all_places, first_view, after_give, longer, part_view, after_split, places, after_look, after_compare, spent_view, times, with_told, after_take}
+use Rattle.mx_turn.specs.Views.{AreSame, Extends, all_places, first_view, after_give, longer_history, part_view, after_split, places, after_look, after_compare, spent_view, times, with_told, after_take}
 use Rattle.mx_turn.specs.Rule.{max_count}
 use Rattle.mx_turn.specs.Steps.{Compares, Gives, Looks, Takes}
 use Rattle.mx_turn.proofs.SumLaws.{sum_more, sum_set}
@@ -101,7 +101,7 @@ module _ {B E T : Type 0} (N : Type 0) (Over : B → T → List E → Type 0) (i
     after_compare v,
     keeps,
     tt,
-    sees s r id v (longer v.seen v.told) [] at idle live (extends_longer r.log v.seen v.told f.seen f.told) (r.log, sym (append-nil r.log))
+    sees s r id v (longer_history v.seen v.told) [] at idle live (extends_longer r.log v.seen v.told f.seen f.told) (r.log, sym (append-nil r.log))
         (λ h. longer_counts is_alone r.log v.seen v.told f.seen f.told (f.first h).1),
     record { after = refl; one = one_history r.log v.seen v.told f.seen f.told },
   )

@@ -24,7 +24,7 @@ abbrev pub total_of : Share → Share → ℕ
 total_of first second = first.amount * first.times + second.amount * second.times
 
 -- The seat has added a number so often, and nothing else
-pub record HasAdded (amount often : ℕ) (old new : View ℕ Added) : Type 0 where
+pub record HasCounted (amount often : ℕ) (old new : View ℕ Added) : Type 0 where
   pub more : List ℕ
   pub same : new ≡ record old { seen = new.seen; mine = old.mine ++ more; own = old.own ++ more }
   pub extends : Extends new.seen old.seen

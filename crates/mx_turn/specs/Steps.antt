@@ -4,7 +4,7 @@ use Rattle.std.specs.declared.snapshot.Snapshot.{Snapshot}
 use Rattle.atomic_table.specs.Table.{Me}
 use Rattle.mx_turn.specs.declared.view.View.{View}
 use Rattle.mx_turn.specs.declared.rule.SlotValue.{SlotValue}
-use Rattle.mx_turn.specs.Views.{Extends, IsWhole, after_give, longer, after_look, after_compare, shorter, after_take}
+use Rattle.mx_turn.specs.Views.{Extends, IsWhole, after_give, longer_history, after_look, after_compare, shorter_history, after_take}
 use Rattle.mx_turn.specs.Rule.{max_count}
 
 abbrev pub Sat : (B E T N : Type 0) → Type 0
@@ -37,7 +37,7 @@ module _ {B E T N : Type 0} where
     pub count : n / 2 ≡ length m.0.seen
     pub after : (kept : SlotValue T N) (note : Snapshot N) → m.1 ≡ (0, Some kept) ∷ [] → kept.note ≡ Some note → m' ≡ (after_give is_call (entry_of note.value) m.0, [])
 
-  -- of two histories that a seat was told the longer remains, of which the shorter is an earlier one
+  -- of the two histories of a seat the longer remains, of which the shorter is an earlier one
   pub record Compares (m : Sat B E T N) (m' : Sat B E T N) : Type 0 where
     pub after : m' ≡ (after_compare m.0, m.1)
-    pub one : Extends (longer m.0.seen m.0.told) (shorter m.0.seen m.0.told)
+    pub one : Extends (longer_history m.0.seen m.0.told) (shorter_history m.0.seen m.0.told)

@@ -24,11 +24,11 @@ abbrev pub Extends : {E : Type 0} → List E → List E → Type 0
 Extends {E} log earlier = (since : List E) × (log ≡ since ++ earlier)
 
 -- the longer of two histories, and the other
-abbrev pub longer : {E : Type 0} → List E → List E → List E
-longer a b = if nat_lt (length a) (length b) then b else a
+abbrev pub longer_history : {E : Type 0} → List E → List E → List E
+longer_history a b = if nat_lt (length a) (length b) then b else a
 
-abbrev pub shorter : {E : Type 0} → List E → List E → List E
-shorter a b = if nat_lt (length a) (length b) then a else b
+abbrev pub shorter_history : {E : Type 0} → List E → List E → List E
+shorter_history a b = if nat_lt (length a) (length b) then a else b
 
 module _ {B E : Type 0} where
   -- the view of the seat that `new` gives
@@ -65,11 +65,11 @@ module _ {B E : Type 0} where
 
   -- the longer of the two histories alone
   abbrev pub after_compare : View B E → View B E
-  after_compare v = record v { seen = longer v.seen v.told; told = [] }
+  after_compare v = record v { seen = longer_history v.seen v.told; told = [] }
 
   -- the view after another was after_join to it
   abbrev pub after_join : View B E → View B E → View B E
-  after_join v w = record v { parts = v.parts + w.parts; seen = longer v.seen w.seen; told = []; mine = v.mine ++ w.mine; own = v.own ++ w.own }
+  after_join v w = record v { parts = v.parts + w.parts; seen = longer_history v.seen w.seen; told = []; mine = v.mine ++ w.mine; own = v.own ++ w.own }
 
   -- a seat with all parts added each entry that it has seen, and no other: its places are all, each once, and those of the calls are in `mine`
   abbrev pub IsWhole : (E → Bool) → View B E → Type 0

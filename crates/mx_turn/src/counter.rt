@@ -2,7 +2,7 @@
 ghost use Rattle.std.specs.Prelude.{◌≡◌, ℕ, ◌+◌, ◌*◌, ◌%◌, ◌^◌, [], ◌∷◌, IfOk};
 ghost use Rattle.mx_turn.specs.Views.{first_view};
 ghost use Rattle.mx_turn.specs.Seats.{IsIdle, IsOf};
-ghost use Rattle.mx_turn.specs.Counting.{HasAdded, HasAll, total_of};
+ghost use Rattle.mx_turn.specs.Counting.{HasCounted, HasAll, total_of};
 
 use crate::board::{Seat, Turn};
 use crate::logged::Logged;
@@ -64,7 +64,7 @@ pub fn add_share<R: Wait>(
     requires idle { IsIdle seat.me }
     ensures of { IsOf turn.now.board.shared.table_id result }
     ensures idle { IsIdle result.me }
-    ensures added { HasAdded share.amount share.times seat.me.0 result.me.0 }
+    ensures added { HasCounted share.amount share.times seat.me.0 result.me.0 }
 {
     let note = Added {
         amount: share.amount,
@@ -97,11 +97,11 @@ pub fn add_both<R: Threads + Wait + Sync>(
         rt,
         move ||
             requires { IsOf turn.now.board.shared.table_id seat × IsIdle seat.me }
-            ensures { IsOf turn.entry.now.board.shared.table_id result × IsIdle result.me × HasAdded first.amount first.times seat.me.0 result.me.0 }
+            ensures { IsOf turn.entry.now.board.shared.table_id result × IsIdle result.me × HasCounted first.amount first.times seat.me.0 result.me.0 }
         { add_share(rt, turn, seat, first) },
         move ||
             requires { IsOf turn.now.board.shared.table_id other × IsIdle other.me }
-            ensures { IsOf turn.entry.now.board.shared.table_id result × IsIdle result.me × HasAdded second.amount second.times other.me.0 result.me.0 }
+            ensures { IsOf turn.entry.now.board.shared.table_id result × IsIdle result.me × HasCounted second.amount second.times other.me.0 result.me.0 }
         { add_share(rt, turn, other, second) },
     );
     turn.join(&mut seat, other);

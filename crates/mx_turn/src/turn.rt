@@ -1,7 +1,7 @@
 //! The calls of a turn.
 ghost use Rattle.std.specs.Prelude.{◌≡◌, ℕ, ◌+◌, ◌<◌, ◌≤◌, true, [], ◌∷◌, length, IfOk, MatchResult, suc};
 ghost use Rattle.mx_turn.specs.Rule.{max_count};
-ghost use Rattle.mx_turn.specs.Views.{Extends, first_view, after_give, after_join, longer, part_view, after_split, shorter};
+ghost use Rattle.mx_turn.specs.Views.{Extends, first_view, after_give, after_join, longer_history, part_view, after_split, shorter_history};
 ghost use Rattle.mx_turn.specs.Seats.{HasSeen, HasTaken, IsBusy, IsClosed, IsHolding, IsIdle, IsOf};
 
 use crate::board::{Busy, Held, Seat, Turn};
@@ -154,7 +154,7 @@ impl<T: Logged> Turn<T> {
         requires other_idle { IsIdle other.me }
         ensures of { IsOf self.now.board.shared.table_id seat.new × (seat.new.id ≡ seat.old.id) }
         ensures view { seat.new.me ≡ (after_join seat.old.me.0 other.me.0, []) }
-        ensures one { Extends (longer seat.old.me.0.seen other.me.0.seen) (shorter seat.old.me.0.seen other.me.0.seen) }
+        ensures one { Extends (longer_history seat.old.me.0.seen other.me.0.seen) (shorter_history seat.old.me.0.seen other.me.0.seen) }
         ensures idle { IsIdle seat.new.me }
     {
         self.board.shared.join_seat::<Glue<T>>(seat, other);

@@ -2,7 +2,7 @@ use Rattle.std.proofs.Common.{true, sym, ap, ◌∙◌, subst}
 use denote.Param.Send.{sendable, arg_send, param_send}
 use denote.Exit.{yes}
 use Rattle.mx_turn.specs.Views.{IsWhole, after_look, after_split, part_view}
-use Rattle.mx_turn.specs.Counting.{HasAdded, HasAll}
+use Rattle.mx_turn.specs.Counting.{HasCounted, HasAll}
 use Rattle.mx_turn.proofs.Crossing.{captures_send}
 use Rattle.mx_turn.proofs.CountingLaws.{has_all}
 use Rattle.mx_turn.proofs.counter.add_both.Lts as lts
@@ -16,5 +16,5 @@ returns-clause-all g c = let seen = c.front.ensures.seen in let both = c.join-se
     let left = ap (λ m. m.0) c.split-other.ensures.view ∙ ap (λ m. after_split m.0) fresh in let right = ap (λ m. m.0) c.split-other.ensures.new_view ∙ ap (λ m. part_view m.0) fresh in
     let view = ap (λ m. m.0) seen.view ∙ ap (λ m. after_look seen.since m.0) c.join.ensures.view in
     subst (HasAll c.args.first c.args.second) (sym view)
-    (has_all base c.args.first c.args.second c.join-seat.result.0.me.0 c.join-seat.result.1.me.0 seen.since (subst (λ v. HasAdded c.args.first.amount c.args.first.times v c.join-seat.result.0.me.0) left both.first.2)
-    (subst (λ v. HasAdded c.args.second.amount c.args.second.times v c.join-seat.result.1.me.0) right both.second.2) c.join.ensures.one (subst (IsWhole (λ _. true)) view seen.whole))
+    (has_all base c.args.first c.args.second c.join-seat.result.0.me.0 c.join-seat.result.1.me.0 seen.since (subst (λ v. HasCounted c.args.first.amount c.args.first.times v c.join-seat.result.0.me.0) left both.first.2)
+    (subst (λ v. HasCounted c.args.second.amount c.args.second.times v c.join-seat.result.1.me.0) right both.second.2) c.join.ensures.one (subst (IsWhole (λ _. true)) view seen.whole))

@@ -1,5 +1,6 @@
-use Rattle.std.proofs.Common.{rules, arith, ap, ◌∙◌}
-use Rattle.mx_turn.proofs.StepLaws.{compares, joins}
+use Rattle.std.proofs.Common.{rules}
+use Rattle.mx_turn.proofs.StepLaws.{joins}
+use Rattle.mx_turn.proofs.CallLaws.{compares_joined}
 use Rattle.mx_turn.proofs.board.Turn.join.Goals as goal
 
 pub join_seat-requires : goal.join_seat-requires
@@ -12,9 +13,8 @@ join_seat-requires g c = (
 )
 
 pub load-requires : goal.load-requires
-load-requires g c = let is = c.join_seat.ensures.2 in (
+load-requires g c = (
   search rules,
   search rules,
-  compares _ g.T.Logged.stands g.T.Logged.is_alone g.T.Logged.is_call _ _ _ _ c.join_seat.new.seat.me (ap (λ m. m.0.holds) is ∙ c.requires.idle.0)
-      (let p = ap (λ m. m.0.parts) is in let q = c.requires.idle.2 in omega arith),
+  compares_joined _ g.T.Logged.stands g.T.Logged.is_alone g.T.Logged.is_call _ _ _ _ c.args.seat.now.me.0 c.args.other.me.0 _ (search rules) c.requires.idle.0 c.requires.idle.2,
 )
