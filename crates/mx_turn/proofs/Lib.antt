@@ -5,4 +5,4 @@ mod StepLaws
 mod CallLaws
 mod PlaceLaws
 mod CountingLaws
-mod Crossing
+pub mod Crossing

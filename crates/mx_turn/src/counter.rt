@@ -64,6 +64,7 @@ pub fn add_share<R: Wait>(
     requires idle { IsIdle seat.me }
     ensures of { IsOf turn.now.board.shared.table_id result }
     ensures idle { IsIdle result.me }
+    ensures parts { (result.me.0.parts ≡ seat.me.0.parts) × (result.me.0.seats ≡ seat.me.0.seats) }
     ensures added { HasCounted share.amount share.times seat.me.0 result.me.0 }
 {
     let note = Added {

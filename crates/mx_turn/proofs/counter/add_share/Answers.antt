@@ -13,3 +13,6 @@ loop-round-preserved g c = let t = c.take-held.ensures.taken in let e : Added = 
       added = subst (λ v. HasCounted c.args.share.amount (c.loop-round._round + 1) c.args.seat.me.0 v) (sym is)
           (adds_one c.args.share.amount c.loop-round._round c.args.seat.me.0 c.loop-round.seat.me.0 t.since e c.requires.idle.0 refl c.loop-round.invariant.added);
     }
+
+pub returns-clause-parts : goal.returns-clause-parts
+returns-clause-parts g c = let same = c.loop-round.invariant.added.same in (ap (λ v. v.parts) same, ap (λ v. v.seats) same)
