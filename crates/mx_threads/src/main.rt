@@ -11,14 +11,13 @@ use crate::crowd::{sum_of_four, sum_of_one};
 use crate::steps::take_steps;
 use mx_turn::counter::Share;
 use std::alloc::AllocGlobal;
-use std::env;
 use std::env::Env;
-use std::io;
 use std::io::Print;
 use std::process::ExitCode;
 use std::sync::Wait;
 use std::thread::Threads;
 use std::time::{Clock, Instant};
+use std::{env, io};
 
 /// What is asked for.
 #[derive(Clone, Copy, Drop)]

@@ -1,4 +1,3 @@
-use Rattle.std.proofs.Common.{rules}
 use denote.Exit.{yes}
 use denote.Param.Send.{arg_send, param_send, sendable}
 use Rattle.mx_turn.proofs.Crossing.{captures_send}
