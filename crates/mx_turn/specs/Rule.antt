@@ -25,7 +25,7 @@ pub record Agrees {B E : Type 0} (is_alone : E → Bool) (start : B) (all : ℕ)
   -- the first seat has seen each entry that it alone may add
   pub first : v.first ≡ true → (number ≡ 0) × (count_by is_alone log ≡ count_by is_alone v.seen)
 
--- The rule
+-- The rule: there is one history, for which the value stands while it is at home, and each of its entries is one seat's
 pub record IsTurn {B E T N : Type 0} (Stands : T → List E → Type 0) (is_alone is_call : E → Bool) (start : B) (all : ℕ) (s : State (Option (SlotValue T N)) (View B E)) : Type 0 where
   -- the history; 1 while the word says held; whether the slot is out, and with whom
   pub log : List E

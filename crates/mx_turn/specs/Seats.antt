@@ -20,14 +20,14 @@ module _ {X B E : Type 0} where
   abbrev pub IsHolding : Me (Option X) (View B E) → Type 0
   IsHolding me = (me.0.holds ≡ true) × (me.1 ≡ (0, None) ∷ []) × (0 < me.0.parts)
 
-  -- the seat after_look all entries, and nothing else of it changed
+  -- the seat has seen all entries, and nothing else of it changed
   pub record HasSeen (is_call : E → Bool) (old new : Me X (View B E)) : Type 0 where
     pub since : List E
     pub view : new ≡ (after_look since old.0, [])
     pub idle : IsIdle new
     pub whole : IsWhole is_call new.0
 
-  -- the seat holds the turn and after_look all entries, for which the value stands, and nothing else of it changed
+  -- the seat holds the turn and has seen all entries, for which the value stands, and nothing else of it changed
   pub record HasTaken {T : Type 0} (Stands : B → T → List E → Type 0) (is_call : E → Bool) (old new : Me (Option X) (View B E)) (value : T) : Type 0 where
     pub since : List E
     pub view : new ≡ (after_take since old.0, (0, None) ∷ [])

@@ -23,10 +23,11 @@ AreSame xs ys = (x : ℕ) → times x xs ≡ times x ys
 abbrev pub Extends : {E : Type 0} → List E → List E → Type 0
 Extends {E} log earlier = (since : List E) × (log ≡ since ++ earlier)
 
--- the longer of two histories, and the other
+-- the longer of two histories; the first where both are as long
 abbrev pub longer_history : {E : Type 0} → List E → List E → List E
 longer_history a b = if nat_lt (length a) (length b) then b else a
 
+-- the other one
 abbrev pub shorter_history : {E : Type 0} → List E → List E → List E
 shorter_history a b = if nat_lt (length a) (length b) then a else b
 
@@ -35,11 +36,11 @@ module _ {B E : Type 0} where
   abbrev pub first_view : B → ℕ → View B E
   first_view base seats = record { base = base; seats = seats; first = true; parts = seats; seen = []; told = []; mine = []; own = []; holds = false }
 
-  -- the view of a seat that was after_join to another
+  -- the view of a seat that was joined to another
   abbrev pub spent_view : B → View B E
   spent_view base = record { base = base; seats = 0; first = false; parts = 0; seen = []; told = []; mine = []; own = []; holds = false }
 
-  -- the view after it after_look the entries that came since
+  -- the view after the seat saw the entries that came since
   abbrev pub after_look : List E → View B E → View B E
   after_look since v = record v { seen = since ++ v.seen }
 
@@ -47,7 +48,7 @@ module _ {B E : Type 0} where
   abbrev pub after_take : List E → View B E → View B E
   after_take since v = record v { seen = since ++ v.seen; holds = true }
 
-  -- the view after the seat added an entry and after_give the turn back
+  -- the view after the seat added an entry and gave the turn back
   abbrev pub after_give : (E → Bool) → E → View B E → View B E
   after_give is_call e v = record v { seen = e ∷ v.seen; mine = v.mine ++ (if is_call e then length v.seen ∷ [] else []); own = v.own ++ length v.seen ∷ []; holds = false }
 
@@ -63,11 +64,11 @@ module _ {B E : Type 0} where
   abbrev pub with_told : View B E → View B E → View B E
   with_told v w = record v { parts = v.parts + w.parts; told = w.seen; mine = v.mine ++ w.mine; own = v.own ++ w.own }
 
-  -- the longer of the two histories alone
+  -- the view with the longer of its two histories alone
   abbrev pub after_compare : View B E → View B E
   after_compare v = record v { seen = longer_history v.seen v.told; told = [] }
 
-  -- the view after another was after_join to it
+  -- the view after another was joined to it
   abbrev pub after_join : View B E → View B E → View B E
   after_join v w = record v { parts = v.parts + w.parts; seen = longer_history v.seen w.seen; told = []; mine = v.mine ++ w.mine; own = v.own ++ w.own }
 

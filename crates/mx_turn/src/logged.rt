@@ -15,7 +15,7 @@ pub trait Logged: Drop {
     /// The base that a value is now.
     ghost start: { Self → Self.Base };
 
-    /// The base of a seat that was after_join to another.
+    /// The base of a seat that was joined to another.
     ghost nowhere: { Self.Base };
 
     /// Over the base the value stands for the entries.

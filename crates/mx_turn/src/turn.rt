@@ -30,13 +30,13 @@ impl<T: Logged> Turn<T> {
         ensures first { IfOk result (λ made. made.1.me ≡ (first_view (T.start value) seats, [])) }
         ensures idle { IfOk result (λ made. IsIdle made.1.me) }
     {
-        let opening = Beginning {
+        let beginning = Beginning {
             value: Snapshot::of(&value),
             seats,
         };
         let mut slots = Vec::with_capacity(alloc, 1)?;
         slots.push(Some(SlotValue { value, note: None }))?;
-        let Ok((board, seat)) = Table::new(alloc, &[0], slots, &opening) else {
+        let Ok((board, seat)) = Table::new(alloc, &[0], slots, &beginning) else {
             return Err(AllocError);
         };
         let parked = AtomicU64::new(0);

@@ -9,13 +9,13 @@ pub struct View<B, E> {
     pub base: B,
     /// How many parts all seats have together.
     pub seats: u32,
-    /// Whether this is the seat that `Turn::new` after_give.
+    /// Whether this is the seat that `Turn::new` gave.
     pub first: bool,
-    /// How many parts this seat has; none once it was after_join to another.
+    /// How many parts this seat has; none once it was joined to another.
     pub parts: u32,
     /// The history as far as the seat has seen it.
     pub seen: LinkedList<E>,
-    /// What a seat that is being after_join has seen.
+    /// What a seat that is being joined has seen.
     pub told: LinkedList<E>,
     /// The places of the calls that this seat added.
     pub mine: LinkedList<u64>,
