@@ -6,10 +6,10 @@ use lib.ListN.{get_elem?}
 use Rattle.atomic_table.specs.Table.{Allows, Final, Me, Seen, opening, rest}
 use Rattle.mx_turn.specs.declared.view.View.{View}
 use Rattle.mx_turn.specs.declared.rule.SlotValue.{SlotValue}
-use Rattle.mx_turn.specs.Views.{AreSame, IsWhole, all_places, first_view, places, with_told}
+use Rattle.mx_turn.specs.Views.{AreSame, IsWhole, all_places, first_view, places}
 use Rattle.mx_turn.specs.Rule.{max_count}
 use Rattle.mx_turn.specs.Seats.{HasTaken, IsClosed, IsIdle}
-use Rattle.mx_turn.specs.Steps.{Compares, Gives, Takes}
+use Rattle.mx_turn.specs.Steps.{Compares, Gives, Takes, with_told}
 use Rattle.mx_turn.proofs.RuleLaws.{Rule, whole}
 use Rattle.mx_turn.proofs.StepLaws.{closes, compares, gives_back, starts}
 

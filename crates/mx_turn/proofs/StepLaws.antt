@@ -13,9 +13,9 @@ use Rattle.atomic_table.specs.Table.{Act, Allows, Joins, Me, Splits, Valid, carr
 use Rattle.atomic_table.proofs.Lists.{at_longer, at_snoc, set_else, set_here}
 use Rattle.mx_turn.specs.declared.view.View.{View}
 use Rattle.mx_turn.specs.declared.rule.SlotValue.{SlotValue}
-use Rattle.mx_turn.specs.Views.{AreSame, Extends, all_places, first_view, after_give, longer_history, part_view, after_split, places, after_look, after_compare, spent_view, times, with_told, after_take}
+use Rattle.mx_turn.specs.Views.{AreSame, Extends, all_places, first_view, after_give, longer_history, part_view, after_split, places, after_look, times, after_take}
 use Rattle.mx_turn.specs.Rule.{max_count}
-use Rattle.mx_turn.specs.Steps.{Compares, Gives, Looks, Takes}
+use Rattle.mx_turn.specs.Steps.{Compares, Gives, Looks, Takes, after_compare, spent_view, with_told}
 use Rattle.mx_turn.proofs.SumLaws.{sum_more, sum_set}
 use Rattle.mx_turn.proofs.HistoryLaws.{extends_length, extends_more, longer_counts, extends_longer, one_history, times_append}
 use Rattle.mx_turn.proofs.RuleLaws.{AgreesIn, Rule, St, each_view, length_at, not_holder, others_spent, rule_step, whole}

@@ -1,14 +1,28 @@
--- What each step on the table tells, of the seat before, the word that it found and the seat after.
-use Rattle.std.specs.Prelude.{◌≡◌, ℕ, ◌/◌, ◌%◌, ◌<◌, ◌≤◌, ◌⊎◌, Bool, List, [], ◌∷◌, length, Option, Some}
+-- For the rule and its proofs: the views between two steps of one call, and what each step tells, of the seat before, the word that it found and the seat after.
+use Rattle.std.specs.Prelude.{◌≡◌, ℕ, ◌+◌, ◌/◌, ◌%◌, ◌<◌, ◌≤◌, ◌⊎◌, Bool, false, List, [], ◌∷◌, ◌++◌, length, Option, Some}
 use Rattle.std.specs.declared.snapshot.Snapshot.{Snapshot}
 use Rattle.atomic_table.specs.Table.{Me}
 use Rattle.mx_turn.specs.declared.view.View.{View}
 use Rattle.mx_turn.specs.declared.rule.SlotValue.{SlotValue}
-use Rattle.mx_turn.specs.Views.{Extends, IsWhole, after_give, longer_history, after_look, after_compare, shorter_history, after_take}
+use Rattle.mx_turn.specs.Views.{Extends, IsWhole, after_give, after_look, after_take, longer_history, shorter_history}
 use Rattle.mx_turn.specs.Rule.{max_count}
 
+-- a seat's view, and the slots that it holds
 abbrev pub Sat : (B E T N : Type 0) → Type 0
 Sat B E T N = Me (Option (SlotValue T N)) (View B E)
+
+module _ {B E : Type 0} where
+  -- the view of a seat that was joined to another
+  abbrev pub spent_view : B → View B E
+  spent_view base = record { base = base; seats = 0; first = false; parts = 0; seen = []; told = []; mine = []; own = []; holds = false }
+
+  -- the view with another's parts, places and history beside its own
+  abbrev pub with_told : View B E → View B E → View B E
+  with_told v w = record v { parts = v.parts + w.parts; told = w.seen; mine = v.mine ++ w.mine; own = v.own ++ w.own }
+
+  -- the view with the longer of its two histories alone
+  abbrev pub after_compare : View B E → View B E
+  after_compare v = record v { seen = longer_history v.seen v.told; told = [] }
 
 module _ {B E T N : Type 0} where
   -- the seat has seen all entries, and the word counts them

@@ -36,10 +36,6 @@ module _ {B E : Type 0} where
   abbrev pub first_view : B → ℕ → View B E
   first_view base seats = record { base = base; seats = seats; first = true; parts = seats; seen = []; told = []; mine = []; own = []; holds = false }
 
-  -- the view of a seat that was joined to another
-  abbrev pub spent_view : B → View B E
-  spent_view base = record { base = base; seats = 0; first = false; parts = 0; seen = []; told = []; mine = []; own = []; holds = false }
-
   -- the view after the seat saw the entries that came since
   abbrev pub after_look : List E → View B E → View B E
   after_look since v = record v { seen = since ++ v.seen }
@@ -59,14 +55,6 @@ module _ {B E : Type 0} where
   -- the view of the seat that was split off
   abbrev pub part_view : View B E → View B E
   part_view v = record { base = v.base; seats = v.seats; first = false; parts = 1; seen = v.seen; told = []; mine = []; own = []; holds = false }
-
-  -- the view with another's parts, places and history beside its own
-  abbrev pub with_told : View B E → View B E → View B E
-  with_told v w = record v { parts = v.parts + w.parts; told = w.seen; mine = v.mine ++ w.mine; own = v.own ++ w.own }
-
-  -- the view with the longer of its two histories alone
-  abbrev pub after_compare : View B E → View B E
-  after_compare v = record v { seen = longer_history v.seen v.told; told = [] }
 
   -- the view after another was joined to it
   abbrev pub after_join : View B E → View B E → View B E

@@ -88,7 +88,7 @@ pub(crate) struct Glue<T> {
 }
 
 impl<T: Logged> Join<View<T::Base, T::Entry>> for Glue<T> {
-    ghost use Rattle.mx_turn.specs.Views.{spent_view, with_told};
+    ghost use Rattle.mx_turn.specs.Steps.{spent_view, with_told};
 
     ghost both = { with_told };
 
