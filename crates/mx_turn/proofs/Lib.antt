@@ -1,0 +1,8 @@
+mod SumLaws
+mod HistoryLaws
+mod RuleLaws
+mod StepLaws
+mod CallLaws
+mod PlaceLaws
+mod CountingLaws
+pub mod Crossing
