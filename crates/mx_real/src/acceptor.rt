@@ -16,6 +16,14 @@ use std::net::{Ipv4Addr, Net, SocketAddr, SocketAddrV4};
 use std::sync::{Arc, Wait};
 use std::time::Clock;
 
+/// Linux's numbers of errors that have no kind: no more descriptors in the system or in the process,
+/// and a connection that broke its protocol.
+const ENFILE: i32 = 23;
+
+const EMFILE: i32 = 24;
+
+const EPROTO: i32 = 71;
+
 /// The token of the listener.
 const LISTENER: Token = Token(1);
 
@@ -28,6 +36,7 @@ pub struct TcpAcceptor<R> {
     watch: Watch,
     hub: Arc<Hub<R>>,
     port: u16,
+    may_have_more: bool,
     faults: u64,
     waits: u64,
     given: u64,
@@ -64,6 +73,7 @@ impl<R: Net + Wait + Drop> TcpAcceptor<R> {
             watch,
             hub,
             port,
+            may_have_more: true,
             faults: 0,
             waits: 0,
             given: 0,
@@ -82,35 +92,46 @@ impl<R: Net + Wait + Drop> TcpAcceptor<R> {
         ensures faults { self.new.faults ≡ self.old.faults }
         ensures waits { self.new.waits ≡ self.old.waits }
         ensures given { self.new.given ≡ self.old.given }
-        ensures hub { self.new.hub ≡ self.old.hub }
     {
-        if let Some(stream) = next_of(&self.listener)? {
+        if let Some(stream) = self.stream_that_came()? {
             return Ok(Some(stream));
         }
         self.watch.wait()?;
-        next_of(&self.listener)
-    }
-}
-
-/// The next connection of a listener, if one has come.
-fn next_of(listener: &TcpListener) -> io::Result<Option<TcpStream>> {
-    match listener.accept() {
-        Ok((stream, _)) => {
-            // It works without, only slower.
-            let _ = stream.set_nodelay(true);
-            Ok(Some(stream))
+        if self.watch.tells_of(LISTENER) {
+            self.may_have_more = true;
         }
-        Err(error) if has_none(&error) => Ok(None),
-        Err(error) => Err(error),
+        self.stream_that_came()
+    }
+
+    /// The next connection, if one has come. The system isn't asked where it would tell of one.
+    fn stream_that_came(&mut self) -> io::Result<Option<TcpStream>>
+        ensures faults { self.new.faults ≡ self.old.faults }
+        ensures waits { self.new.waits ≡ self.old.waits }
+        ensures given { self.new.given ≡ self.old.given }
+    {
+        if !self.may_have_more {
+            return Ok(None);
+        }
+        match self.listener.accept() {
+            Ok((stream, _)) => {
+                // Without it replies are slower, and all the same.
+                let _ = stream.set_nodelay(true);
+                Ok(Some(stream))
+            }
+            Err(error) if error.kind() == ErrorKind::WouldBlock => {
+                self.may_have_more = false;
+                Ok(None)
+            }
+            Err(error) if is_of_peer_or_room(&error) => Ok(None),
+            Err(error) => Err(error),
+        }
     }
 }
 
-/// Whether there is no connection for now: none has come, or one has failed before it was accepted, or
-/// there is no descriptor for it.
-fn has_none(error: &io::Error) -> bool {
+/// Whether the listener is all right, and only this connection failed, or there is no descriptor for it.
+fn is_of_peer_or_room(error: &io::Error) -> bool {
     match error.kind() {
-        ErrorKind::WouldBlock
-        | ErrorKind::Interrupted
+        ErrorKind::Interrupted
         | ErrorKind::ConnectionAborted
         | ErrorKind::ConnectionReset
         | ErrorKind::TimedOut
@@ -118,8 +139,7 @@ fn has_none(error: &io::Error) -> bool {
         | ErrorKind::NetworkUnreachable
         | ErrorKind::NetworkDown
         | ErrorKind::PermissionDenied => true,
-        // ENFILE, EMFILE and EPROTO.
-        _ => matches!(error.raw_os_error(), Some(23 | 24 | 71)),
+        _ => matches!(error.raw_os_error(), Some(ENFILE | EMFILE | EPROTO)),
     }
 }
 

@@ -52,9 +52,10 @@ impl Echo {
     fn step<L: Link>(&mut self, link: &mut L) -> Result<(), LinkStop> {
         let held = self.bytes.get(self.at..self.until).unwrap_or(&[]);
         if held.is_empty() {
+            let count = link.read(&mut self.bytes)?;
             self.at = 0;
-            self.until = link.read(&mut self.bytes)?;
-            self.is_over = self.until == 0;
+            self.until = count;
+            self.is_over = count == 0;
         } else {
             self.at = self.at.saturating_add(link.write(held)?);
         }
