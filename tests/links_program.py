@@ -225,7 +225,7 @@ def connections_wait_for_descriptors():
 
 def usage_is_printed():
     ended = subprocess.run([PROGRAM], capture_output=True, timeout=SECONDS_TO_WAIT)
-    expect("status and standard error", (USAGE, b"usage: mx_sockets PORT\n"), (ended.returncode, ended.stderr))
+    expect("status and standard error", (USAGE, b"usage: mx_sockets PORT, or mx_sockets memory\n"), (ended.returncode, ended.stderr))
 
 
 def build():
