@@ -1,4 +1,4 @@
-use Rattle.std.proofs.Common.{None, ℕ, List, Option}
+use Rattle.std.proofs.Common.{None}
 use Rattle.mx_real.proofs.CountLaws.{each_kept}
 use Rattle.mx_real.proofs.link.TcpLinkLink.rest.Goals as goal
 
