@@ -24,6 +24,10 @@ sink_passed s = Some (take s.passed s.bytes.items)
 abbrev pub sink_faults : MemorySink → ℕ
 sink_faults s = s.calls.faults
 
+-- the bytes that a link hasn't given yet
+abbrev pub link_left : MemoryLink → Option (List ℕ)
+link_left l = Some (drop l.at l.sends.items)
+
 -- the bytes that were read from a link
 abbrev pub link_came : MemoryLink → Option (List ℕ)
 link_came l = Some (take l.at l.sends.items)

@@ -1,5 +1,7 @@
 //! The gate of a test, which lets one connection wait for another.
 
+ghost use Rattle.std.specs.Prelude.{◌≡◌};
+
 use mx_outside::Gate;
 use std::sync::atomic::{AtomicBool, Ordering};
 use std::thread;
@@ -39,7 +41,11 @@ pub struct HoldingGate {
 impl HoldingGate {
     /// A gate that holds a connection at `held` until one has passed `awaited`, for at most `turns`
     /// turns.
-    pub fn new(held: Point, awaited: Point, turns: u32) -> HoldingGate {
+    pub fn new(held: Point, awaited: Point, turns: u32) -> HoldingGate
+        ensures held { result.held ≡ held }
+        ensures awaited { result.awaited ≡ awaited }
+        ensures turns { result.turns ≡ turns }
+    {
         HoldingGate {
             held,
             awaited,

@@ -1,7 +1,7 @@
 //! A connection in memory.
 
-ghost use Rattle.std.specs.Prelude.{◌≡◌, ◌≤◌, ◌<◌, Some, [], drop};
-ghost use Rattle.mx_fake.specs.Contents.{link_came, link_gone, link_faults};
+ghost use Rattle.std.specs.Prelude.{◌≡◌, Some, [], drop, min, max};
+ghost use Rattle.mx_fake.specs.Contents.{link_left, link_came, link_gone, link_faults};
 
 use crate::calls::ReadyCalls;
 use crate::peer::MemoryPeer;
@@ -28,6 +28,8 @@ impl MemoryLink {
         ensures most { result.most ≡ peer.most }
         ensures failing { result.calls.calls.failing ≡ peer.failing }
         ensures not_ready { result.calls.not_ready ≡ peer.not_ready }
+        ensures received { result.received ≡ peer.received }
+        ensures left { link_left result ≡ Some peer.sends.items }
         ensures came { link_came result ≡ Some [] }
         ensures gone { link_gone result ≡ Some [] }
         ensures faults { link_faults result ≡ 0 }
@@ -61,8 +63,7 @@ impl MemoryLink {
 
     /// How many of so many bytes one call reads or writes.
     fn piece(&self, count: usize) -> usize
-        ensures bound { result ≤ count }
-        ensures some { 0 < count → 0 < result }
+        ensures { result ≡ min count (max self.now.most 1) }
     {
         count.min(self.most.max(1))
     }
@@ -86,6 +87,8 @@ impl Drop for MemoryLink {
 }
 
 impl Link for MemoryLink {
+    ghost left = { link_left };
+
     ghost came = { link_came };
 
     ghost gone = { link_gone };

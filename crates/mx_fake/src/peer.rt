@@ -1,6 +1,7 @@
 //! The peer of a connection in memory.
 
 ghost use Rattle.std.specs.Prelude.{◌≡◌, IfOk};
+ghost use Rattle.std.specs.Arc.{arc_value};
 
 use std::alloc::{AllocError, Global};
 use std::sync::{Arc, OnceLock};
@@ -41,7 +42,9 @@ impl MemoryPeer {
     }
 
     /// What tells the bytes that it received.
-    pub fn received(&self) -> Result<Received, AllocError> {
+    pub fn received(&self) -> Result<Received, AllocError>
+        ensures { IfOk result (λ received. arc_value received.bytes ≡ arc_value self.now.received) }
+    {
         Ok(Received {
             bytes: Arc::try_clone(&self.received)?,
         })

@@ -2,7 +2,7 @@
 
 ghost use Rattle.std.specs.Prelude.{◌≡◌, ℕ, ◌<◌, List, Option, map, length, IfOk};
 ghost use Rattle.std.specs.Io.{ReadsAtMost, WritesAtMost};
-ghost use Rattle.std.specs.Io.KnownBytes.{Keeps, WriteAppends};
+ghost use Rattle.std.specs.Io.KnownBytes.{ReadConsumes, WriteAppends};
 ghost use Rattle.mx_outside.specs.Causes.{HasCauseOf};
 ghost use Rattle.mx_outside.specs.declared.link.LinkStop.TheVariants.{Failed, NotReady};
 
@@ -21,6 +21,9 @@ pub enum LinkStop {
 
 /// A connection to a peer. A read or a write that would have to wait says so instead.
 pub trait Link {
+    /// The bytes that are left to be read, where they are known.
+    ghost left: { Self → Option (List ℕ) };
+
     /// All bytes that were read from it so far, where they are known.
     ghost came: { Self → Option (List ℕ) };
 
@@ -43,6 +46,7 @@ pub trait Link {
     /// Nothing was read.
     fn read(&mut self, into: &mut [u8]) -> Result<usize, LinkStop>
         ensures bound { ReadsAtMost result into.new }
+        ensures left { ReadConsumes (left self.old) (left self.new) result into.new }
         ensures came { WriteAppends (came self.old) (came self.new) result into.new }
         ensures gone { gone self.new ≡ gone self.old }
         ensures cause { HasCauseOf Failed (faults self.old) (faults self.new) result }
@@ -56,6 +60,7 @@ pub trait Link {
     fn write(&mut self, bytes: &[u8]) -> Result<usize, LinkStop>
         ensures bound { WritesAtMost result bytes.now }
         ensures some { 0 < length bytes.now → IfOk result (λ count. 0 < count) }
+        ensures left { left self.new ≡ left self.old }
         ensures came { came self.new ≡ came self.old }
         ensures gone { WriteAppends (gone self.old) (gone self.new) result bytes.now }
         ensures cause { HasCauseOf Failed (faults self.old) (faults self.new) result }
@@ -66,6 +71,7 @@ pub trait Link {
     /// gave them is told to `wake` them. A link that was ready when it was last asked may go on. In
     /// memory nothing waits.
     fn rest(links: &mut [Self])
+        ensures left { map left links.new ≡ map left links.old }
         ensures came { map came links.new ≡ map came links.old }
         ensures gone { map gone links.new ≡ map gone links.old }
         ensures faults { map faults links.new ≡ map faults links.old }

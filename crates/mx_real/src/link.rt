@@ -191,6 +191,8 @@ fn rest_in<R: Net + Wait + Clock + Drop>(rt: &R, room: &Arc<Room>, links: &mut [
 }
 
 impl<R: Net + Wait + Clock + Drop> Link for TcpLink<R> {
+    ghost left = { λ l. None };
+
     ghost came = { λ l. None };
 
     ghost gone = { λ l. None };

@@ -1,15 +1,17 @@
-use Rattle.std.proofs.Common.{◌≡◌, ℕ, ◌≤◌, List, ◌++◌, length, take, drop, ap, sym, ◌∙◌, arith}
-use Rattle.std.proofs.Math.Seq.{take-add}
-use Rattle.mx_fake.proofs.Prefixes.{prefix_kept}
+use Rattle.std.proofs.Common.{◌≡◌, ◌∙◌, ap, drop, max, min}
+use Rattle.mx_fake.proofs.Prefixes.{piece_copied}
 use Rattle.mx_fake.proofs.link.MemoryLinkLink.read.Goals as goal
+
+pub returns-clause-left : goal.returns-clause-left
+returns-clause-left c =
+    let most = c.args.self.now.most in
+    let size = c.piece-count.ensures ∙ ap (λ n. min n (max most 1)) c.min.ensures in
+    let copied = piece_copied c.args.self.now.sends.items c.rest_of-rest.result.now c.args.into.now c.copy_from_slice.new.self c.args.self.now.at c.piece-count.result most (cc (c.rest_of-rest.ensures)) size c.copy_from_slice.ensures.after in
+    (copied.0, copied.1)
 
 pub returns-clause-came : goal.returns-clause-came
 returns-clause-came c =
-    let rest = c.rest_of-rest.result.now in
-    let at = c.args.self.now.at in
-    let count = c.piece-count.result in
-    let sends = c.args.self.now.sends.items in
-    let is : rest ≡ drop at sends = cc (c.rest_of-rest.ensures) in
-    let fits : count ≤ length rest = omega (arith, c.piece-count.ensures.bound, c.min.ensures) in
-    let kept = prefix_kept rest c.args.into.now c.copy_from_slice.new.self count fits c.copy_from_slice.ensures.after in
-    take-add at count sends ∙ ap (λ (more : List ℕ). take at sends ++ more) (ap (λ (l : List ℕ). take count l) (sym is) ∙ sym kept)
+    let most = c.args.self.now.most in
+    let size = c.piece-count.ensures ∙ ap (λ n. min n (max most 1)) c.min.ensures in
+    let copied = piece_copied c.args.self.now.sends.items c.rest_of-rest.result.now c.args.into.now c.copy_from_slice.new.self c.args.self.now.at c.piece-count.result most (cc (c.rest_of-rest.ensures)) size c.copy_from_slice.ensures.after in
+    copied.2

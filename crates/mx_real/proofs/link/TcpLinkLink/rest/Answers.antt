@@ -2,6 +2,9 @@ use Rattle.std.proofs.Common.{None}
 use Rattle.mx_real.proofs.CountLaws.{each_kept}
 use Rattle.mx_real.proofs.link.TcpLinkLink.rest.Goals as goal
 
+pub returns-in-Ok-room_or_new-clause-left : goal.returns-in-Ok-room_or_new-clause-left
+returns-in-Ok-room_or_new-clause-left g c = each_kept (λ counts. None) _ _ c.rest_in.ensures
+
 pub returns-in-Ok-room_or_new-clause-came : goal.returns-in-Ok-room_or_new-clause-came
 returns-in-Ok-room_or_new-clause-came g c = each_kept (λ counts. None) _ _ c.rest_in.ensures
 
