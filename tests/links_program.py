@@ -22,9 +22,8 @@ SOCKETS = ROOT / "crates" / "mx_sockets"
 PROGRAM = SOCKETS / "out" / "mx_sockets"
 # What it ends with where the arguments are no port, and where the port can't be listened on.
 USAGE, NOT_LISTENING = 2, 8
-# A wait for readiness that nothing ends takes this long.
-LONGEST_WAIT = 0.010
-# What ends a wait has to end it in much less, or else it ended by itself.
+# A wait that nothing ends takes 10 milliseconds, and what comes in it waits for half of that. What ends a wait has to end
+# it in much less.
 AT_ONCE = 0.002
 CONNECTIONS = 1000
 FEW_DESCRIPTORS = 40
@@ -148,7 +147,8 @@ def peers_that_reset_harm_nobody(run):
     run.wait_for_end()
 
 
-def waits_end_at_once(run):
+def time_waits(run):
+    """The seconds of turns of a connection, of new connections' first turns, and of ends until they are told."""
     turns, openings, closings = [], [], []
     with run.connect() as client:
         for _ in range(101):
@@ -166,8 +166,16 @@ def waits_end_at_once(run):
                 run.has_more.wait_for(lambda: run.ended == run.opened - 1, SECONDS_TO_WAIT)
             closings.append(time.monotonic() - began)
     run.wait_for_end()
-    for what, seconds in (("a turn", turns), ("an opening", openings), ("a closing that is told", closings)):
-        middle = statistics.median(seconds)
+    return {"a turn": turns, "an opening": openings, "a closing that is told": closings}
+
+
+def waits_end_at_once(run):
+    # A machine with other work may be slow for a while.
+    for _ in range(3):
+        middles = {what: statistics.median(seconds) for what, seconds in time_waits(run).items()}
+        if max(middles.values()) < AT_ONCE:
+            return
+    for what, middle in middles.items():
         expect(f"{what} takes {middle * 1000:.2f} ms, less than {AT_ONCE * 1000:.0f}", True, middle < AT_ONCE)
 
 

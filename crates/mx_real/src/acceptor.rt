@@ -5,6 +5,7 @@ ghost use Rattle.std.specs.Prelude.{◌≡◌, IfOk};
 use crate::hub::Hub;
 use crate::link::TcpLink;
 use crate::listen_fault::ListenFault;
+use crate::no_link::{NoLink, no_link_of};
 use crate::room::Watch;
 use mio::net::{TcpListener, TcpStream};
 use mio::{Interest, Token};
@@ -15,14 +16,6 @@ use std::io::ErrorKind;
 use std::net::{Ipv4Addr, Net, SocketAddr, SocketAddrV4};
 use std::sync::{Arc, Wait};
 use std::time::Clock;
-
-/// Linux's numbers of errors that have no kind: no more descriptors in the system or in the process,
-/// and a connection that broke its protocol.
-const ENFILE: i32 = 23;
-
-const EMFILE: i32 = 24;
-
-const EPROTO: i32 = 71;
 
 /// The token of the listener.
 const LISTENER: Token = Token(1);
@@ -118,28 +111,16 @@ impl<R: Net + Wait + Drop> TcpAcceptor<R> {
                 let _ = stream.set_nodelay(true);
                 Ok(Some(stream))
             }
-            Err(error) if error.kind() == ErrorKind::WouldBlock => {
-                self.may_have_more = false;
-                Ok(None)
+            Err(error) => {
+                if error.kind() == ErrorKind::WouldBlock {
+                    self.may_have_more = false;
+                }
+                match no_link_of(&error) {
+                    NoLink::NotReady => Ok(None),
+                    _ => Err(error),
+                }
             }
-            Err(error) if is_of_peer_or_room(&error) => Ok(None),
-            Err(error) => Err(error),
         }
-    }
-}
-
-/// Whether the listener is all right, and only this connection failed, or there is no descriptor for it.
-fn is_of_peer_or_room(error: &io::Error) -> bool {
-    match error.kind() {
-        ErrorKind::Interrupted
-        | ErrorKind::ConnectionAborted
-        | ErrorKind::ConnectionReset
-        | ErrorKind::TimedOut
-        | ErrorKind::HostUnreachable
-        | ErrorKind::NetworkUnreachable
-        | ErrorKind::NetworkDown
-        | ErrorKind::PermissionDenied => true,
-        _ => matches!(error.raw_os_error(), Some(ENFILE | EMFILE | EPROTO)),
     }
 }
 
@@ -169,11 +150,13 @@ impl<R: Net + Wait + Clock + Send + Sync + Drop + 'static> Acceptor for TcpAccep
                 self.waits = self.waits.saturating_add(1);
                 Accepted::NotReady
             }
-            Err(error) if error.kind() == ErrorKind::OutOfMemory => Accepted::NoMemory,
-            Err(_) => {
-                self.faults = self.faults.saturating_add(1);
-                Accepted::Failed
-            }
+            Err(error) => match no_link_of(&error) {
+                NoLink::NoMemory => Accepted::NoMemory,
+                _ => {
+                    self.faults = self.faults.saturating_add(1);
+                    Accepted::Failed
+                }
+            },
         }
     }
 

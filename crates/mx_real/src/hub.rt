@@ -5,7 +5,6 @@ use mio::{Registry, Waker};
 use std::alloc::Global;
 use std::io;
 use std::net::Net;
-use std::sync::atomic::{AtomicU64, Ordering};
 use std::sync::{Arc, Mutex, Wait};
 
 /// What an acceptor and its links share.
@@ -14,7 +13,6 @@ pub(crate) struct Hub<R> {
     rt: R,
     alloc: Global,
     door: Waker,
-    made: AtomicU64,
     rooms: Mutex<Vec<Arc<Room>>>,
 }
 
@@ -25,7 +23,6 @@ impl<R: Net + Wait + Drop> Hub<R> {
             rt,
             alloc,
             door: Waker::new(registry, WAKER)?,
-            made: AtomicU64::new(0),
             rooms: Mutex::new(Vec::new(alloc)),
         })
     }
@@ -34,13 +31,16 @@ impl<R: Net + Wait + Drop> Hub<R> {
         &self.rt
     }
 
-    /// A room for the links of another worker.
-    pub(crate) fn new_room(&self) -> io::Result<Arc<Room>> {
-        let number = self.made.fetch_add(1, Ordering::SeqCst);
-        let room = Arc::new(self.alloc, Room::new(&self.rt, self.alloc, number)?)?;
+    /// A room for the links of a worker: one that no link has any more, or a new one.
+    pub(crate) fn empty_room(&self) -> io::Result<Arc<Room>> {
         let mut rooms = self.rooms.lock(&self.rt);
-        // A room that nobody else has any more is left for good.
-        rooms.retain(|room| 1 < Arc::strong_count(room));
+        for room in rooms.iter() {
+            if Arc::strong_count(room) == 1 {
+                return Ok(Arc::try_clone(room)?);
+            }
+        }
+        let number = rooms.len();
+        let room = Arc::new(self.alloc, Room::new(&self.rt, self.alloc, number)?)?;
         rooms.push(Arc::try_clone(&room)?)?;
         Ok(room)
     }

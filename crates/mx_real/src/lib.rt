@@ -7,9 +7,11 @@ mod gate;
 mod hub;
 mod link;
 mod listen_fault;
+mod no_link;
 mod open_fault;
 mod open_folder;
 mod room;
+mod side;
 mod spawner;
 mod streams;
 

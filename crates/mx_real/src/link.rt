@@ -1,13 +1,16 @@
 //! A connection over TCP.
 
-ghost use Rattle.std.specs.Prelude.{◌≡◌, Ok, Err, None, MatchResult};
+ghost use Rattle.std.specs.Prelude.{◌≡◌, ◌&&◌, not, cond, Ok, Err, None, MatchResult};
 ghost use Rattle.mx_outside.specs.Causes.{HasCauseOf};
 ghost use Rattle.mx_outside.specs.declared.link.LinkStop.TheVariants.{Failed, NotReady};
 ghost use Rattle.mx_real.specs.Faults.{link_stop_of, link_stop_of_kind};
+ghost use Rattle.mx_real.specs.Sides.{rested};
 ghost use Rattle.mx_real.specs.Waits.{HaveSameCounts};
+ghost use Rattle.mx_real.specs.declared.side.Side.TheVariants.{Open};
 
 use crate::hub::Hub;
 use crate::room::{Room, max_wait};
+use crate::side::Side;
 use mio::net::TcpStream;
 use mio::{Interest, Registry, Token};
 use mx_outside::{Link, LinkStop};
@@ -33,29 +36,11 @@ pub struct TcpLink<R> {
     write_waits: u64,
 }
 
-/// What is known of the next read or write of a link.
-#[derive(Clone, Copy, Drop, PartialEq, Eq)]
-enum Side {
-    /// The system may take it.
-    Open,
-    /// The last one would have had to wait.
-    Blocked,
-    /// So it would, and the links have rested since, and nothing was told of this one.
-    Quiet,
-}
-
-impl Side {
-    /// After a rest in which nothing was told.
-    fn rested(self) -> Side {
-        match self {
-            Side::Open => Side::Open,
-            Side::Blocked | Side::Quiet => Side::Quiet,
-        }
-    }
-}
-
 impl<R> TcpLink<R> {
     pub(crate) fn new(hub: Arc<Hub<R>>, number: u64, stream: TcpStream) -> TcpLink<R>
+        ensures hub { result.hub ≡ hub }
+        ensures number { result.number ≡ number }
+        ensures stream { result.stream ≡ stream }
         ensures faults { result.faults ≡ 0 }
         ensures read_waits { result.read_waits ≡ 0 }
         ensures write_waits { result.write_waits ≡ 0 }
@@ -106,6 +91,9 @@ impl<R> TcpLink<R> {
 
     /// Takes what the room's watch told of this link.
     fn hear(&mut self, is_told: bool)
+        ensures stopped { self.new.is_stopped ≡ (not is_told && self.old.is_stopped) }
+        ensures reading { self.new.reading ≡ cond is_told Open (rested self.old.reading) }
+        ensures writing { self.new.writing ≡ cond is_told Open (rested self.old.writing) }
         ensures faults { self.new.faults ≡ self.old.faults }
         ensures read_waits { self.new.read_waits ≡ self.old.read_waits }
         ensures write_waits { self.new.write_waits ≡ self.old.write_waits }
@@ -121,14 +109,14 @@ impl<R> TcpLink<R> {
     }
 }
 
-impl<R: Net + Wait + Drop> TcpLink<R> {
-    /// The room that it is in, or a new one.
-    fn room_or_new(&self) -> io::Result<Arc<Room>> {
-        match &self.room {
-            Some(room) => Ok(Arc::try_clone(room)?),
-            None => self.hub.new_room(),
+/// The room that one of the links is in, or an empty one.
+fn room_for<R: Net + Wait + Drop>(hub: &Hub<R>, links: &[TcpLink<R>]) -> io::Result<Arc<Room>> {
+    for link in links {
+        if let Some(room) = &link.room {
+            return Ok(Arc::try_clone(room)?);
         }
     }
+    hub.empty_room()
 }
 
 /// Counts the wait or the fault of a call.
@@ -247,7 +235,7 @@ impl<R: Net + Wait + Clock + Drop> Link for TcpLink<R> {
         let Ok(hub) = Arc::try_clone(&first.hub) else {
             return;
         };
-        match first.room_or_new() {
+        match room_for(&hub, links) {
             Ok(room) => rest_in(hub.rt(), &room, links),
             // As where descriptors ran out.
             Err(_) => thread::sleep(hub.rt(), max_wait()),

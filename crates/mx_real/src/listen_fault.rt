@@ -2,6 +2,7 @@
 
 ghost use Rattle.std.specs.Prelude.{◌≡◌};
 ghost use Rattle.mx_real.specs.declared.listen_fault.ListenFault.TheVariants.{NoMemory};
+ghost use Rattle.mx_real.specs.Faults.{listen_fault_of};
 
 use std::alloc::AllocError;
 use std::io;
@@ -24,7 +25,9 @@ pub enum ListenFault {
 
 impl ListenFault {
     /// What the system's error at this port is.
-    pub(crate) fn of(port: u16, error: io::Error) -> ListenFault {
+    pub(crate) fn of(port: u16, error: io::Error) -> ListenFault
+        ensures { result ≡ listen_fault_of port error }
+    {
         match error.kind() {
             ErrorKind::AddrInUse => ListenFault::InUse(port),
             ErrorKind::OutOfMemory => ListenFault::NoMemory,

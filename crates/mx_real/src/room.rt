@@ -24,7 +24,7 @@ pub(crate) fn max_wait() -> Duration {
 /// What the links of one worker wait in.
 #[derive(Drop)]
 pub(crate) struct Room {
-    number: u64,
+    number: usize,
     waker: Waker,
     watch: Mutex<Watch>,
 }
@@ -37,7 +37,7 @@ pub(crate) struct Watch {
 }
 
 impl Room {
-    pub(crate) fn new(net: &impl Net, alloc: Global, number: u64) -> io::Result<Room> {
+    pub(crate) fn new(net: &impl Net, alloc: Global, number: usize) -> io::Result<Room> {
         let watch = Watch::new(net, alloc)?;
         let waker = Waker::new(watch.registry(), WAKER)?;
         Ok(Room {
@@ -47,7 +47,7 @@ impl Room {
         })
     }
 
-    pub(crate) fn number(&self) -> u64 {
+    pub(crate) fn number(&self) -> usize {
         self.number
     }
 
