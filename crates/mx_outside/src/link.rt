@@ -68,8 +68,8 @@ pub trait Link {
         ensures write_waits { HasCauseOf NotReady (write_waits self.old) (write_waits self.new) result };
 
     /// Waits until one of the links may go on, for at most 10 milliseconds, or until the acceptor that
-    /// gave them is told to `wake` them. A link that was ready when it was last asked may go on. In
-    /// memory nothing waits.
+    /// gave them is told to `wake` them. A link whose last call was ready may go on, so it is read and
+    /// written until it isn't. Without links nothing waits, and in memory nothing ever does.
     fn rest(links: &mut [Self])
         ensures left { map left links.new ≡ map left links.old }
         ensures came { map came links.new ≡ map came links.old }

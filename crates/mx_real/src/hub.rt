@@ -41,6 +41,8 @@ impl<R: Net + Wait + Drop> Hub<R> {
         }
         let number = rooms.len();
         let room = Arc::new(self.alloc, Room::new(&self.rt, self.alloc, number)?)?;
+        // The waits were perhaps to end before there was this room.
+        room.wake();
         rooms.push(Arc::try_clone(&room)?)?;
         Ok(room)
     }
