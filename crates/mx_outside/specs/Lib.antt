@@ -1,3 +1,4 @@
+pub mod Accepting
 pub mod Causes
 pub mod Disks
 pub mod Moments

@@ -1,2 +1,5 @@
 pub mod Faults
 pub mod FileNames
+pub mod NoLinks
+pub mod Sides
+pub mod Waits
