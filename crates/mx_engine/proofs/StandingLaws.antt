@@ -16,7 +16,7 @@ use Rattle.mx_model.specs.declared.reply.Reply.{Reply}
 use Rattle.mx_model.specs.declared.reply.Reply.TheVariants.{Refused}
 use Rattle.mx_model.specs.Bases.{Base, CanBeAsked, is_out_of_memory}
 use Rattle.mx_model.specs.Alone.{AllStandAlone}
-use Rattle.mx_model.specs.Histories.{Asked, History, IsLegal, Left, Ledger, ledger_of}
+use Rattle.mx_model.specs.Histories.{Asked, History, IsLegal, Left, Looked, Ledger, ledger_of}
 use Rattle.mx_model.specs.HistoryStreams.{streams_in}
 use Rattle.mx_model.specs.Frame.{OperationHasBytes}
 use Rattle.mx_model.specs.Streams.{AllHaveStreams, Outcome, Streams, commit_with, may_lack_memory, outcome_of, statement_may_lack, states, streams_after, streams_left, told_as, transaction_named}
@@ -184,6 +184,21 @@ pub stands_refused : (engine : Engine) (base : Base) (history : History) (name :
 stands_refused engine base history name refusal stands =
     let was = stands.matches in record {
       legal = (stands.legal, refl);
+      matches = record {
+        has = counted_has engine (ledger_of base history).streams was.has;
+        count = omega (arith, was.count);
+        durable = was.durable;
+        pending = was.pending;
+        schema = was.schema;
+      };
+    }
+
+-- a look
+pub stands_looked : (engine : Engine) (base : Base) (history : History) → EngineStandsFor engine base history
+    → EngineStandsFor (counted engine) base (Looked ∷ history)
+stands_looked engine base history stands =
+    let was = stands.matches in record {
+      legal = (stands.legal, tt);
       matches = record {
         has = counted_has engine (ledger_of base history).streams was.has;
         count = omega (arith, was.count);

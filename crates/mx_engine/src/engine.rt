@@ -12,7 +12,7 @@ ghost use Rattle.mx_model.specs.declared.reply.Reply.TheVariants.{Refused};
 ghost use Rattle.mx_model.specs.Alone.{AllStandAlone};
 ghost use Rattle.mx_model.specs.Frame.{OperationHasBytes};
 ghost use Rattle.mx_model.specs.Bases.{Base, writable_node};
-ghost use Rattle.mx_model.specs.Histories.{History, Asked, Left, Took, Confirmed, ledger_of, journal_of, clock_of};
+ghost use Rattle.mx_model.specs.Histories.{History, Asked, Left, Looked, Took, Confirmed, ledger_of, journal_of, clock_of};
 ghost use Rattle.mx_model.specs.Streams.{AllHaveStreams, Streams, states, states_alone, transaction_named};
 ghost use Rattle.mx_model.specs.Transactions.{schema_version};
 ghost use Rattle.mx_model.specs.statements.Statement.{statement_of};
@@ -149,10 +149,12 @@ impl Engine {
         }
     }
 
-    /// Counts a step that changes nothing: a request that was refused before it came here.
+    /// Counts a step that changes nothing: a look at what there is, or a request that was refused before
+    /// it came here.
     pub fn look(&mut self)
         requires { self.old.count < 2 ^ 63 - 1 }
-        ensures { (base : Base) (history : History) (name : TxnName) (refusal : Refusal) → EngineStandsFor self.old base history
+        ensures looked { (base : Base) (history : History) → EngineStandsFor self.old base history → EngineStandsFor self.new base (Looked ∷ history) }
+        ensures refused { (base : Base) (history : History) (name : TxnName) (refusal : Refusal) → EngineStandsFor self.old base history
             → EngineStandsFor self.new base (Asked name (ask.Refused refusal) (Refused refusal) ∷ history) }
     {
         // The refusal itself was returned where the request was read.

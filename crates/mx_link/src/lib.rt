@@ -7,3 +7,4 @@ mod replying;
 
 pub use asker::{Asker, Given, answer_all};
 pub use buffers::Buffers;
+pub use replying::write_answer;

@@ -93,8 +93,12 @@ fn reply(
     }
 }
 
-/// Adds the packet of an answer, or of why the request is refused.
-fn write_answer(
+/// Adds the packet of an answer, or of why the request is refused, to the packet in the buffers. The
+/// answer's tuples stand beside it.
+///
+/// # Errors
+/// Out of memory. What the packet has then is of no use.
+pub fn write_answer(
     alloc: Global,
     sync: SyncId,
     schema: u32,

@@ -7,7 +7,7 @@ use Rattle.mx_model.specs.Histories.{History, IsLegal}
 use Rattle.mx_serial.specs.Order.{Step, order_in}
 use Rattle.mx_node.specs.declared.out_units.OutUnit.{OutUnit}
 use Rattle.mx_node.specs.declared.single.Single.{Single}
-use Rattle.mx_node.specs.Answering.{AnswersAlone}
+use Rattle.mx_node.specs.Answering.{AnswersBeforeEnd}
 use Rattle.mx_node.specs.Inputs.{InputUnit, Bytes}
 use Rattle.mx_node.specs.Order.{AreStepsOf, AreWholeSteps, departure_where, departures_of}
 use Rattle.mx_node.specs.Starts.{Start}
@@ -38,7 +38,7 @@ unit_untouched start server units history unit states serves =
 
 -- all of it was done, but its connection didn't leave
 pub broken_behind : (start : Start) (old new : Single) (units : List InputUnit) (history : History) (on : ℕ) (bytes : List ℕ)
-    (before after : Option (List Disk)) (output : List OutUnit) (ended : Bool) → AnswersAlone start units history on bytes old new before after output ended
+    (before after : Option (List Disk)) (output : List OutUnit) (ended : Bool) → AnswersBeforeEnd start units history on bytes old new before after output ended
     → IsInterrupted start.base history (AreStepsOf (units ++ Bytes on bytes ∷ [])) before after
 broken_behind start old new units history on bytes before after output ended done =
     let order = order_in done.history ++ departure_where on ended in

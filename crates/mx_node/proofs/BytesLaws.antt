@@ -23,7 +23,7 @@ use Rattle.mx_link.proofs.LinkLaws.{link_begins}
 use Rattle.mx_node.specs.declared.jobs.Arrival.{Arrival}
 use Rattle.mx_node.specs.declared.out_units.OutUnit.{OutUnit}
 use Rattle.mx_node.specs.declared.single.Single.{Single}
-use Rattle.mx_node.specs.Answering.{AnswersAlone, AnswersBytes, IsArrival, PutsSession, Releases, TakesBytes, all_sent, closed_where, let_leave, session_of}
+use Rattle.mx_node.specs.Answering.{AnswersBeforeEnd, AnswersBytes, IsArrival, PutsSession, Releases, TakesBytes, all_sent, closed_where, let_leave, session_of}
 use Rattle.mx_node.specs.Connections.{came_on}
 use Rattle.mx_node.specs.Inputs.{InputUnit, Bytes, max_connection}
 use Rattle.mx_node.specs.Interrupted.{IsInterrupted}
@@ -99,7 +99,7 @@ module _ (start : Start) (old taken : Single) (units : List InputUnit) (history 
   alone : (last : Single) (after : Option (List Disk)) (left : SessionState) (output : List OutUnit)
       → Answered base history old.engine last.engine old.journal last.journal before after session left bytes arrival.ends → output ≡ sent_on on left.out
       → last.sessions.items ≡ set old.sessions.items on (Some (all_sent left)) → last.greeting ≡ old.greeting
-      → AnswersAlone start units history on bytes old last before after output arrival.ends
+      → AnswersBeforeEnd start units history on bytes old last before after output arrival.ends
   alone last after left output all writes table greeting =
       let order = are_order units (order_in history) serves.order in
       let done = did start units history on bytes old.engine last.engine old.journal last.journal before after session left arrival.ends serves.ready
@@ -161,7 +161,7 @@ module _ (start : Start) (old taken : Single) (units : List InputUnit) (history 
           refl,
         )
 
-    pub alone_quiet : AnswersAlone start units history on bytes old released before before output arrival.ends
+    pub alone_quiet : AnswersBeforeEnd start units history on bytes old released before before output arrival.ends
     alone_quiet =
         alone released before (let_leave durable later) output (record {
           says = says;
@@ -251,7 +251,7 @@ module _ (start : Start) (old taken : Single) (units : List InputUnit) (history 
             (subst (λ (j : Journal). AnswersJobs base history turned.engine j before after jobs session.out (let_leave durable later).out) (sym releases.puts.journal)
             turned_all)
 
-        pub alone_turned : AnswersAlone start units history on bytes old released before after output arrival.ends
+        pub alone_turned : AnswersBeforeEnd start units history on bytes old released before after output arrival.ends
         alone_turned =
             let going = is_open waits in
             alone released after (let_leave durable later) output (record {

@@ -26,7 +26,7 @@ use Rattle.mx_node.specs.Starts.{Start, start_greeting}
 use Rattle.mx_node.specs.Outputs.{sent_on, closed_on, output_for}
 use Rattle.mx_node.specs.declared.out_units.OutUnit.{OutUnit}
 use Rattle.mx_node.specs.Ready.{Ready, AnswersJobs, TakenAll}
-use Rattle.mx_node.specs.Answering.{AnswersAlone, OnlyEngine, all_sent, closed_where}
+use Rattle.mx_node.specs.Answering.{AnswersBeforeEnd, OnlyEngine, all_sent, closed_where}
 use Rattle.mx_directory.specs.Survival.{Lasts}
 use Rattle.mx_node.specs.Serving.{Attends, CanServe, HasSession, Serves, AnswersUnit}
 use Rattle.mx_node.specs.Tables.{IsTable, goes_on, opened, session_at}
@@ -367,7 +367,7 @@ lasts_since base first all before after (more, is) lasts =
 -- what bytes brought was answered, and the connection left, where they ended it
 pub took_bytes : (start : Start) (old new last : Single) (units : List InputUnit) (earlier : History) (on : ℕ) (bytes : List ℕ) (first output : List OutUnit)
     (before after : Option (List Disk)) (ended : Bool) → Serves start old units earlier before → on ≤ max_connection → 0 < length bytes
-    → (done : AnswersAlone start units earlier on bytes old new before after first ended)
+    → (done : AnswersBeforeEnd start units earlier on bytes old new before after first ended)
     → EngineStandsFor last.engine start.base (if ended then Left on ∷ done.history else done.history)
     → output ≡ first ++ closed_where on ended → OnlyEngine new last → AnswersUnit start last units earlier (Bytes on bytes) output before after
 took_bytes start old new last units earlier on bytes first output before after ended serves known some done stands writes only =

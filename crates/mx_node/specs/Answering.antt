@@ -78,7 +78,7 @@ closed_where connection ended = if ended then closed_on connection ∷ [] else [
 
 -- What was done for bytes, but for the end of their connection: its jobs were answered, what they committed is durable, and it is
 -- sent the replies.
-pub record AnswersAlone (start : Start) (units : List InputUnit) (earlier : History) (connection : ℕ) (bytes : List ℕ) (old new : Single)
+pub record AnswersBeforeEnd (start : Start) (units : List InputUnit) (earlier : History) (connection : ℕ) (bytes : List ℕ) (old new : Single)
     (before after : Option (List Disk)) (output : List OutUnit) (ended : Bool) : Type 0 where
   pub history : History
   pub since : (more : History) × (history ≡ more ++ earlier)

@@ -59,7 +59,7 @@ impl Single {
     ghost use Rattle.mx_node.specs.Tables.{IsTable, session_at};
     ghost use Rattle.mx_node.specs.Ready.{Behind, Ready};
     ghost use Rattle.mx_node.specs.Serving.{CanServe, EndedNode, Serves, AnswersUnit};
-    ghost use Rattle.mx_node.specs.Answering.{AnswersAlone, OnlyEngine, Releases, TakesBytes, closed_where};
+    ghost use Rattle.mx_node.specs.Answering.{AnswersBeforeEnd, OnlyEngine, Releases, TakesBytes, closed_where};
 
     /// Opens a directory: recovers it, makes what was read durable, and begins a journal that goes on
     /// from there. A directory without files takes the identifiers. The salt is the greeting's. Files
@@ -247,7 +247,7 @@ impl Single {
         requires none { out.old ≡ [] }
         requires some { 0 < length bytes.now }
         ensures alone { (start : Start) (units : List InputUnit) (history : History) → Serves start self.old units history (D.states dir.old)
-            → IfOk result (AnswersAlone start units history connection.0 bytes.now self.old self.new (D.states dir.old) (D.states dir.new) out.new) }
+            → IfOk result (AnswersBeforeEnd start units history connection.0 bytes.now self.old self.new (D.states dir.old) (D.states dir.new) out.new) }
         ensures breaks { (start : Start) (units : List InputUnit) (history : History) → Serves start self.old units history (D.states dir.old)
             → OnErr result (IsInterrupted start.base history (AreStepsOf (units ++ Bytes connection.0 bytes.now ∷ [])) (D.states dir.old) (D.states dir.new)) }
         ensures serves { OnOk result (CanServe self.new (D.states dir.new)) }

@@ -18,7 +18,7 @@ module _ {B E T : Type 0} (N : Type 0) (Over : B → T → List E → Type 0) (i
   M = Me (Option (SlotValue T N)) (View B E)
 
   -- a turn that was found free has its value in the seat's hand
-  pub in_hand : (old middle : M) (n : ℕ) → Takes Over is_call old n middle → n % 2 ≡ 0 → n / 2 < max_count
+  pub in_hand : (old middle : M) (n : ℕ) → Takes Over is_alone is_call old n middle → n % 2 ≡ 0 → n / 2 < max_count
       → (slot : Option (SlotValue T N)) × (middle.1 ≡ (0, slot) ∷ rest middle.1)
   in_hand old middle n step even room = let t = step.free even room in
       (Some t.kept, ap (λ (m : M). m.1) t.after ∙ ap (λ (l : List (ℕ × Option (SlotValue T N))). (0, Some t.kept) ∷ l) (sym (ap (λ (m : M). rest m.1) t.after)))
@@ -27,17 +27,18 @@ module _ {B E T : Type 0} (N : Type 0) (Over : B → T → List E → Type 0) (i
   slot_or other [] = other
   slot_or other (x ∷ xs) = x.1
 
-  pub in_hand_is : (old middle : M) (n : ℕ) (slot : Option (SlotValue T N)) → (step : Takes Over is_call old n middle) (even : n % 2 ≡ 0) (room : n / 2 < max_count)
+  pub in_hand_is : (old middle : M) (n : ℕ) (slot : Option (SlotValue T N)) → (step : Takes Over is_alone is_call old n middle) (even : n % 2 ≡ 0) (room : n / 2 < max_count)
       → middle.1 ≡ (0, slot) ∷ rest middle.1 → slot ≡ Some (step.free even room).kept
   in_hand_is old middle n slot step even room is = let t = step.free even room in ap (slot_or None) (sym is) ∙ ap (λ (m : M). slot_or None m.1) t.after
 
-  pub taken : (old middle new : M) (n : ℕ) (slot : Option (SlotValue T N)) (kept : SlotValue T N) → IsIdle old → Takes Over is_call old n middle → n % 2 ≡ 0 → n / 2 < max_count
-      → middle.1 ≡ (0, slot) ∷ rest middle.1 → new ≡ (middle.0, (0, None) ∷ rest middle.1) → slot ≡ Some kept → HasTaken Over is_call old new kept.value
+  pub taken : (old middle new : M) (n : ℕ) (slot : Option (SlotValue T N)) (kept : SlotValue T N) → IsIdle old → Takes Over is_alone is_call old n middle → n % 2 ≡ 0 → n / 2 < max_count
+      → middle.1 ≡ (0, slot) ∷ rest middle.1 → new ≡ (middle.0, (0, None) ∷ rest middle.1) → slot ≡ Some kept → HasTaken Over is_alone is_call old new kept.value
   taken old middle new n slot kept idle step even room is after found = let t = step.free even room in
       let same : slot ≡ Some t.kept = in_hand_is old middle n slot step even room is in let one : t.kept ≡ kept = (cc) in
       let view = ap (λ (m : M). m.0) t.after in let none_left = ap (λ (m : M). rest m.1) t.after ∙ idle.1 in
-      subst (λ (m : M). HasTaken Over is_call old m kept.value) (sym (after ∙ (λ i. (view i, (0, None) ∷ none_left i)))) record {
+      subst (λ (m : M). HasTaken Over is_alone is_call old m kept.value) (sym (after ∙ (λ i. (view i, (0, None) ∷ none_left i)))) record {
         since = t.since;
+        alone = t.alone;
         view = refl;
         holding = (refl, refl, idle.2);
         stands = subst (λ (x : SlotValue T N × List E). Over old.0.base x.0.value x.1) (λ i. (one i, (view i).seen)) t.stands;

@@ -1,5 +1,5 @@
 mod SumLaws
-mod HistoryLaws
+pub mod HistoryLaws
 mod RuleLaws
 mod StepLaws
 mod CallLaws

@@ -17,7 +17,7 @@ use Rattle.mx_turn.specs.Views.{AreSame, Extends, all_places, first_view, after_
 use Rattle.mx_turn.specs.Rule.{max_count}
 use Rattle.mx_turn.specs.Steps.{Compares, Gives, Looks, Takes, after_compare, spent_view, with_told}
 use Rattle.mx_turn.proofs.SumLaws.{sum_more, sum_set}
-use Rattle.mx_turn.proofs.HistoryLaws.{extends_length, extends_more, longer_counts, extends_longer, one_history, times_append}
+use Rattle.mx_turn.proofs.HistoryLaws.{count_append, extends_length, extends_more, longer_counts, extends_longer, one_history, times_append}
 use Rattle.mx_turn.proofs.RuleLaws.{AgreesIn, Rule, St, each_view, length_at, not_holder, others_spent, rule_step, whole}
 
 -- the bit for held is the lowest
@@ -82,7 +82,13 @@ module _ {B E T : Type 0} (N : Type 0) (Over : B → T → List E → Type 0) (i
         entries = λ x. refl;
       }
 
-  pub looks : (slots id : ℕ) (me : M) → me.0.holds ≡ false → 0 < me.0.parts → Allows R slots id me 0 (λ n. n) (Looks is_call me)
+  -- the first seat alone adds what it alone may, so none of it came since it looked
+  none_since : (s : S) (r : R s) (id : ℕ) (v : View B E) → get_elem? s.views id ≡ some v → (since : Extends r.log v.seen) → v.first ≡ true
+      → count_by is_alone since.0 ≡ 0
+  none_since s r id v at (since, is) first =
+      omega (arith, ((r.agrees id v at).first first).1, ap (count_by is_alone) is, count_append is_alone since v.seen)
+
+  pub looks : (slots id : ℕ) (me : M) → me.0.holds ≡ false → 0 < me.0.parts → Allows R slots id me 0 (λ n. n) (Looks is_alone is_call me)
   looks slots id me idle live s r _ at _ = let v = me.0 in let f = r.agrees id v at in let n = get_or s.words 0 0 in (
     after_look f.seen.0 v,
     keeps,
@@ -90,6 +96,7 @@ module _ {B E T : Type 0} (N : Type 0) (Over : B → T → List E → Type 0) (i
     sees s r id v (f.seen.0 ++ v.seen) v.told at idle live ([], f.seen.1) f.told (λ _. ap (count_by is_alone) f.seen.1),
     record {
       since = f.seen.0;
+      alone = λ h. none_since s r id v at f.seen h;
       after = refl;
       count = let l = ap length f.seen.1 in let c = r.counted in let b = r.bit in omega arith;
       whole = λ have. subst (λ (l : List E). AreSame v.mine (places is_call l) × AreSame v.own (all_places l)) f.seen.1 (whole N (Over start) is_alone is_call start all s r id v at live have);
@@ -108,7 +115,7 @@ module _ {B E T : Type 0} (N : Type 0) (Over : B → T → List E → Type 0) (i
 
   -- where the turn is free, the seat has the value
   takes_free : (slots id : ℕ) (me : M) (s : S) (r : R s) → get_elem? s.views id ≡ some me.0 → me.0.holds ≡ false → 0 < me.0.parts → r.held ≡ 0 → length r.log < max_count
-      → (w : View B E) × (a : Act (Option (SlotValue T N))) × Valid s.homes me.1 a × R (stepped s 0 (bit_or (get_or s.words 0 0) 1) id me.1 w a) × Takes Over is_call me (get_or s.words 0 0) (w, carried_after me.1 a)
+      → (w : View B E) × (a : Act (Option (SlotValue T N))) × Valid s.homes me.1 a × R (stepped s 0 (bit_or (get_or s.words 0 0) 1) id me.1 w a) × Takes Over is_alone is_call me (get_or s.words 0 0) (w, carried_after me.1 a)
   takes_free slots id me s r at idle live free room = let v = me.0 in let f = r.agrees id v at in let n = get_or s.words 0 0 in let c = r.counted in let base = f.live live in
       let inside : r.out ≡ false = ⊎_elim (λ (o : r.out ≡ true). let h = r.out_only o in absurd (omega arith)) (λ (o : r.out ≡ false). o) (true_or_false r.out) in
       let home = r.home inside in let w : View B E = after_take f.seen.0 v in let l = ap length f.seen.1 in (
@@ -151,6 +158,7 @@ module _ {B E T : Type 0} (N : Type 0) (Over : B → T → List E → Type 0) (i
         record {
           free = λ _ _. record {
             since = f.seen.0;
+            alone = λ h. none_since s r id v at f.seen h;
             kept = home.0;
             after = refl;
             count = omega arith;
@@ -163,7 +171,7 @@ module _ {B E T : Type 0} (N : Type 0) (Over : B → T → List E → Type 0) (i
 
   -- where it is held, or counts as held, the seat stays as it is
   takes_nothing : (slots id : ℕ) (me : M) (s : S) (r : R s) → get_elem? s.views id ≡ some me.0 → get_or s.words 0 0 < 18446744073709551616 → me.0.holds ≡ false → ((r.held ≡ 1) ⊎ (max_count ≤ length r.log))
-      → (w : View B E) × (a : Act (Option (SlotValue T N))) × Valid s.homes me.1 a × R (stepped s 0 (bit_or (get_or s.words 0 0) 1) id me.1 w a) × Takes Over is_call me (get_or s.words 0 0) (w, carried_after me.1 a)
+      → (w : View B E) × (a : Act (Option (SlotValue T N))) × Valid s.homes me.1 a × R (stepped s 0 (bit_or (get_or s.words 0 0) 1) id me.1 w a) × Takes Over is_alone is_call me (get_or s.words 0 0) (w, carried_after me.1 a)
   takes_nothing slots id me s r at small idle is = let v = me.0 in let f = r.agrees id v at in let n = get_or s.words 0 0 in let c = r.counted in let b = r.bit in (
     v,
     keeps,
@@ -193,7 +201,7 @@ module _ {B E T : Type 0} (N : Type 0) (Over : B → T → List E → Type 0) (i
     },
   )
 
-  pub takes_turn : (slots id : ℕ) (me : M) → me.0.holds ≡ false → 0 < me.0.parts → Allows R slots id me 0 (λ n. bit_or n 1) (Takes Over is_call me)
+  pub takes_turn : (slots id : ℕ) (me : M) → me.0.holds ≡ false → 0 < me.0.parts → Allows R slots id me 0 (λ n. bit_or n 1) (Takes Over is_alone is_call me)
   takes_turn slots id me idle live s r _ at small = let b = r.bit in dite (ℕ_discrete r.held 0)
       (λ free. ⊎_elim (λ (room : length r.log < max_count). takes_free slots id me s r at idle live free room)
       (λ (full : max_count ≤ length r.log). takes_nothing slots id me s r at small idle (inr full)) (cases_lt (length r.log) max_count))

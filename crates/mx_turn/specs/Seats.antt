@@ -4,7 +4,7 @@ use Rattle.atomic_table.specs.Table.{Me}
 use Rattle.atomic_table.specs.Seated.{TableId}
 use Rattle.atomic_table.specs.declared.shared.Seat.{Seat}
 use Rattle.mx_turn.specs.declared.view.View.{View}
-use Rattle.mx_turn.specs.Views.{AreSame, IsWhole, all_places, places, after_look, after_take}
+use Rattle.mx_turn.specs.Views.{AreSame, IsWhole, NoneAlone, all_places, places, after_look, after_take}
 use Rattle.mx_turn.specs.Rule.{max_count}
 
 -- the seat is of the turn with this table
@@ -21,15 +21,17 @@ module _ {X B E : Type 0} where
   IsHolding me = (me.0.holds ≡ true) × (me.1 ≡ (0, None) ∷ []) × (0 < me.0.parts)
 
   -- the seat has seen all entries, and nothing else of it changed
-  pub record HasSeen (is_call : E → Bool) (old new : Me X (View B E)) : Type 0 where
+  pub record HasSeen (is_alone is_call : E → Bool) (old new : Me X (View B E)) : Type 0 where
     pub since : List E
+    pub alone : NoneAlone is_alone old.0 since
     pub view : new ≡ (after_look since old.0, [])
     pub idle : IsIdle new
     pub whole : IsWhole is_call new.0
 
   -- the seat holds the turn and has seen all entries, for which the value stands, and nothing else of it changed
-  pub record HasTaken {T : Type 0} (Stands : B → T → List E → Type 0) (is_call : E → Bool) (old new : Me (Option X) (View B E)) (value : T) : Type 0 where
+  pub record HasTaken {T : Type 0} (Stands : B → T → List E → Type 0) (is_alone is_call : E → Bool) (old new : Me (Option X) (View B E)) (value : T) : Type 0 where
     pub since : List E
+    pub alone : NoneAlone is_alone old.0 since
     pub view : new ≡ (after_take since old.0, (0, None) ∷ [])
     pub holding : IsHolding new
     pub stands : Stands new.0.base value new.0.seen

@@ -4,7 +4,7 @@ use Rattle.std.specs.declared.snapshot.Snapshot.{Snapshot}
 use Rattle.atomic_table.specs.Table.{Me}
 use Rattle.mx_turn.specs.declared.view.View.{View}
 use Rattle.mx_turn.specs.declared.rule.SlotValue.{SlotValue}
-use Rattle.mx_turn.specs.Views.{Extends, IsWhole, after_give, after_look, after_take, longer_history, shorter_history}
+use Rattle.mx_turn.specs.Views.{Extends, IsWhole, NoneAlone, after_give, after_look, after_take, longer_history, shorter_history}
 use Rattle.mx_turn.specs.Rule.{max_count}
 
 -- a seat's view, and the slots that it holds
@@ -26,15 +26,17 @@ module _ {B E : Type 0} where
 
 module _ {B E T N : Type 0} where
   -- the seat has seen all entries, and the word counts them
-  pub record Looks (is_call : E → Bool) (m : Sat B E T N) (n : ℕ) (m' : Sat B E T N) : Type 0 where
+  pub record Looks (is_alone is_call : E → Bool) (m : Sat B E T N) (n : ℕ) (m' : Sat B E T N) : Type 0 where
     pub since : List E
+    pub alone : NoneAlone is_alone m.0 since
     pub after : m' ≡ (after_look since m.0, m.1)
     pub count : n / 2 ≡ length m'.0.seen
     pub whole : IsWhole is_call m'.0
 
   -- the seat has taken the value, which stands for all that it has seen
-  pub record TakesValue (Stands : B → T → List E → Type 0) (is_call : E → Bool) (m : Sat B E T N) (n : ℕ) (m' : Sat B E T N) : Type 0 where
+  pub record TakesValue (Stands : B → T → List E → Type 0) (is_alone is_call : E → Bool) (m : Sat B E T N) (n : ℕ) (m' : Sat B E T N) : Type 0 where
     pub since : List E
+    pub alone : NoneAlone is_alone m.0 since
     pub kept : SlotValue T N
     pub after : m' ≡ (after_take since m.0, (0, Some kept) ∷ m.1)
     pub count : n / 2 ≡ length m'.0.seen
@@ -42,8 +44,8 @@ module _ {B E T N : Type 0} where
     pub whole : IsWhole is_call m'.0
 
   -- the seat takes the turn where it was free, below the last count
-  pub record Takes (Stands : B → T → List E → Type 0) (is_call : E → Bool) (m : Sat B E T N) (n : ℕ) (m' : Sat B E T N) : Type 0 where
-    pub free : n % 2 ≡ 0 → n / 2 < max_count → TakesValue Stands is_call m n m'
+  pub record Takes (Stands : B → T → List E → Type 0) (is_alone is_call : E → Bool) (m : Sat B E T N) (n : ℕ) (m' : Sat B E T N) : Type 0 where
+    pub free : n % 2 ≡ 0 → n / 2 < max_count → TakesValue Stands is_alone is_call m n m'
     pub busy : (n % 2 ≡ 1) ⊎ (max_count ≤ n / 2) → (m' ≡ m) × (length m.0.seen ≤ n / 2) × (n / 2 ≤ max_count)
 
   -- the value is at home, with the entry that the note tells

@@ -60,6 +60,10 @@ module _ {B E : Type 0} where
   abbrev pub after_join : View B E → View B E → View B E
   after_join v w = record v { parts = v.parts + w.parts; seen = longer_history v.seen w.seen; told = []; mine = v.mine ++ w.mine; own = v.own ++ w.own }
 
+  -- of the entries that came since the first seat looked, none is one that it alone may add
+  abbrev pub NoneAlone : (E → Bool) → View B E → List E → Type 0
+  NoneAlone is_alone v since = v.first ≡ true → count_by is_alone since ≡ 0
+
   -- a seat with all parts added each entry that it has seen, and no other: its places are all, each once, and those of the calls are in `mine`
   abbrev pub IsWhole : (E → Bool) → View B E → Type 0
   IsWhole is_call v = v.parts ≡ v.seats → AreSame v.mine (places is_call v.seen) × AreSame v.own (all_places v.seen)

@@ -41,7 +41,7 @@ pub(crate) struct Look;
 impl<T: Logged> Play<Option<SlotValue<T, T::Note>>, View<T::Base, T::Entry>> for Look {
     ghost use Rattle.mx_turn.specs.Steps.{Looks};
 
-    ghost then = { λ _. Looks T.is_call };
+    ghost then = { λ _. Looks T.is_alone T.is_call };
 }
 
 /// The step that takes the turn where it is free.
@@ -50,7 +50,7 @@ pub(crate) struct Take;
 impl<T: Logged> Play<Option<SlotValue<T, T::Note>>, View<T::Base, T::Entry>> for Take {
     ghost use Rattle.mx_turn.specs.Steps.{Takes};
 
-    ghost then = { λ _. Takes T.stands T.is_call };
+    ghost then = { λ _. Takes T.stands T.is_alone T.is_call };
 }
 
 /// The step that gives the turn back with one entry more.

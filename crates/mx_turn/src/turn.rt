@@ -48,7 +48,7 @@ impl<T: Logged> Turn<T> {
         requires of { IsOf self.now.board.shared.table_id seat.old }
         requires idle { IsIdle seat.old.me }
         ensures of { IsOf self.now.board.shared.table_id seat.new × (seat.new.id ≡ seat.old.id) }
-        ensures taken { HasTaken T.stands T.is_call seat.old.me seat.new.me result.value }
+        ensures taken { HasTaken T.stands T.is_alone T.is_call seat.old.me seat.new.me result.value }
     {
         for _ in rt.forever() {
             match self.try_take(seat) {
@@ -83,7 +83,7 @@ impl<T: Logged> Turn<T> {
         requires of { IsOf self.now.board.shared.table_id seat.old }
         requires idle { IsIdle seat.old.me }
         ensures of { IsOf self.now.board.shared.table_id seat.new × (seat.new.id ≡ seat.old.id) }
-        ensures taken { MatchResult result (λ held. HasTaken T.stands T.is_call seat.old.me seat.new.me held.value) (λ busy. IsBusy seat.old.me seat.new.me busy.count) }
+        ensures taken { MatchResult result (λ held. HasTaken T.stands T.is_alone T.is_call seat.old.me seat.new.me held.value) (λ busy. IsBusy seat.old.me seat.new.me busy.count) }
     {
         let word = self.board.shared.fetch_or::<Take>(seat, 0, 1);
         let count = word / 2;
@@ -125,7 +125,7 @@ impl<T: Logged> Turn<T> {
         requires of { IsOf self.now.board.shared.table_id seat.old }
         requires idle { IsIdle seat.old.me }
         ensures of { IsOf self.now.board.shared.table_id seat.new × (seat.new.id ≡ seat.old.id) }
-        ensures seen { HasSeen T.is_call seat.old.me seat.new.me }
+        ensures seen { HasSeen T.is_alone T.is_call seat.old.me seat.new.me }
         ensures count { result ≡ length seat.new.me.0.seen }
     {
         self.board.shared.load::<Look>(seat, 0) / 2

@@ -14,7 +14,7 @@ returns-in-Refused c = λ base history stands.
     let arm = c.in-Refused in
     let before = c.truncate.new.self in
     let packet = c.write_error.new.out in
-    let now = c.look.ensures base history job.name arm.refusal stands in
+    let now = c.look.ensures.refused base history job.name arm.refusal stands in
     let spelled = λ (version : ℕ). packet_of_reply version job.sync.0 (Refused arm.refusal) in
     on_written c.write_error.result (packet ≡ before ++ spelled c.schema-schema.result) (packet ≡ before) (Replied base history c.look.new.self job packet)
     (λ written.
