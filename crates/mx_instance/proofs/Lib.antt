@@ -1,0 +1,4 @@
+pub mod StandsLaws
+pub mod JournalLaws
+pub mod AskingLaws
+pub mod Crossing

@@ -1,0 +1,5 @@
+pub mod Entries
+pub mod Standing
+pub mod Passes
+pub mod JournalTurns
+pub mod Asking
