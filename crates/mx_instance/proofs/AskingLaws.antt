@@ -18,7 +18,7 @@ use Rattle.mx_link.specs.Answers.{GivesAnswer, GivesNext}
 use Rattle.mx_link.specs.Links.{step_of}
 use Rattle.mx_instance.specs.declared.recorded.Recorded.{Recorded}
 use Rattle.mx_instance.specs.Asking.{Asks, IsAt}
-use Rattle.mx_instance.specs.Entries.{asked_so, next_answered, next_refused, told_refusal}
+use Rattle.mx_instance.specs.Entries.{next_answered, next_refused, told_refusal}
 use Rattle.mx_instance.specs.Passes.{Seen}
 use Rattle.mx_instance.specs.Standing.{BeganOver}
 
@@ -73,14 +73,14 @@ next_given_so session noted job rest ends same next = ap next_of same ∙ next
 -- a request that was answered
 pub answered_entry : (session noted : SessionState) (job : Job) (rest : List ℕ) (ends : Bool) (answered told : Result Answered Refusal) (found shown : List (List ℕ))
     → noted ≡ session → next_of session ≡ JobSeen job rest ends → told ≡ answered → shown ≡ found
-    → next_answered (next_of noted) told shown ≡ asked_so job (reply_of answered found)
+    → next_answered (next_of noted) told shown ≡ step_of job (reply_of answered found)
 answered_entry session noted job rest ends answered told found shown same next tells shows =
     ap (λ (n : NextSeen). next_answered n told shown) (next_given_so session noted job rest ends same next)
-    ∙ ap (λ (a : Result Answered Refusal). asked_so job (reply_of a shown)) tells
-    ∙ ap (λ (l : List (List ℕ)). asked_so job (reply_of answered l)) shows
+    ∙ ap (λ (a : Result Answered Refusal). step_of job (reply_of a shown)) tells
+    ∙ ap (λ (l : List (List ℕ)). step_of job (reply_of answered l)) shows
 
 -- one that is refused
 pub refused_entry : (session noted : SessionState) (job : Job) (rest : List ℕ) (ends : Bool) (refusal : Refusal) → noted ≡ session
-    → next_of session ≡ JobSeen job rest ends → job.ask ≡ ask.Refused refusal → next_refused (next_of noted) ≡ asked_so job (Refused refusal)
+    → next_of session ≡ JobSeen job rest ends → job.ask ≡ ask.Refused refusal → next_refused (next_of noted) ≡ step_of job (Refused refusal)
 refused_entry session noted job rest ends refusal same next asked =
-    ap next_refused (next_given_so session noted job rest ends same next) ∙ ap (λ (a : Ask). asked_so job (told_refusal a)) asked
+    ap next_refused (next_given_so session noted job rest ends same next) ∙ ap (λ (a : Ask). step_of job (told_refusal a)) asked

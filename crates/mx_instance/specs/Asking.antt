@@ -10,7 +10,7 @@ use Rattle.mx_model.specs.Transactions.{schema_version}
 use Rattle.mx_model.specs.declared.reply.Reply.{Reply}
 use Rattle.mx_serial.specs.ReplyStream.{packet_of_reply}
 use Rattle.mx_link.specs.Asks.{sync_of}
-use Rattle.mx_instance.specs.Entries.{asked_so}
+use Rattle.mx_link.specs.Links.{step_of}
 use Rattle.mx_instance.specs.Passes.{AddsStep, Seen}
 use Rattle.mx_instance.specs.Standing.{BeganOver}
 
@@ -32,7 +32,7 @@ pub record MakesStep (entry : Entry) (old new : Seen) (front schema : ℕ) : Typ
 pub record Asks (job : Job) (old new : Seen) (front : ℕ) (packet : List ℕ) : Type 0 where
   pub reply : Reply
   pub schema : ℕ
-  pub made : MakesStep (asked_so job reply) old new front schema
+  pub made : MakesStep (step_of job reply) old new front schema
   pub spelled : packet ≡ packet_of_reply schema (sync_of job) reply
 
 -- the session's next job is this

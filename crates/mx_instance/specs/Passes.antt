@@ -15,7 +15,8 @@ use Rattle.mx_instance.specs.declared.outcome.Outcome.{Outcome}
 use Rattle.mx_instance.specs.declared.outcome.TryStop.{TryStop}
 use Rattle.mx_instance.specs.declared.outcome.TryStop.TheVariants as stop
 use Rattle.mx_instance.specs.declared.recorded.Recorded.{Recorded}
-use Rattle.mx_instance.specs.Entries.{asked_so, is_journal_step, is_request}
+use Rattle.mx_link.specs.Links.{step_of}
+use Rattle.mx_instance.specs.Entries.{is_journal_step, is_request}
 use Rattle.mx_instance.specs.Standing.{BeganOver}
 
 -- what a pass knows: the history that it has seen, the newest entry first, and the places of its own requests and entries
@@ -53,7 +54,7 @@ pub record IsOfMoment (base : Base) (history : History) (outcome : Outcome) : Ty
 
 -- A job was asked: its step was added with this reply, and what is told with it is of that moment.
 pub record IsCall (job : Job) (old new : Seen) (outcome : Outcome) : Type 0 where
-  pub adds : AddsStep (asked_so job outcome.reply) old new
+  pub adds : AddsStep (step_of job outcome.reply) old new
   pub front : outcome.front ≡ length new.seen
   pub told : (base : Base) → BeganOver old.base base → IsOfMoment base new.seen outcome
 

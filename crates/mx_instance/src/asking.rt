@@ -14,7 +14,7 @@ ghost use Rattle.mx_engine.specs.Views.{reply_of};
 ghost use Rattle.mx_link.specs.Asks.{IsJob};
 ghost use Rattle.mx_link.specs.Answers.{GivesNext};
 ghost use Rattle.mx_instance.specs.Asking.{Asks, AsksNext, IsAt, IsNextJob, MakesStep};
-ghost use Rattle.mx_instance.specs.Entries.{asked_so};
+ghost use Rattle.mx_link.specs.Links.{step_of};
 ghost use Rattle.mx_instance.specs.Passes.{CanCall, seen_by};
 
 use crate::instance::{Instance, Pass};
@@ -147,7 +147,7 @@ fn request_in_turn<R: Wait>(
     requires next { AsksNext session.now name (ask.Request (request_view request.now)) }
     ensures can_call { CanCall turns.now.instance.now pass.new }
     ensures made { (job : Job) (rest : List ℕ) (ends : Bool) → next_of session.now ≡ JobSeen job rest ends
-        → MakesStep (asked_so job (reply_of result.0 found.new)) (seen_by pass.old) (seen_by pass.new) result.1.front result.1.schema }
+        → MakesStep (step_of job (reply_of result.0 found.new)) (seen_by pass.old) (seen_by pass.new) result.1.front result.1.schema }
 {
     let mut held = turns.instance.turn.take(turns.rt, &mut pass.seat);
     let answered = held.value.engine.request_in_place(name, request, found);
@@ -167,7 +167,7 @@ fn refuse_in_turn<R: Wait>(turns: &Turns<'_, R>, pass: &mut Pass, session: &Sess
     requires next { (name : TxnName) × (refusal : Refusal) × AsksNext session.now name (ask.Refused refusal) }
     ensures can_call { CanCall turns.now.instance.now pass.new }
     ensures made { (job : Job) (rest : List ℕ) (ends : Bool) (refusal : Refusal) → next_of session.now ≡ JobSeen job rest ends → job.ask ≡ ask.Refused refusal
-        → MakesStep (asked_so job (Refused refusal)) (seen_by pass.old) (seen_by pass.new) result.front result.schema }
+        → MakesStep (step_of job (Refused refusal)) (seen_by pass.old) (seen_by pass.new) result.front result.schema }
 {
     let mut held = turns.instance.turn.take(turns.rt, &mut pass.seat);
     held.value.engine.look();

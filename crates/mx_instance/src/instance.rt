@@ -8,7 +8,8 @@ ghost use Rattle.mx_link.specs.Asks.{IsJob};
 ghost use Rattle.mx_turn.specs.Seats.{HasSeen, IsHolding, IsOf};
 ghost use Rattle.mx_turn.specs.Rule.{max_count};
 ghost use Rattle.mx_turn.specs.Views.{Extends, after_give, after_join, longer_history, part_view, after_split, shorter_history};
-ghost use Rattle.mx_instance.specs.Entries.{asked_so, is_journal_step, is_request};
+ghost use Rattle.mx_link.specs.Links.{step_of};
+ghost use Rattle.mx_instance.specs.Entries.{is_journal_step, is_request};
 ghost use Rattle.mx_instance.specs.Standing.{BeganOver, StandsFrom};
 ghost use Rattle.mx_instance.specs.Passes.{AddsStep, CanCall, IsBusyFor, IsCall, IsClosedTo, IsFirst, IsOfMoment, busy_count, seen_by};
 
@@ -85,7 +86,7 @@ impl Instance {
         requires room { length (seen_by pass.old).seen < max_count }
         requires job { IsJob job }
         ensures can_call { CanCall self.now pass.new }
-        ensures view { seen_by pass.new ≡ after_give is_request (asked_so job result.reply) (seen_by pass.old) }
+        ensures view { seen_by pass.new ≡ after_give is_request (step_of job result.reply) (seen_by pass.old) }
         ensures front { result.front ≡ length (seen_by pass.new).seen }
         ensures stands { (base : Base) → BeganOver (seen_by pass.old).base base → IsOfMoment base (seen_by pass.new).seen result }
     {
@@ -171,7 +172,7 @@ impl Instance {
 fn reply_to(engine: &mut Engine, job: Job) -> Reply
     requires room { engine.old.count < 2 ^ 63 - 1 }
     requires job { IsJob job }
-    ensures { (base : Base) (history : History) → EngineStandsFor engine.old base history → EngineStandsFor engine.new base (asked_so job result ∷ history) }
+    ensures { (base : Base) (history : History) → EngineStandsFor engine.old base history → EngineStandsFor engine.new base (step_of job result ∷ history) }
 {
     let Job { name, ask, .. } = job;
     match ask {
