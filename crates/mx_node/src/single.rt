@@ -163,7 +163,8 @@ impl Single {
         ensures sent { (base : Base) (history : History) (session : SessionState) → EngineStandsFor self.old.engine base history
             → session_at self.old.sessions.items conn.0 ≡ Some session
             → OnOk result (Releases (ledger_of base history).durable conn.0 session self.old self.new out.old out.new) }
-        ensures none { session_at self.old.sessions.items conn.0 ≡ None → OnOk result (out.new ≡ out.old) }
+        ensures none { session_at self.old.sessions.items conn.0 ≡ None
+            → OnOk result ((out.new ≡ out.old) × (self.new.engine ≡ self.old.engine) × OnlyEngine self.old self.new) }
         ensures serves { (states : Option (List Disk)) → CanServe self.old states → OnOk result (CanServe self.new states) }
     {
         let durable = self.engine.durable();
