@@ -1,6 +1,7 @@
 -- A connection from one moment to the next: bytes come, its jobs are answered, replies are let go, and bytes are sent.
-use Rattle.std.proofs.Common.{◌≡◌, ℕ, zero, suc, ◌+◌, ◌-◌, ◌<◌, ◌≤◌, Bool, true, false, cond, List, [], ◌∷◌, ◌++◌, length, map, take, drop, refl, sym, ap, ◌∙◌, subst, subst₂, arith, leb-true, leb-false, le-leb}
-use Rattle.std.specs.Prelude.{nat_le, IfSome, if◌then◌else◌}
+use Rattle.std.proofs.Common.{◌≡◌, ℕ, zero, suc, ◌+◌, ◌-◌, ◌<◌, ◌≤◌, Bool, true, false, cond, List, [], ◌∷◌, ◌++◌, length, map, take, drop, refl, sym, ap, ◌∙◌, subst, subst₂, arith, leb-true, leb-false, le-leb, ◌⊎◌, inl, inr}
+use Rattle.std.specs.Prelude.{nat_le, sum_by, IfSome, if◌then◌else◌}
+use Rattle.std.proofs.lemmas.List.Sums.{sum_by-cons}
 use Rattle.std.specs.List.{AllByRecursion}
 use Rattle.std.proofs.lemmas.List.{append-nil, append_assoc, length-append, length-drop, length_push, map_push, take-append-drop, take-append-le, drop-append-le, drop-drop}
 use Rattle.std.proofs.Math.Seq.{take-add, take-append-add}
@@ -8,11 +9,11 @@ use mathlib.Core.List.{IsPrefix}
 use Rattle.mx_frame.specs.Packets.{rest_of}
 use Rattle.mx_session.specs.declared.job.Job.{Job}
 use Rattle.mx_session.specs.Jobs.{ends, jobs_of}
-use Rattle.mx_session.specs.Sessions.{SessionState, JobSeen, Waiting, first_front, next_of, released}
+use Rattle.mx_session.specs.Sessions.{SessionState, JobSeen, Waiting, first_front, next_of, released, unsent_length}
 use Rattle.mx_model.specs.Bases.{Base}
 use Rattle.mx_model.specs.Histories.{History, ledger_of}
 use Rattle.mx_model.proofs.EachLaws.{each_of_both, each_like}
-use Rattle.mx_link.specs.Answers.{AnswersMore, AreMade, GivesAnswer, Place, step_place}
+use Rattle.mx_link.specs.Answers.{AnsweredNext, AnswersMore, AreMade, GivesAnswer, Place, step_place}
 use Rattle.mx_link.specs.Links.{Answer, AreInOrder, HasLink, IsMadeAfter, HasStepOf, IsNoJob, CouldLeave, jobs_left, answer_packet, answer_packets, answer_step, waiting_of}
 use Rattle.mx_link.proofs.PieceLaws.{IsRemainder, remainder_more}
 use Rattle.mx_link.proofs.SessionLaws.{all_told, next_ending, next_left, next_rest, passed_with}
@@ -259,6 +260,13 @@ pub record LinkTells (answers : List Answer) (greeting came gone : List ℕ) (se
   pub due : (durable : ℕ) → IfSome (first_front session.waiting) (λ front. durable < front) → (first later : List Answer) → answers ≡ first ++ later
       → AllByRecursion (λ answer. answer.front ≤ durable) first → IsPrefix (greeting ++ answer_packets first) (gone ++ session.out)
 
+packets_length : (answers : List Answer) → length (answer_packets answers) ≡ sum_by (λ (w : Waiting). length w.reply) (map waiting_of answers)
+packets_length [] = refl
+packets_length (answer ∷ answers) =
+    length-append (answer_packet answer) (answer_packets answers)
+    ∙ ap (λ (n : ℕ). length (answer_packet answer) + n) (packets_length answers)
+    ∙ sym (sum_by-cons (λ (w : Waiting). length w.reply) (waiting_of answer) (map waiting_of answers))
+
 -- all jobs of what came were answered, the connection ended where they end it, and what is left is no whole packet
 pub record AllAnswered (answers : List Answer) (came : List ℕ) (session : SessionState) : Type 0 where
   pub jobs : map (λ answer. answer.job) answers ≡ jobs_of session.connection came
@@ -297,6 +305,26 @@ module _ (base : Base) (history : History) (answers : List Answer) (greeting cam
     asked = (jobs_left session, link.jobs);
     due = due_packets;
   }
+
+  -- how many bytes are due: those that are gone, and those that wait to be sent
+  pub due_length : length (greeting ++ answer_packets answers) ≡ length gone + unsent_length session.out session.waiting
+  due_length =
+      let first = take link.free answers in
+      let others = drop link.free answers in
+      let apart : answer_packets answers ≡ answer_packets first ++ answer_packets others =
+      ap answer_packets (sym (take-append-drop link.free answers)) ∙ answer_packets-append first others in
+      let held : sum_by (λ (w : Waiting). length w.reply) session.waiting ≡ length (answer_packets others) =
+      ap (sum_by (λ (w : Waiting). length w.reply)) link.held ∙ sym (packets_length others) in
+      omega (
+        arith,
+        length-append greeting (answer_packets answers),
+        ap length apart,
+        length-append (answer_packets first) (answer_packets others),
+        held,
+        ap length link.out,
+        length-append gone session.out,
+        length-append greeting (answer_packets first),
+      )
 
   -- where no further job is told
   pub none_left : IsNoJob (next_of session) → AllAnswered answers came session
@@ -370,13 +398,13 @@ waits_so answer front packet counted spelled = λ i. record { front = sym counte
 module _ (before after : Place) (between : History → Type 0) (base : Base) (history : History) (mine : List ℕ) (answers : List Answer)
     (greeting came gone : List ℕ) (old now : SessionState) (so_far : AnswersMore before between base history mine answers greeting came gone old now) where
   -- who answers has come to the same history
-  pub answers_same : ((base : Base) (history : History) (mine : List ℕ) → before base history mine → after base history mine)
+  pub answers_same : after base (so_far.more ++ history) (mine ++ map step_place so_far.made)
       → AnswersMore after between base history mine answers greeting came gone old now
-  answers_same same = record {
+  answers_same come = record {
     made = so_far.made;
     more = so_far.more;
     are = so_far.are;
-    at = same base (so_far.more ++ history) (mine ++ map step_place so_far.made) so_far.at;
+    at = come;
     link = so_far.link;
     whose = so_far.whose;
     held = so_far.held;
@@ -413,3 +441,12 @@ module _ (before after : Place) (between : History → Type 0) (base : Base) (hi
             ∙ ap (λ (l : List Waiting). old.waiting ++ l) (sym (map_push waiting_of made answer));
         sends = ap (λ (s : SessionState). s.out) is ∙ so_far.sends;
       }
+
+  -- who was to answer one job more stopped before its step or after it
+  pub answers_stopped : after base (so_far.more ++ history) (mine ++ map step_place so_far.made)
+      ⊎ AnsweredNext after between base (so_far.more ++ history) (mine ++ map step_place so_far.made) now
+      → (other : SessionState) × AnswersMore after between base history mine answers greeting came gone old other
+  answers_stopped (inl come) = (now, answers_same come)
+  answers_stopped (inr answered) =
+      let other = passed_with now answered.rest answered.ends (now.waiting ++ record { front = answered.front; reply = answered.packet } ∷ []) in
+      (other, answers_more answered.job answered.rest answered.ends answered.front answered.packet other answered.next answered.given refl)

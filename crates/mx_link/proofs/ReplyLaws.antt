@@ -1,6 +1,6 @@
 -- What an engine replies to a job, as an answer of its connection.
-use Rattle.std.proofs.Common.{◌≡◌, ℕ, Bool, List, [], ◌∷◌, Option, Some, None, refl, sym, ap, ◌∙◌, subst}
-use Rattle.std.specs.Prelude.{suc, length, Result, Ok, Err, IfOk, OnOk, MatchResult}
+use Rattle.std.proofs.Common.{◌≡◌, ℕ, Bool, List, [], ◌∷◌, Option, Some, None, refl, sym, ap, ◌∙◌, subst, inl, inr}
+use Rattle.std.specs.Prelude.{suc, length, Result, Ok, Err, IfOk, OnErr, OnOk, MatchResult}
 use Rattle.mx_request.specs.declared.request.Ask.{Ask}
 use Rattle.mx_session.specs.declared.job.Job.{Job}
 use Rattle.mx_session.specs.Sessions.{JobSeen, SessionState, next_of}
@@ -11,16 +11,21 @@ use Rattle.mx_serial.specs.ReplyStream.{packet_told}
 use Rattle.mx_engine.specs.declared.engine.Engine.{Engine}
 use Rattle.mx_engine.specs.Standing.{EngineStandsFor}
 use Rattle.mx_link.specs.declared.asker.Given.{Given}
-use Rattle.mx_link.specs.Answers.{GivesAnswer, GivesNext}
+use Rattle.mx_link.specs.Answers.{GivesAnswer, GivesNext, StopsNext}
 use Rattle.mx_link.specs.Asks.{sync_of}
 use Rattle.mx_link.specs.Links.{step_of, told_after}
-use Rattle.mx_link.specs.Replying.{GivesJob, Replied}
+use Rattle.mx_link.specs.Replying.{GivesJob, Replied, StopsJob}
 
 -- what follows where a call that may fail wrote all
 pub on_written : {X E : Type 0} (result : Result X E) (written unchanged P : Type 0) → (written → P) → MatchResult result (λ _. written) (λ _. unchanged)
     → OnOk result P
 on_written (Ok x) written unchanged P so all = so all
 on_written (Err e) written unchanged P so all = tt
+
+-- what holds whatever a call came to
+pub on_err : {X E P : Type 0} (result : Result X E) → P → OnErr result P
+on_err (Ok x) so = tt
+on_err (Err e) so = so
 
 -- the engine's answer and its packet are what a job is replied
 pub replied_by : (base : Base) (history : History) (engine : Engine) (job : Job) (packet : List ℕ) (ask : Ask) (reply : Reply) → job.ask ≡ ask
@@ -56,3 +61,30 @@ pub next_given : {E : Type 0} (old new : Engine) (session : SessionState) (job :
 next_given old new session job rest ends packet seen (Ok (Some given)) answered = (job, rest, seen ∙ ap (JobSeen job rest) (sym answered.0), answered.1)
 next_given old new session job rest ends packet seen (Ok None) answered = absurd answered
 next_given old new session job rest ends packet seen (Err e) answered = tt
+
+-- the engine took a job's step
+pub stepped_by : (base : Base) (history : History) (engine : Engine) (job : Job) (ask : Ask) (reply : Reply) → job.ask ≡ ask
+    → EngineStandsFor engine base (step_of (record job { ask = ask }) reply ∷ history) → (reply : Reply) × EngineStandsFor engine base (step_of job reply ∷ history)
+stepped_by base history engine job ask reply asked stands =
+    (reply, subst (λ (a : Ask). EngineStandsFor engine base (step_of (record job { ask = a }) reply ∷ history)) (sym asked) stands)
+
+-- so the session's next job was answered or not, where its packet couldn't be written
+pub next_stopped : {X E : Type 0} (old new : Engine) (session : SessionState) (job : Job) (rest : List ℕ) (ends : Bool) → next_of session ≡ JobSeen job rest ends
+    → (result : Result X E) → OnErr result (StopsJob old new job)
+    → OnErr result (StopsNext (λ base history mine. EngineStandsFor old base history) (λ base history mine. EngineStandsFor new base history)
+    (λ others. others ≡ []) session)
+next_stopped old new session job rest ends seen (Ok x) stops = tt
+next_stopped old new session job rest ends seen (Err e) (inl same) = λ base history mine stands.
+    inl (subst (λ (engine : Engine). EngineStandsFor engine base history) (sym same) stands)
+next_stopped old new session job rest ends seen (Err e) (inr asked) = λ base history mine stands.
+    let (reply, now) = asked base history stands in
+    inr (record {
+      job = job;
+      rest = rest;
+      ends = ends;
+      next = seen;
+      front = suc (length history);
+      packet = packet_told (sync_of job) (told_after base history job reply);
+      given = answer_given base history mine new job (suc (length history)) (packet_told (sync_of job) (told_after base history job reply)) (λ _ _. refl)
+          (record { reply = reply; stands = now; spelled = refl });
+    })

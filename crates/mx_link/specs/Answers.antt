@@ -1,5 +1,5 @@
 -- What who answers a connection's jobs makes of a history.
-use Rattle.std.specs.Prelude.{◌≡◌, ℕ, ◌-◌, List, [], ◌∷◌, ◌++◌, map, Option, Some, None}
+use Rattle.std.specs.Prelude.{◌≡◌, ◌⊎◌, ℕ, Bool, ◌-◌, List, [], ◌∷◌, ◌++◌, map, Option, Some, None}
 use Rattle.mx_session.specs.declared.job.Job.{Job}
 use Rattle.mx_session.specs.Sessions.{JobSeen, SessionState, next_of}
 use Rattle.mx_model.specs.Bases.{Base}
@@ -40,6 +40,21 @@ GivesNext before after between session (Some given) packet =
     × ((base : Base) (history : History) (mine : List ℕ) → before base history mine → GivesAnswer after between base history mine job given.front packet)
 GivesNext before after between session None packet =
     IsNoJob (next_of session) × ((base : Base) (history : History) (mine : List ℕ) → before base history mine → after base history mine)
+
+-- the session's next job was answered, by a packet that isn't kept
+pub record AnsweredNext (after : Place) (between : History → Type 0) (base : Base) (history : History) (mine : List ℕ) (session : SessionState) : Type 0 where
+  pub job : Job
+  pub rest : List ℕ
+  pub ends : Bool
+  pub next : next_of session ≡ JobSeen job rest ends
+  pub front : ℕ
+  pub packet : List ℕ
+  pub given : GivesAnswer after between base history mine job front packet
+
+-- who was to answer the session's next job stopped before its step or after it
+abbrev pub StopsNext : (before after : Place) → (between : History → Type 0) → SessionState → Type 0
+StopsNext before after between session =
+    (base : Base) (history : History) (mine : List ℕ) → before base history mine → after base history mine ⊎ AnsweredNext after between base history mine session
 
 -- Jobs of a connection were answered: the history goes on by the answers' steps, which are its own, and the answers wait.
 pub record AnswersMore (after : Place) (between : History → Type 0) (base : Base) (history : History) (mine : List ℕ) (answers : List Answer) (greeting came gone : List ℕ) (old new : SessionState) : Type 0 where

@@ -1,5 +1,5 @@
 -- Only private functions and proofs need these: what an engine replies to a job.
-use Rattle.std.specs.Prelude.{◌≡◌, ℕ, Bool, List, [], ◌∷◌, Option, Some, None}
+use Rattle.std.specs.Prelude.{◌≡◌, ◌⊎◌, ℕ, Bool, List, [], ◌∷◌, Option, Some, None}
 use Rattle.mx_session.specs.declared.job.Job.{Job}
 use Rattle.mx_model.specs.declared.reply.Reply.{Reply}
 use Rattle.mx_model.specs.Bases.{Base}
@@ -24,3 +24,8 @@ GivesJob old new job ends (Some given) packet =
     (given.ends ≡ ends) × ((base : Base) (history : History) (mine : List ℕ) → EngineStandsFor old base history
     → GivesAnswer (λ base history mine. EngineStandsFor new base history) (λ others. others ≡ []) base history mine job given.front packet)
 GivesJob old new job ends None packet = ⊥
+
+-- the engine took no step, or that of a job
+abbrev pub StopsJob : (old new : Engine) → Job → Type 0
+StopsJob old new job =
+    (new ≡ old) ⊎ ((base : Base) (history : History) → EngineStandsFor old base history → (reply : Reply) × EngineStandsFor new base (step_of job reply ∷ history))

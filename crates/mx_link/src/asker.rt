@@ -1,10 +1,10 @@
 //! Who answers the jobs of connections, and the jobs of one connection in order.
 
-ghost use Rattle.std.specs.Prelude.{ℕ, List, IfOk, OnOk};
-ghost use Rattle.mx_session.specs.Sessions.{next_of};
+ghost use Rattle.std.specs.Prelude.{ℕ, List, IfOk, OnErr, OnOk};
+ghost use Rattle.mx_session.specs.Sessions.{SessionState, next_of};
 ghost use Rattle.mx_model.specs.Bases.{Base};
 ghost use Rattle.mx_model.specs.Histories.{History};
-ghost use Rattle.mx_link.specs.Answers.{AnswersMore, GivesNext};
+ghost use Rattle.mx_link.specs.Answers.{AnswersMore, GivesNext, StopsNext};
 ghost use Rattle.mx_link.specs.Links.{Answer, HasLink, IsNoJob};
 
 use crate::buffers::Buffers;
@@ -34,7 +34,7 @@ pub trait Asker<C> {
     /// place of the one before. The job is still the next one.
     ///
     /// # Errors
-    /// Out of memory. It is of no use any more then.
+    /// Out of memory, before the job's step or after it.
     fn answer_next(
         &mut self,
         with: &C,
@@ -44,13 +44,15 @@ pub trait Asker<C> {
     ) -> Result<Option<Given>, AllocError>
         requires { fits with.now self.old }
         ensures fits { fits with.now self.new }
-        ensures answers { IfOk result (λ given. GivesNext (at with.now self.old) (at with.now self.new) between session.now given buffers.new.packet) };
+        ensures answers { IfOk result (λ given. GivesNext (at with.now self.old) (at with.now self.new) between session.now given buffers.new.packet) }
+        ensures stops { OnErr result (StopsNext (at with.now self.old) (at with.now self.new) between session.now) };
 }
 
 /// Answers all jobs of a session, in order. The replies wait until they are let go.
 ///
 /// # Errors
-/// Out of memory. The asker and the session are of no use any more then.
+/// Out of memory. The session is of no use any more then: what was made is as another session would
+/// have it.
 pub fn answer_all<C, A: Asker<C>>(
     asker: &mut A,
     with: &C,
@@ -63,6 +65,9 @@ pub fn answer_all<C, A: Asker<C>>(
     ensures answers { (base : Base) (history : History) (mine : List ℕ) (answers : List Answer) (greeting came gone : List ℕ)
         → A.at with.now asker.old base history mine → HasLink base history answers greeting came gone session.old
         → OnOk result (AnswersMore (A.at with.now asker.new) A.between base history mine answers greeting came gone session.old session.new) }
+    ensures stops { (base : Base) (history : History) (mine : List ℕ) (answers : List Answer) (greeting came gone : List ℕ)
+        → A.at with.now asker.old base history mine → HasLink base history answers greeting came gone session.old
+        → OnErr result ((other : SessionState) × AnswersMore (A.at with.now asker.new) A.between base history mine answers greeting came gone session.old other) }
     ensures all { OnOk result (IsNoJob (next_of session.new)) }
 {
     'jobs: loop {

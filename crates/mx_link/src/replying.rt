@@ -1,14 +1,16 @@
 //! An engine answers jobs.
 
-ghost use Rattle.std.specs.Prelude.{◌≡◌, ◌<◌, ◌^◌, ◌-◌, ◌++◌, ⊤, [], IfOk, OnOk};
+ghost use Rattle.std.specs.Prelude.{◌≡◌, ◌<◌, ◌^◌, ◌-◌, ◌++◌, ◌∷◌, ⊤, [], IfOk, OnErr, OnOk};
 ghost use Rattle.mx_model.specs.Bases.{Base};
 ghost use Rattle.mx_model.specs.Histories.{History};
+ghost use Rattle.mx_model.specs.declared.reply.Reply.{Reply};
 ghost use Rattle.mx_serial.specs.ReplyStream.{packet_of_reply};
 ghost use Rattle.mx_engine.specs.Standing.{EngineStandsFor};
 ghost use Rattle.mx_engine.specs.Views.{reply_of};
 ghost use Rattle.mx_session.specs.JobViews.{job_view};
 ghost use Rattle.mx_link.specs.Asks.{IsJob};
-ghost use Rattle.mx_link.specs.Replying.{GivesJob, Replied};
+ghost use Rattle.mx_link.specs.Links.{step_of};
+ghost use Rattle.mx_link.specs.Replying.{GivesJob, Replied, StopsJob};
 
 use crate::asker::{Asker, Given};
 use crate::buffers::Buffers;
@@ -52,7 +54,8 @@ fn answer(
     buffers: &mut Buffers,
 ) -> Result<Option<Given>, AllocError>
     requires { IsJob (job_view job.now) }
-    ensures { IfOk result (λ given. GivesJob engine.old engine.new (job_view job.now) job.now.ends given buffers.new.packet) }
+    ensures gives { IfOk result (λ given. GivesJob engine.old engine.new (job_view job.now) job.now.ends given buffers.new.packet) }
+    ensures stops { OnErr result (StopsJob engine.old engine.new (job_view job.now)) }
 {
     if engine.count() >= MAX_STEPS {
         return Err(AllocError);
@@ -75,8 +78,10 @@ fn reply(
 ) -> Result<(), AllocError>
     requires room { engine.old.count < 2 ^ 63 - 1 }
     requires sound { IsJob (job_view job.now) }
-    ensures { (base : Base) (history : History) → EngineStandsFor engine.old base history
+    ensures replied { (base : Base) (history : History) → EngineStandsFor engine.old base history
         → OnOk result (Replied base history engine.new (job_view job.now) buffers.new.packet) }
+    ensures asked { (base : Base) (history : History) → EngineStandsFor engine.old base history
+        → (reply : Reply) × EngineStandsFor engine.new base (step_of (job_view job.now) reply ∷ history) }
 {
     buffers.packet.truncate(0);
     match &job.ask {

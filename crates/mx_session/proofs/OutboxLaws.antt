@@ -1,12 +1,12 @@
 -- What the calls of an outbox make of its buffer and its queue.
 use Rattle.std.proofs.Common.{◌≡◌, ℕ, ◌+◌, ◌-◌, ◌<◌, ◌≤◌, List, [], ◌∷◌, ◌++◌, length, take, drop, get_or, refl, sym, ap, subst, ◌∙◌, arith}
-use Rattle.std.specs.Prelude.{nat_le, true, false}
+use Rattle.std.specs.Prelude.{nat_le, sum_by, true, false}
 use Rattle.std.proofs.lemmas.Bool.{le-leb, lt-leb}
 use Rattle.std.proofs.lemmas.List.{append-nil, append_assoc, length-drop, length-take-le, take_all, take-append-le, drop-append-le, drop-drop, drop-take}
 use Rattle.std.proofs.lemmas.List.Sums.{sum_by-cons}
 use Rattle.std.proofs.Math.Seq.{take-add}
 use Rattle.mx_session.specs.declared.outbox.Held.{Held}
-use Rattle.mx_session.specs.Sessions.{Waiting}
+use Rattle.mx_session.specs.Sessions.{Waiting, unsent_length}
 use Rattle.mx_session.specs.Outboxes.{OutboxState, held_length, held_replies, outbox_of, after_release}
 
 -- ---- a reply more
@@ -94,3 +94,28 @@ module _ (queue others : List Held) (first : Held) (some : 0 < length queue) (is
       let stays : nat_le first.front durable ≡ false = lt-leb _ _ waits in
       let P = λ (q : List Held). after_release durable (outbox_of start end buffer q) ≡ outbox_of start end buffer q in
       subst P (sym front_is) (rw (stays, append-nil (drop start (take end buffer))) refl)
+
+-- ---- how many bytes wait
+
+held_bytes : (queue : List Held) (bytes : List ℕ) → held_length queue ≡ length bytes
+    → sum_by (λ (waiting : Waiting). length waiting.reply) (held_replies queue bytes) ≡ length bytes
+held_bytes [] bytes whole = whole
+held_bytes (first ∷ others) bytes whole =
+    let all = held_length-cons first others in
+    let fits : first.size ≤ length bytes = omega arith in
+    let left : held_length others ≡ length (drop first.size bytes) = omega (arith, length-drop first.size bytes) in
+    let waiting : Waiting = record { front = first.front; reply = take first.size bytes } in
+    omega (
+      arith,
+      sum_by-cons (λ (w : Waiting). length w.reply) waiting (held_replies others (drop first.size bytes)),
+      held_bytes others (drop first.size bytes) left,
+      length-take-le first.size bytes fits,
+      length-drop first.size bytes,
+    )
+
+pub unsent_of : (start end : ℕ) (buffer : List ℕ) (queue : List Held) → start ≤ end → end + held_length queue ≡ length buffer
+    → length buffer - start ≡ unsent_length (outbox_of start end buffer queue).out (outbox_of start end buffer queue).waiting
+unsent_of start end buffer queue order whole =
+    let fits : end ≤ length buffer = omega arith in
+    let left : held_length queue ≡ length (drop end buffer) = omega (arith, length-drop end buffer) in
+    omega (arith, length-drop start (take end buffer), length-take-le end buffer fits, held_bytes queue (drop end buffer) left, length-drop end buffer)

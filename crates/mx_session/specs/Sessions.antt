@@ -1,5 +1,5 @@
 -- A session as its calls see it.
-use Rattle.std.specs.Prelude.{ℕ, Bool, true, List, [], ◌∷◌, ◌++◌, Option, Some, None, nat_le, if◌then◌else◌}
+use Rattle.std.specs.Prelude.{ℕ, ◌+◌, Bool, true, List, [], ◌∷◌, ◌++◌, length, sum_by, Option, Some, None, nat_le, if◌then◌else◌}
 use Rattle.mx_frame.specs.Packets.{First, Packet, NeedMore, Broken, first_frame}
 use Rattle.mx_session.specs.declared.job.Job.{Job}
 use Rattle.mx_session.specs.Jobs.{job_in, broken_job}
@@ -44,3 +44,7 @@ released durable (first ∷ others) =
 abbrev pub first_front : List Waiting → Option ℕ
 first_front [] = None
 first_front (first ∷ others) = Some first.front
+
+-- how many bytes wait to be sent: those that may be, and those of the replies that wait
+abbrev pub unsent_length : (out : List ℕ) → List Waiting → ℕ
+unsent_length out waiting = length out + sum_by (λ held. length held.reply) waiting

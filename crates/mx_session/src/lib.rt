@@ -3,9 +3,11 @@
 
 mod job;
 mod laws;
+mod link_turn;
 mod outbox;
 mod session;
 
 pub use job::{AskRef, Job, JobRef};
 pub use laws::jobs_are_those_of_the_stream;
+pub use link_turn::LinkTurn;
 pub use session::{Next, NextRef, Session};

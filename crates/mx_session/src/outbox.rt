@@ -2,6 +2,7 @@
 
 ghost use Rattle.std.specs.Prelude.{◌≡◌, ◌-◌, ◌*◌, ◌≤◌, ◌++◌, ◌∷◌, [], length, drop, vec_len, IfOk, MatchResult};
 ghost use Rattle.mx_session.specs.Outboxes.{after_release};
+ghost use Rattle.mx_session.specs.Sessions.{unsent_length};
 ghost use Rattle.mx_session.specs.Sessions.{first_front};
 
 use std::alloc::{AllocError, Global};
@@ -90,6 +91,12 @@ impl Outbox {
         ensures { result.now ≡ self.now.out }
     {
         &self.buffer[self.start..self.released]
+    }
+
+    pub(crate) fn unsent(&self) -> usize
+        ensures { result ≡ unsent_length self.now.out self.now.waiting }
+    {
+        self.buffer.len() - self.start
     }
 
     pub(crate) fn sent(&mut self, count: usize)

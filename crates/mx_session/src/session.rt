@@ -4,7 +4,7 @@ ghost use Rattle.std.specs.Prelude.{◌≡◌, ◌≤◌, ◌++◌, ◌∷◌, [
 ghost use Rattle.mx_request.specs.declared.request.Ask.TheVariants as ask;
 ghost use Rattle.mx_session.specs.declared.job.Job.{Job};
 ghost use Rattle.mx_session.specs.JobViews.{IsJobNext, ShowsNext};
-ghost use Rattle.mx_session.specs.Sessions.{JobSeen, first_front, next_of, released};
+ghost use Rattle.mx_session.specs.Sessions.{JobSeen, first_front, next_of, released, unsent_length};
 ghost use Rattle.mx_session.specs.Returns.{ReturnsNext};
 
 use crate::job::{Job, JobRef, broken_job, job_in, owned_job};
@@ -188,6 +188,13 @@ impl Session {
         ensures { result.now ≡ self.now.out }
     {
         self.outbox.out()
+    }
+
+    /// How many bytes wait to be sent: those that may be, and those of the replies that wait.
+    pub fn unsent(&self) -> usize
+        ensures { result ≡ unsent_length self.now.out self.now.waiting }
+    {
+        self.outbox.unsent()
     }
 
     /// Drops the first `count` bytes that may be sent, once they are.
