@@ -1,5 +1,6 @@
 -- What a pass that asks a session's jobs makes of the history.
-use Rattle.std.proofs.Common.{◌≡◌, ◌-◌, ℕ, Bool, List, [], ◌∷◌, ◌++◌, length, refl, sym, ap, ◌∙◌, subst, arith, Option, Some}
+use Rattle.std.proofs.lemmas.List.{append_assoc}
+use Rattle.std.proofs.Common.{◌≡◌, ◌-◌, ℕ, Bool, false, List, [], ◌∷◌, ◌++◌, length, refl, sym, ap, ◌∙◌, subst, arith, Option, Some, inr}
 use Rattle.std.specs.Prelude.{suc, ⊤, Result}
 use Rattle.mx_base.specs.declared.refusal.Refusal.{Refusal}
 use Rattle.mx_request.specs.declared.request.Ask.{Ask}
@@ -9,17 +10,17 @@ use Rattle.mx_session.specs.Sessions.{JobSeen, NextSeen, SessionState, next_of}
 use Rattle.mx_model.specs.declared.reply.Reply.{Reply}
 use Rattle.mx_model.specs.declared.reply.Reply.TheVariants.{Refused}
 use Rattle.mx_model.specs.Bases.{Base}
-use Rattle.mx_model.specs.Histories.{History, journal_of}
+use Rattle.mx_model.specs.Histories.{History, IsLegal, journal_of}
 use Rattle.mx_model.specs.Transactions.{schema_version}
 use Rattle.mx_serial.specs.Replies.{Told}
 use Rattle.mx_engine.specs.declared.answer.Answered.{Answered}
 use Rattle.mx_engine.specs.Views.{reply_of}
-use Rattle.mx_link.specs.Answers.{GivesAnswer, GivesNext}
+use Rattle.mx_link.specs.Answers.{GivesAnswer, GivesNext, StopsNext}
 use Rattle.mx_link.specs.Links.{step_of}
 use Rattle.mx_instance.specs.declared.recorded.Recorded.{Recorded}
-use Rattle.mx_instance.specs.Asking.{Asks, IsAt}
+use Rattle.mx_instance.specs.Asking.{Asks, IsSince}
 use Rattle.mx_instance.specs.Entries.{next_answered, next_refused, told_refusal}
-use Rattle.mx_instance.specs.Passes.{Seen}
+use Rattle.mx_instance.specs.Passes.{Seen, after_entry}
 use Rattle.mx_instance.specs.Standing.{BeganOver}
 
 -- the version as the history tells it
@@ -27,20 +28,22 @@ told_so : (job : Job) (reply : Reply) (one other : ℕ) → one ≡ other → �
     (record { name = job.name; version = other; reply = reply })
 told_so job reply one other same = λ i. record { name = job.name; version = same i; reply = reply }
 
-module _ (job : Job) (old new : Seen) (front : ℕ) (packet : List ℕ) (asks : Asks job old new front packet) where
+module _ (earlier : Seen) (job : Job) (old new : Seen) (front : ℕ) (packet : List ℕ) (asks : Asks job old new front packet) where
   -- a job that was asked is the next answer of its connection, perhaps after steps of others
-  pub answer_asked : (base : Base) (history : History) (mine : List ℕ) → IsAt base history mine old
-      → GivesAnswer (λ base history mine. IsAt base history mine new) (λ _. ⊤) base history mine job front packet
-  answer_asked base history mine (begins, seen, places) =
+  pub answer_asked : (base : Base) (history : History) (since : List ℕ) → IsSince earlier base history since old
+      → GivesAnswer (λ base history since. IsSince earlier base history since new) (λ _. ⊤) base history since job front packet
+  answer_asked base history since come =
       let made = asks.made in
       let others = made.adds.others in
       let step = step_of job asks.reply in
-      let view = made.adds.view in
-      let now : new.seen ≡ step ∷ (others ++ history) =
-      ap (λ (s : Seen). s.seen) view ∙ ap (λ (h : History). step ∷ (others ++ h)) seen in
+      let begins = subst (λ (b : Option Recorded). BeganOver b base) (sym (ap (λ (s : Seen). s.base) come.view)) come.began in
+      let view : new ≡ after_entry step others (record earlier { seen = history; mine = earlier.mine ++ since; own = earlier.own ++ since; holds = false }) =
+      made.adds.view ∙ ap (after_entry step others) come.view in
+      let now : new.seen ≡ step ∷ (others ++ history) = ap (λ (s : Seen). s.seen) view in
       let count : front ≡ suc (length (others ++ history)) = made.counts ∙ ap length now in
-      let place : length (others ++ old.seen) ≡ front - 1 = omega (arith, count, ap (λ (h : History). length (others ++ h)) seen) in
+      let place : length (others ++ history) ≡ front - 1 = omega (arith, count) in
       let version = made.version base begins ∙ ap (λ (h : History). schema_version (journal_of base h)) now in
+      let after : List ℕ → List ℕ → Seen = λ mine own. record earlier { seen = step ∷ (others ++ history); mine = mine; own = own; holds = false } in
       record {
         answer = record { job = job; told = record { name = job.name; version = asks.schema; reply = asks.reply }; front = front };
         others = others;
@@ -49,20 +52,37 @@ module _ (job : Job) (old new : Seen) (front : ℕ) (packet : List ℕ) (asks : 
         made = record { told = told_so job asks.reply asks.schema (schema_version (journal_of base (step ∷ (others ++ history)))) version; front = count };
         counted = refl;
         spelled = asks.spelled;
-        at = (
-          subst (λ (b : Option Recorded). BeganOver b base) (sym (ap (λ (s : Seen). s.base) view)) begins,
-          now,
-          ap (λ (s : Seen). s.mine) view ∙ ap (λ (l : List ℕ). l ++ length (others ++ old.seen) ∷ []) places
-              ∙ ap (λ (n : ℕ). mine ++ n ∷ []) place,
-        );
+        at = record {
+          began = come.began;
+          view = view
+              ∙ ap (λ (l : List ℕ). after l ((earlier.own ++ since) ++ length (others ++ history) ∷ [])) (append_assoc earlier.mine since (length (others ++ history) ∷ []))
+              ∙ ap (λ (l : List ℕ). after (earlier.mine ++ (since ++ length (others ++ history) ∷ [])) l) (append_assoc earlier.own since (length (others ++ history) ∷ []))
+              ∙ ap (λ (n : ℕ). after (earlier.mine ++ (since ++ n ∷ [])) (earlier.own ++ (since ++ n ∷ []))) place;
+          legal = λ _. subst (IsLegal base) now (made.adds.legal base begins);
+        };
       }
 
 -- so the session's next job was answered
-pub next_asked : (old new : Seen) (session : SessionState) (job : Job) (rest : List ℕ) (ends : Bool) (front : ℕ) (packet : List ℕ)
+pub next_asked : (earlier old new : Seen) (session : SessionState) (job : Job) (rest : List ℕ) (ends : Bool) (front : ℕ) (packet : List ℕ)
     → next_of session ≡ JobSeen job rest ends → Asks job old new front packet
-    → GivesNext (λ base history mine. IsAt base history mine old) (λ base history mine. IsAt base history mine new) (λ _. ⊤) session
+    → GivesNext (λ base history since. IsSince earlier base history since old) (λ base history since. IsSince earlier base history since new) (λ _. ⊤) session
     (Some (record { front = front; ends = ends })) packet
-next_asked old new session job rest ends front packet seen asks = (job, rest, seen, answer_asked job old new front packet asks)
+next_asked earlier old new session job rest ends front packet seen asks = (job, rest, seen, answer_asked earlier job old new front packet asks)
+
+-- also where its packet couldn't be written
+pub stopped_asked : (earlier old new : Seen) (session : SessionState) (job : Job) (rest : List ℕ) (ends : Bool) (front : ℕ)
+    → next_of session ≡ JobSeen job rest ends → ((packet : List ℕ) × Asks job old new front packet)
+    → StopsNext (λ base history since. IsSince earlier base history since old) (λ base history since. IsSince earlier base history since new) (λ _. ⊤) session
+stopped_asked earlier old new session job rest ends front seen (packet, asks) = λ base history since come.
+    inr (record {
+      job = job;
+      rest = rest;
+      ends = ends;
+      next = seen;
+      front = front;
+      packet = packet;
+      given = answer_asked earlier job old new front packet asks base history since come;
+    })
 
 -- ---- what the notes of a session's next job tell
 

@@ -1,11 +1,11 @@
 -- What a pass that asks a session's jobs makes of the history.
-use Rattle.std.specs.Prelude.{◌≡◌, ℕ, Bool, List, length}
+use Rattle.std.specs.Prelude.{◌≡◌, ℕ, Bool, false, List, ◌++◌, length}
 use Rattle.mx_base.specs.declared.ids.TxnName.{TxnName}
 use Rattle.mx_request.specs.declared.request.Ask.{Ask}
 use Rattle.mx_session.specs.declared.job.Job.{Job}
 use Rattle.mx_session.specs.Sessions.{JobSeen, SessionState, next_of}
 use Rattle.mx_model.specs.Bases.{Base}
-use Rattle.mx_model.specs.Histories.{Entry, History, journal_of}
+use Rattle.mx_model.specs.Histories.{Entry, History, IsLegal, journal_of}
 use Rattle.mx_model.specs.Transactions.{schema_version}
 use Rattle.mx_model.specs.declared.reply.Reply.{Reply}
 use Rattle.mx_serial.specs.ReplyStream.{packet_of_reply}
@@ -14,9 +14,12 @@ use Rattle.mx_link.specs.Links.{step_of}
 use Rattle.mx_instance.specs.Passes.{AddsStep, Seen}
 use Rattle.mx_instance.specs.Standing.{BeganOver}
 
--- the pass has seen this history over the base, in which the requests at these places are its own
-abbrev pub IsAt : Base → History → List ℕ → Seen → Type 0
-IsAt base history mine seen = BeganOver seen.base base × (seen.seen ≡ history) × (seen.mine ≡ mine)
+-- Since what it knew then, the pass has come to this history over the base, in which the entries at these places are its own, each a
+-- request. The history is as legal as it was.
+pub record IsSince (earlier : Seen) (base : Base) (history : History) (since : List ℕ) (now : Seen) : Type 0 where
+  pub began : BeganOver earlier.base base
+  pub view : now ≡ record earlier { seen = history; mine = earlier.mine ++ since; own = earlier.own ++ since; holds = false }
+  pub legal : IsLegal base earlier.seen → IsLegal base history
 
 -- the session's next job, with which the connection ends or not
 abbrev pub IsNextJob : SessionState → Job → (ends : Bool) → Type 0

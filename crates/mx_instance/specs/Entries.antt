@@ -35,6 +35,7 @@ entry_of (note.Asked job reply) = step_of job.value reply.value
 entry_of (note.Left conn) = Left conn.0
 entry_of (note.Took txs upto) = Took txs.value upto
 entry_of (note.Confirmed upto) = Confirmed upto
+entry_of note.Looked = Looked
 
 -- an entry that the journal's pass alone adds
 abbrev pub is_journal_step : Entry → Bool

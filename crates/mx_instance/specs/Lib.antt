@@ -3,3 +3,5 @@ pub mod Standing
 pub mod Passes
 pub mod JournalTurns
 pub mod Asking
+pub mod Rounds
+pub mod Reading

@@ -1,6 +1,6 @@
 //! Jobs that stand in their packets, asked in turns.
 
-ghost use Rattle.std.specs.Prelude.{◌≡◌, ⊤, ℕ, Bool, List, IfOk, OnOk};
+ghost use Rattle.std.specs.Prelude.{◌≡◌, ⊤, ℕ, Bool, List, IfOk, OnErr, OnOk};
 ghost use Rattle.mx_base.specs.declared.refusal.Refusal.{Refusal};
 ghost use Rattle.mx_base.specs.declared.ids.TxnName.{TxnName};
 ghost use Rattle.mx_request.specs.InPlace.{request_view};
@@ -12,8 +12,8 @@ ghost use Rattle.mx_session.specs.declared.job.Job.{Job};
 ghost use Rattle.mx_model.specs.declared.reply.Reply.TheVariants.{Refused};
 ghost use Rattle.mx_engine.specs.Views.{reply_of};
 ghost use Rattle.mx_link.specs.Asks.{IsJob};
-ghost use Rattle.mx_link.specs.Answers.{GivesNext};
-ghost use Rattle.mx_instance.specs.Asking.{Asks, AsksNext, IsAt, IsNextJob, MakesStep};
+ghost use Rattle.mx_link.specs.Answers.{GivesNext, StopsNext};
+ghost use Rattle.mx_instance.specs.Asking.{Asks, AsksNext, IsNextJob, IsSince, MakesStep};
 ghost use Rattle.mx_link.specs.Links.{step_of};
 ghost use Rattle.mx_instance.specs.Passes.{CanCall, seen_by};
 
@@ -30,10 +30,13 @@ use std::alloc::{AllocError, Global};
 use std::snapshot::Snapshot;
 use std::sync::Wait;
 
-/// The turns of an instance, which a thread may wait for.
+/// The turns of an instance, which a thread may wait for, and what its pass knew before the first of
+/// them.
+#[derive(Drop)]
 pub struct Turns<'a, R> {
     pub rt: &'a R,
     pub instance: &'a Instance,
+    pub since: Snapshot<Pass>,
 }
 
 /// Where a step stands, and the schema's version after it.
@@ -47,7 +50,7 @@ struct Stepped {
 impl<'a, R: Wait> Asker<Turns<'a, R>> for Pass {
     ghost fits = { λ turns pass. CanCall turns.instance.now pass };
 
-    ghost at = { λ turns pass base history mine. IsAt base history mine (seen_by pass) };
+    ghost at = { λ turns pass base history mine. IsSince (seen_by turns.since.value) base history mine (seen_by pass) };
 
     ghost between = { λ _. ⊤ };
 
@@ -78,7 +81,10 @@ fn answer<R: Wait>(
     requires next { IsNextJob session.now (job_view job.now) job.now.ends }
     requires job { IsJob (job_view job.now) }
     ensures can_call { CanCall turns.now.instance.now pass.new }
-    ensures gives { IfOk result (λ given. GivesNext (λ base history mine. IsAt base history mine (seen_by pass.old)) (λ base history mine. IsAt base history mine (seen_by pass.new)) (λ _. ⊤) session.now given buffers.new.packet) }
+    ensures gives { IfOk result (λ given. GivesNext (λ base history mine. IsSince (seen_by turns.now.since.value) base history mine (seen_by pass.old))
+        (λ base history mine. IsSince (seen_by turns.now.since.value) base history mine (seen_by pass.new)) (λ _. ⊤) session.now given buffers.new.packet) }
+    ensures stops { OnErr result (StopsNext (λ base history mine. IsSince (seen_by turns.now.since.value) base history mine (seen_by pass.old))
+        (λ base history mine. IsSince (seen_by turns.now.since.value) base history mine (seen_by pass.new)) (λ _. ⊤) session.now) }
 {
     let mut front = 0;
     reply(turns, pass, alloc, session, job, buffers, &mut front)?;
@@ -104,6 +110,7 @@ fn reply<R: Wait>(
     requires job { IsJob (job_view job.now) }
     ensures can_call { CanCall turns.now.instance.now pass.new }
     ensures asks { OnOk result (Asks (job_view job.now) (seen_by pass.old) (seen_by pass.new) front.new buffers.new.packet) }
+    ensures stops { OnErr result ((packet : List ℕ) × Asks (job_view job.now) (seen_by pass.old) (seen_by pass.new) front.new packet) }
 {
     buffers.packet.truncate(0);
     match &job.ask {

@@ -54,6 +54,8 @@ pub enum Note {
     },
     /// All commits among so many steps are durable.
     Confirmed(u64),
+    /// It was asked what is durable.
+    Looked,
 }
 
 impl Logged for Recorded {

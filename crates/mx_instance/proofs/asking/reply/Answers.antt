@@ -4,7 +4,7 @@ use Rattle.mx_session.specs.JobViews.{ask_view, job_view}
 use Rattle.mx_model.specs.declared.reply.Reply.TheVariants.{Refused}
 use Rattle.mx_serial.specs.ReplyStream.{packet_of_reply}
 use Rattle.mx_engine.specs.Views.{reply_of}
-use Rattle.mx_link.proofs.ReplyLaws.{on_written}
+use Rattle.mx_link.proofs.ReplyLaws.{on_err, on_written}
 use Rattle.mx_instance.specs.Asking.{Asks}
 use Rattle.mx_instance.specs.Passes.{seen_by}
 use Rattle.mx_instance.proofs.asking.reply.Goals as goal
@@ -48,3 +48,28 @@ returns-in-Refused-clause-asks g c =
       spelled = written ∙ ap (λ (l : List ℕ). l ++ spelled) c.truncate.ensures;
     })
     c.write_error.ensures.written
+
+pub returns-in-Request-clause-stops : goal.returns-in-Request-clause-stops
+returns-in-Request-clause-stops g c =
+    let (rest, seen) = c.requires.next in
+    let job = job_view c.args.job.now in
+    let stepped = c.request_in_turn-answered.result.1 in
+    let reply = reply_of c.request_in_turn-answered.result.0 c.request_in_turn-answered.new.found in
+    on_err c.write_answer.result (packet_of_reply stepped.schema job.sync.0 reply, record {
+      reply = reply;
+      schema = stepped.schema;
+      made = c.request_in_turn-answered.ensures.made job rest c.args.job.now.ends seen;
+      spelled = refl;
+    })
+
+pub returns-in-Refused-clause-stops : goal.returns-in-Refused-clause-stops
+returns-in-Refused-clause-stops g c =
+    let (rest, seen) = c.requires.next in
+    let job = job_view c.args.job.now in
+    let stepped = c.refuse_in_turn-stepped.result in
+    on_err c.write_error.result (packet_of_reply stepped.schema job.sync.0 (Refused c.in-Refused.refusal), record {
+      reply = Refused c.in-Refused.refusal;
+      schema = stepped.schema;
+      made = c.refuse_in_turn-stepped.ensures.made job rest c.args.job.now.ends c.in-Refused.refusal seen (ap ask_view c.in-Refused.is);
+      spelled = refl;
+    })
