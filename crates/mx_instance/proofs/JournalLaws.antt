@@ -90,6 +90,12 @@ module _ (base : Base) (old middle : Seen) (first : old.first ≡ true) (begins 
       txs = txs;
       none = none_before;
       none_later = none_after;
+      same = (
+        ap (λ (s : Seen). s.base) confirmed.view ∙ ap (λ (s : Seen). s.base) took.view,
+        ap (λ (s : Seen). s.first) confirmed.view ∙ ap (λ (s : Seen). s.first) took.view,
+        ap (λ (s : Seen). s.parts) confirmed.view ∙ ap (λ (s : Seen). s.parts) took.view,
+        ap (λ (s : Seen). s.seats) confirmed.view ∙ ap (λ (s : Seen). s.seats) took.view,
+      );
       seen = seen_now;
       mine = ap (λ (s : Seen). s.mine) confirmed.view ∙ append-nil middle.mine ∙ ap (λ (s : Seen). s.mine) took.view ∙ append-nil old.mine;
       own = ap (λ (s : Seen). s.own) confirmed.view

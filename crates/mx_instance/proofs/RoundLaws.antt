@@ -80,17 +80,23 @@ module _ (base : Base) (made more : List Answer) (old now new : Seen) (one : Add
   all_seen = ap (λ (h : History). other.since ++ h) earlier_seen ∙ sym (append_assoc other.since one.since old.seen)
 
   first_own : (place : ℕ) → IsOwn made old.seen (one.since ++ old.seen) place → IsOwn (made ++ more) old.seen ((other.since ++ one.since) ++ old.seen) place
-  first_own place (late, inl asked) =
-      (late, inl (subst (λ (l : List ℕ). Contains l place) (sym (map-append step_place made more))
-      (Contains-append_left (map step_place made) (map step_place more) place asked)))
-  first_own place (late, inr look) =
-      (late, inr (subst (λ (h : History). IsLookAt h place) (sym (append_assoc other.since one.since old.seen))
-      (look_grows other.since (one.since ++ old.seen) place look)))
+  first_own place (late, inl asked) = (
+    late,
+    inl (subst (λ (l : List ℕ). Contains l place) (sym (map-append step_place made more))
+        (Contains-append_left (map step_place made) (map step_place more) place asked)),
+  )
+  first_own place (late, inr look) = (
+    late,
+    inr (subst (λ (h : History). IsLookAt h place) (sym (append_assoc other.since one.since old.seen))
+        (look_grows other.since (one.since ++ old.seen) place look)),
+  )
 
   later_own : (place : ℕ) → IsOwn more now.seen (other.since ++ now.seen) place → IsOwn (made ++ more) old.seen ((other.since ++ one.since) ++ old.seen) place
-  later_own place (late, inl asked) =
-      (omega (arith, late, ap length earlier_seen, length-append one.since old.seen), inl (subst (λ (l : List ℕ). Contains l place) (sym (map-append step_place made more))
-      (Contains-append_right (map step_place made) (map step_place more) place asked)))
+  later_own place (late, inl asked) = (
+    omega (arith, late, ap length earlier_seen, length-append one.since old.seen),
+    inl (subst (λ (l : List ℕ). Contains l place) (sym (map-append step_place made more))
+        (Contains-append_right (map step_place made) (map step_place more) place asked)),
+  )
   later_own place (late, inr look) =
       (omega (arith, late, ap length earlier_seen, length-append one.since old.seen), inr (subst (λ (h : History). IsLookAt h place) all_seen look))
 
@@ -182,8 +188,14 @@ within_grows connection answers made greeting came more gone sent (inl none) = i
 within_grows connection answers made greeting came more gone sent (inr (before, piece, parts, fits, answered, due)) =
     let count = length (jobs_of connection (came ++ before)) in
     let same : take count (answers ++ made) ≡ take count answers = take-append-le count answers made answered in
-    inr (before, piece, parts, fits, omega (arith, answered, length-append answers made),
-    omega (arith, due, length-append gone sent, ap (λ (l : List Answer). length (greeting ++ answer_packets l)) same))
+    inr (
+      before,
+      piece,
+      parts,
+      fits,
+      omega (arith, answered, length-append answers made),
+      omega (arith, due, length-append gone sent, ap (λ (l : List Answer). length (greeting ++ answer_packets l)) same),
+    )
 
 -- ---- the connection goes on
 
@@ -260,9 +272,19 @@ module _ (outset : Outset) where
               sym (length-map all (λ (a : Answer). a.job)) ∙ ap length done.jobs ∙ ap (λ (c : ℕ). length (jobs_of c came)) goes.whose in
               let count = length (jobs_of outset.session.connection came) in
               let whole : take count all ≡ all = take_all count all (omega (arith, jobs)) in
-              inr (goes.more, piece, refl, fits, omega (arith, jobs),
-              omega (arith, room, due_length outset.base now.seen all outset.greeting came gone session goes.link,
-              ap (λ (l : List Answer). length (outset.greeting ++ answer_packets l)) whole));
+              inr (
+                goes.more,
+                piece,
+                refl,
+                fits,
+                omega (arith, jobs),
+                omega (
+                  arith,
+                  room,
+                  due_length outset.base now.seen all outset.greeting came gone session goes.link,
+                  ap (λ (l : List Answer). length (outset.greeting ++ answer_packets l)) whole,
+                ),
+              );
         }
 
     -- jobs were answered

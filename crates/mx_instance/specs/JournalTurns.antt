@@ -16,6 +16,7 @@ pub record TakesTurn (base : Base) (old new : Seen) (journal : Journal) (states 
   pub txs : List Tx
   pub none : TakesNone others
   pub none_later : TakesNone later
+  pub same : (new.base ≡ old.base) × (new.first ≡ old.first) × (new.parts ≡ old.parts) × (new.seats ≡ old.seats)
   pub seen : new.seen ≡ Confirmed upto ∷ (later ++ Took txs upto ∷ (others ++ old.seen))
   pub mine : new.mine ≡ old.mine
   pub own : new.own ≡ (old.own ++ upto ∷ []) ++ length (later ++ Took txs upto ∷ (others ++ old.seen)) ∷ []

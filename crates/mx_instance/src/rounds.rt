@@ -96,7 +96,7 @@ impl Instance {
         ensures serves { (outset : Outset) → LinkGoesOn outset (seen_by pass.old) session.old (L.came link.old) (L.gone link.old)
             → (IsNoJob (next_of outset.session) → IsNoJob (next_of session.old))
             → MatchResult result (λ _. LinkGoesOn outset (seen_by pass.new) session.new (L.came link.new) (L.gone link.new))
-                (ServesLink outset (seen_by pass.new) session.new (L.came link.new) (L.gone link.new)) }
+            (ServesLink outset (seen_by pass.new) session.new (L.came link.new) (L.gone link.new)) }
         ensures all { OnOk result (IsNoJob (next_of session.new)) }
         ensures waits { OnOk result ((L.read_waits link.new ≡ L.read_waits link.old) × (L.write_waits link.new ≡ L.write_waits link.old) × (L.faults link.new ≡ L.faults link.old)) }
         ensures cause { MatchResult result (λ _. ⊤) (IsTurnBy (L.read_waits link.old) (L.read_waits link.new) (L.write_waits link.old) (L.write_waits link.new) (L.left link.new) session.new) }
@@ -137,7 +137,7 @@ impl Instance {
         ensures can_call { CanCall self.now pass.new }
         ensures answers { (outset : Outset) (link_came link_gone : Option (List ℕ)) → LinkGoesOn outset (seen_by pass.old) session.old link_came link_gone
             → MatchResult result (λ _. LinkGoesOn outset (seen_by pass.new) session.new link_came link_gone)
-                (λ _. (other : SessionState) × LinkGoesOn outset (seen_by pass.new) other link_came link_gone) }
+            (λ _. (other : SessionState) × LinkGoesOn outset (seen_by pass.new) other link_came link_gone) }
         ensures all { OnOk result (IsNoJob (next_of session.new)) }
     {
         let turns = Turns {
@@ -187,7 +187,7 @@ fn read_piece<L: Link>(
     ensures reads { (outset : Outset) (seen : Seen) → LinkGoesOn outset seen session.old (L.came link.old) (L.gone link.old)
         → (IsNoJob (next_of outset.session) → IsNoJob (next_of session.old))
         → MatchResult result (λ _. LinkGoesOn outset seen session.new (L.came link.new) (L.gone link.new))
-            (Stops outset seen session.new (L.came link.new) (L.gone link.new)) }
+        (Stops outset seen session.new (L.came link.new) (L.gone link.new)) }
     ensures reading { MatchResult result (IsReading (L.read_waits link.old) (L.read_waits link.new) (L.left link.new)) IsPieceStop }
     ensures writes { L.write_waits link.new ≡ L.write_waits link.old }
     ensures fault { MatchResult result (λ _. L.faults link.new ≡ L.faults link.old) (IsFaultBy (L.faults link.old) (L.faults link.new)) }

@@ -55,21 +55,27 @@ returns-in-Request-clause-stops g c =
     let job = job_view c.args.job.now in
     let stepped = c.request_in_turn-answered.result.1 in
     let reply = reply_of c.request_in_turn-answered.result.0 c.request_in_turn-answered.new.found in
-    on_err c.write_answer.result (packet_of_reply stepped.schema job.sync.0 reply, record {
-      reply = reply;
-      schema = stepped.schema;
-      made = c.request_in_turn-answered.ensures.made job rest c.args.job.now.ends seen;
-      spelled = refl;
-    })
+    on_err c.write_answer.result (
+      packet_of_reply stepped.schema job.sync.0 reply,
+      record {
+        reply = reply;
+        schema = stepped.schema;
+        made = c.request_in_turn-answered.ensures.made job rest c.args.job.now.ends seen;
+        spelled = refl;
+      },
+    )
 
 pub returns-in-Refused-clause-stops : goal.returns-in-Refused-clause-stops
 returns-in-Refused-clause-stops g c =
     let (rest, seen) = c.requires.next in
     let job = job_view c.args.job.now in
     let stepped = c.refuse_in_turn-stepped.result in
-    on_err c.write_error.result (packet_of_reply stepped.schema job.sync.0 (Refused c.in-Refused.refusal), record {
-      reply = Refused c.in-Refused.refusal;
-      schema = stepped.schema;
-      made = c.refuse_in_turn-stepped.ensures.made job rest c.args.job.now.ends c.in-Refused.refusal seen (ap ask_view c.in-Refused.is);
-      spelled = refl;
-    })
+    on_err c.write_error.result (
+      packet_of_reply stepped.schema job.sync.0 (Refused c.in-Refused.refusal),
+      record {
+        reply = Refused c.in-Refused.refusal;
+        schema = stepped.schema;
+        made = c.refuse_in_turn-stepped.ensures.made job rest c.args.job.now.ends c.in-Refused.refusal seen (ap ask_view c.in-Refused.is);
+        spelled = refl;
+      },
+    )
